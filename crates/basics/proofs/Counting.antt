@@ -1,0 +1,133 @@
+-- Laws of lists of node numbers: the test says membership, and how many different numbers below n there can be.
+-- Assumes nothing.
+use mathlib.Core.Path.{_≡_, refl, sym, ap, _∙_, subst}
+use mathlib.Core.Logic.{_≢_, _⊎_, inl, inr}
+use mathlib.Core.Bool.{Bool, true, false, not, _||_}
+use mathlib.Core.List.{List, [], _∷_, _++_}
+use mathlib.Core.List.{List·Memᴰ as In, List·Memᴰ·head as here, List·Memᴰ·tail as there, List·Memᴰ·not-nil as in-nil, List·Memᴰ·cases-cons as in-cons, Memᴰ·cast as in-cast, Memᴰ·append-left as in-left, Memᴰ·append-right as in-right, List·Memᴰ·append-cases as in-cases}
+use Prim.Native.Nat.{ℕ, zero, suc, _+_, _≤_, _<_}
+use native.Mathlib.Omega.{arith}
+use native.Mathlib.Decide.{decLt}
+use lib.ListN.{length, length-append}
+use lib.Dec.{T, eqb, eqb→eq, eqb-refl}
+use mir.Facts.{eqb-no, yes-eqb}
+use Rattle.basics.specs.Choice.{pick, pick-ind, pick-yes, pick-no}
+use Rattle.basics.specs.Nodes.{has, NoDup, Below}
+
+-- ---- membership, as a test
+
+or-cases : (a b : Bool) → T (a || b) → T a ⊎ T b
+or-cases true b t = inl tt
+or-cases false b t = inr t
+
+or-left : (a b : Bool) → T a → T (a || b)
+or-left true b t = tt
+or-left false b t = absurd t
+
+or-right : (a b : Bool) → T b → T (a || b)
+or-right true b t = tt
+or-right false b t = t
+
+pub has-in : (x : ℕ) (l : List ℕ) → T (has x l) → In x l
+unfolding has
+has-in x [] t = absurd t
+has-in x (y ∷ l) t = go (has-in x l) (or-cases (eqb x y) (has x l) t)
+  where
+    go : (T (has x l) → In x l) → T (eqb x y) ⊎ T (has x l) → In x (y ∷ l)
+    go rec (inl e) = here (eqb→eq x y e)
+    go rec (inr m) = there (rec m)
+
+pub in-has : {x : ℕ} {l : List ℕ} → In x l → T (has x l)
+unfolding has
+in-has {x} (here {x = y} {xs = l} e) = or-left (eqb x y) (has x l) (yes-eqb e)
+in-has {x} (there {x = y} {xs = l} m) = or-right (eqb x y) (has x l) (in-has m)
+
+pub hasn't : (x : ℕ) (l : List ℕ) → T (not (has x l)) → In x l → ⊥
+hasn't x l t m = lib.Dec.T-not (has x l) t (in-has m)
+
+pub in-or-not : (x : ℕ) (l : List ℕ) → In x l ⊎ (In x l → ⊥)
+in-or-not x l = go (has x l) refl
+  where
+    go : (b : Bool) → has x l ≡ b → In x l ⊎ (In x l → ⊥)
+    go true e = inl (has-in x l (subst T (sym e) tt))
+    go false e = inr (λ m. subst T e (in-has m))
+
+-- ---- no repeats
+
+-- a list without one occurrence of x
+unfoldable pub without : ℕ → List ℕ → List ℕ
+without x [] = []
+without x (y ∷ l) = pick (eqb x y) l (y ∷ without x l)
+
+pub length-without : {x : ℕ} {l : List ℕ} → In x l → suc (length (without x l)) ≡ length l
+unfolding without
+length-without {x} (here {x = y} {xs = l} e) = ap (λ (r : List ℕ). suc (length r)) (pick-yes (eqb x y) _ _ (yes-eqb e))
+length-without {x} (there {x = y} {xs = l} m) =
+    pick-ind (λ (r : List ℕ). suc (length r) ≡ suc (length l)) (eqb x y) (λ _. refl) (λ _. ap suc (length-without m))
+
+pub in-without : {z : ℕ} {l : List ℕ} (x : ℕ) → z ≢ x → In z l → In z (without x l)
+unfolding without
+in-without {z} x ne (here {x = y} {xs = l} e) =
+    pick-ind (In z) (eqb x y) (λ t. absurd (ne (e ∙ sym (eqb→eq x y t)))) (λ _. here e)
+in-without {z} x ne (there {x = y} {xs = l} m) =
+    pick-ind (In z) (eqb x y) (λ _. m) (λ _. there (in-without x ne m))
+
+-- a list with no repeats is no longer than one that holds all its elements
+pub shorter : (l m : List ℕ) → NoDup l → ((x : ℕ) → In x l → In x m) → length l ≤ length m
+shorter [] m d s = omega arith
+shorter (x ∷ l) m d s =
+    let q = length-without (s x (here refl)) in
+    let r = shorter l (without x m) (d .1) (λ z i. in-without x (λ e. d .0 (in-cast (sym e) i)) (s z (there i))) in
+    omega arith
+
+unfoldable pub upTo : ℕ → List ℕ
+upTo zero = []
+upTo (suc n) = n ∷ upTo n
+
+length-upTo : (n : ℕ) → length (upTo n) ≡ n
+unfolding upTo
+length-upTo zero = refl
+length-upTo (suc n) = ap suc (length-upTo n)
+
+in-upTo : (n x : ℕ) → x < n → In x (upTo n)
+unfolding upTo
+in-upTo zero x h = absurd (omega arith)
+in-upTo (suc n) x h = elim (decLt x n) [ yes k ↦ there (in-upTo n x k) | no k ↦ here {x = n} (omega arith) ]
+
+upTo-below : (n x : ℕ) → In x (upTo n) → x < n
+unfolding upTo
+upTo-below zero x m = absurd (in-nil m)
+upTo-below (suc n) x m = go (upTo-below n x) (in-cons m)
+  where
+    go : (In x (upTo n) → x < n) → (x ≡ n) ⊎ In x (upTo n) → x < suc n
+    go rec (inl q) = omega arith
+    go rec (inr k) = let r = rec k in omega arith
+
+-- at most n nodes below n, without repeats
+pub at-most : (n : ℕ) (l : List ℕ) → NoDup l → Below n l → length l ≤ n
+at-most n l d b =
+    let r = shorter l (upTo n) d (λ x i. in-upTo n x (b x i)) in
+    omega (arith, length-upTo n)
+
+-- n of them are all
+pub all-of : (n : ℕ) (l : List ℕ) → NoDup l → Below n l → n ≤ length l → (x : ℕ) → x < n → In x l
+all-of n l d b h x k = go (in-or-not x l)
+  where
+    below : Below n (x ∷ l)
+    below y (here e) = omega arith
+    below y (there m) = b y m
+
+    go : In x l ⊎ (In x l → ⊥) → In x l
+    go (inl m) = m
+    go (inr f) = absurd (let r = at-most n (x ∷ l) (f, d) below in omega arith)
+
+-- a list that holds every node below n has n elements at least
+nodup-upTo : (n : ℕ) → NoDup (upTo n)
+unfolding upTo
+nodup-upTo zero = tt
+nodup-upTo (suc n) = ((λ m. let h = upTo-below n n m in omega arith), nodup-upTo n)
+
+pub holds-all : (n : ℕ) (l : List ℕ) → ((x : ℕ) → x < n → In x l) → n ≤ length l
+holds-all n l f =
+    let r = shorter (upTo n) l (nodup-upTo n) (λ x m. f x (upTo-below n x m)) in
+    omega (arith, length-upTo n)

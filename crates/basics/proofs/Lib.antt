@@ -1,0 +1,3 @@
+pub mod Counting
+pub mod Loops
+pub mod Sums

@@ -1,0 +1,4 @@
+pub mod Choice
+pub mod Refusals
+pub mod Sum
+pub mod Nodes

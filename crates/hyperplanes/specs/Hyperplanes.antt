@@ -1,0 +1,23 @@
+-- Hyperplanes (01, part 3): the numbers of one stream, over any format.
+use Prim.Native.Nat.{ℕ, zero, suc, _-_, _^_}
+use mathlib.Core.Bool.{true, false}
+use lib.Dec.{ltb}
+use lib.Ieee.{Float, Format, round}
+use Rattle.basics.specs.Choice.{pick}
+use Rattle.lcg.specs.Lcg.{next, high, planeAddend}
+
+-- r after k steps; r starts at 42
+unfoldable pub stream : ℕ → ℕ
+unfolding next
+stream zero = 42
+stream (suc k) = next planeAddend (stream k)
+
+-- (h − 2^30)/2^30, rounded once, ties to even
+unfoldable pub planeValue : Format → ℕ → Float
+unfolding pick round
+planeValue f h = pick (ltb h (2 ^ 30)) (round f true (2 ^ 30 - h) (2 ^ 30)) (round f false (h - 2 ^ 30) (2 ^ 30))
+
+-- number k of the stream, counted from 0
+unfoldable pub planeNumber : Format → ℕ → Float
+unfolding stream planeValue
+planeNumber f k = planeValue f (high (stream (suc k)))

@@ -1,0 +1,22 @@
+-- The centroid of the stored vectors (01, part 6, `compute_medoid`): components summed node by node, then divided by n as f32.
+use mathlib.Core.List.{List, [], _∷_, map}
+use Prim.Native.Nat.{ℕ}
+use lib.IntN.{pos}
+use lib.ListN.{length, replicate}
+use lib.Ieee.{Float, Format, add, div, ofInt}
+use Rattle.basics.specs.Sum.{+zero}
+
+-- one vector added to the sums, component by component
+unfoldable pub addTo : Format → List Float → List Float → List Float
+addTo f [] v = []
+addTo f (s ∷ sums) [] = s ∷ sums
+addTo f (s ∷ sums) (x ∷ v) = add f s x ∷ addTo f sums v
+
+unfoldable pub sumsFrom : Format → List Float → List (List Float) → List Float
+unfolding addTo
+sumsFrom f sums [] = sums
+sumsFrom f sums (v ∷ vs) = sumsFrom f (addTo f sums v) vs
+
+unfoldable pub centroidOf : Format → ℕ → List (List Float) → List Float
+unfolding sumsFrom
+centroidOf f dimension vs = map (λ (s : Float). div f s (ofInt f (pos (length vs)))) (sumsFrom f (replicate dimension +zero) vs)
