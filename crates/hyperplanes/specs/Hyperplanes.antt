@@ -4,13 +4,13 @@ use mathlib.Core.Bool.{true, false}
 use lib.Dec.{ltb}
 use lib.Ieee.{Float, Format, round}
 use Rattle.basics.specs.Choice.{pick}
-use Rattle.lcg.specs.Lcg.{next, high, planeAddend}
+use Rattle.lcg.specs.Lcg.{nextOf, high, planeAddend}
 
 -- r after k steps; r starts at 42
 unfoldable pub stream : ℕ → ℕ
-unfolding next
+unfolding nextOf
 stream zero = 42
-stream (suc k) = next planeAddend (stream k)
+stream (suc k) = nextOf planeAddend (stream k)
 
 -- (h − 2^30)/2^30, rounded once, ties to even
 unfoldable pub planeValue : Format → ℕ → Float
