@@ -3,7 +3,7 @@ use mathlib.Core.List.{List, [], _∷_, _++_}
 use Prim.Native.Nat.{ℕ, zero, suc, _+_, _-_, _*_, _%_, _^_, min, max}
 use lib.IntN.{pos}
 use lib.Ieee.{Float, binary64, mul, ofInt, toUnsigned}
-use lib.ListN.{length, getD, set, take}
+use lib.ListN.{length, getD, set, take, drop}
 use Rattle.lcg.specs.Lcg.{nextOf, high, drawAddend}
 
 -- the floor of the rounded product of length and fraction, at least 2, at most the length
@@ -36,3 +36,7 @@ upTo (suc n) = upTo n ++ (n ∷ [])
 unfoldable pub leaderPositions : ℕ → ℕ → Float → List ℕ
 unfolding drawn upTo
 leaderPositions level n fraction = drawn (leaderCount n fraction) (drawStart level) (upTo n)
+
+-- as many of them as a slice has room for, at its front
+unfoldable pub drawnInto : ℕ → ℕ → List ℕ → List ℕ
+drawnInto level n out = let count : ℕ = min (length out) n in drawn count (drawStart level) (upTo n) ++ drop count out
