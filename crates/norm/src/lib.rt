@@ -39,7 +39,8 @@ pub fn normalize(v: &mut [f32])
     }
 }
 
-fn divide(v: &mut [f32], by: f32)
+// Each component divided.
+pub fn divide(v: &mut [f32], by: f32)
     ensures { λ _. ⌜ now (v .exit) ≡ map (λ (x : Float). div binary32 x by) (now (v .entry)) ⌝ }
 {
     let mut i: usize = 0;
