@@ -236,8 +236,11 @@ fn set(state: &mut State, kind: &str, q: &mut Question) {
             state.lent = (words, floats);
         }
         "lend" => state.lent = (q.size(), q.size()),
-        "word" => state.words[q.size()] = q.word(),
-        _ => state.floats[q.size()] = q.word(),
+        _ => {
+            let (place, x) = (q.size(), q.word());
+            let store = if kind == "word" { &mut state.words } else { &mut state.floats };
+            store[place] = x;
+        }
     }
 }
 
