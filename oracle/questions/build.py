@@ -86,7 +86,8 @@ def vectors_at_edges():
     edges = [[ZERO] * 3, [MINUS_ZERO] * 3, [BOUND, ZERO, ZERO], [BOUND + 1, ZERO, ZERO], [BOUND - 1, MINUS_ZERO, ZERO], [LARGEST] * 3,
              [SIGN | LARGEST, ONE, ZERO], [1, 2, 3], [SIGN | 1, 0, 0], [single(1e-9)] * 3, [single(1e-30)] * 3]
     for _ in range(40):
-        store = SMALL.but(cap=d.between(2, 16), leaf=d.of([1, 3, 5, 2048]), min=d.of([0, 1, 3]), degree=d.between(0, 5), bits=d.of([0, 3, 16]))
+        store = SMALL.but(cap=d.between(2, 16), leaf=d.of([1, 3, 5, 2048]), min=d.of([0, 1, 3]), degree=d.between(0, 5),
+                          bits=d.of([0, 3, 16]))
         yield from store.open(0)
         for doc in range(d.between(1, store.cap)):
             yield add(doc, d.of(edges) if d.below(3) else d.vector(3, d.of([d.unit, d.near, d.subnormal, d.huge])))
@@ -97,14 +98,15 @@ def written_otherwise():
     """Open stores that the calls did not write: distances that overflow or are NaNs, rows and bridges with any content."""
     for _ in range(90):
         n = d.between(2, 14)
-        store = SMALL.but(cap=n + d.below(2), leaf=d.of([1, 3, 5, 2048]), min=d.of([0, 1, 3]), degree=d.between(0, 5), bits=d.of([0, 1, 3, 16]),
-                          fraction=d.of(FRACTIONS))
+        store = SMALL.but(cap=n + d.below(2), leaf=d.of([1, 3, 5, 2048]), min=d.of([0, 1, 3]), degree=d.between(0, 5),
+                          bits=d.of([0, 1, 3, 16]), fraction=d.of(FRACTIONS))
         yield from store.open(n, d.below(1 << 32), d.of(STYLES))
         for _ in range(d.below(3 * n)):
             yield set_float(d.below(3 * n), d.of([d.huge(), d.huge(), LARGEST, SIGN | LARGEST, MINUS_ZERO, d.finite()]))
         for node in range(n):
             if store.degree and d.below(2):
-                yield from [word(store.row(node), d.between(0, store.degree)), word(store.row(node) + d.between(1, store.degree), d.below(n))]
+                yield word(store.row(node), d.between(0, store.degree))
+                yield word(store.row(node) + d.between(1, store.degree), d.below(n))
         yield from [word(store.bridge(d.below(store.cap)), d.below(1 << 32)), store.build(), shown(store), SUM]
 
 
@@ -130,7 +132,8 @@ def refusals():
     yield from [line('build', scratch_words + 9, scratch_floats + 9), words(store.words), SUM]
     # built: checked like any other, then success with nothing changed
     yield from [store.build(), SUM, line('build', scratch_words - 1, scratch_floats), SUM, word(store.row(0) + 1, 9), store.build(), SUM]
-    yield from SMALL.built(5) + [SUM, SMALL.build(), SUM, add(9, [ONE] * 3), SMALL.new(), SUM, SMALL.build(), adds(2, 1, 0), SMALL.build(), SUM]
+    yield from SMALL.built(5) + [SUM, SMALL.build(), SUM, add(9, [ONE] * 3), SMALL.new(), SUM, SMALL.build()]
+    yield from [adds(2, 1, 0), SMALL.build(), SUM]
 
 
 def carvings():
@@ -144,10 +147,11 @@ def carvings():
         n = d.of([d.between(1, 40), d.between(1, 40), d.between(41, 300)])
         yield line('leavesof', d.of([1, 2, 3, 8, 64]), d.of([1, 2, 5, max(1, n // 4), n, 2048]), d.of([0, 0, 1, 2, 10, n, 1024]),
                    [f'{d.of(FRACTIONS):016x}'], n, d.below(1 << 32), d.of(STYLES))
-    for dimension, leaf, smallest, fraction, style in ((48, 64, 16, 0.02, ANY), (64, 1, 0, 0.5, CLUSTERS), (1, 100, 30, 0.1, TIES), (8, 32, 0, 0.0, REPEATS)):
-        yield line('leavesof', dimension, leaf, smallest, [f'{double(fraction):016x}'], 1024, d.below(1 << 32), style)
+    for *sizes, fraction, style in ((48, 64, 16, 0.02, ANY), (64, 1, 0, 0.5, CLUSTERS), (1, 100, 30, 0.1, TIES), (8, 32, 0, 0.0, REPEATS)):
+        yield line('leavesof', *sizes, [f'{double(fraction):016x}'], 1024, d.below(1 << 32), style)
 
 
 def questions():
-    for part in (few_nodes, ends_of_parameters, random_stores, tied_stores, large_stores, vectors_at_edges, written_otherwise, refusals, carvings):
+    for part in (few_nodes, ends_of_parameters, random_stores, tied_stores, large_stores, vectors_at_edges, written_otherwise, refusals,
+                 carvings):
         yield from part()

@@ -29,25 +29,31 @@ def generated(d, cap, nodes, component, finds, **changes):
 def good():
     d = Draws(5)
     yield 'example', text(header() + CALLS)
-    yield 'example-more', text(header() + CALLS + ['find=1,1,3f800000,00000000', 'find=0,0,3f800000,00000000', 'find=1024,1024,80000000,3f800000'])
+    more = ['find=1,1,3f800000,00000000', 'find=0,0,3f800000,00000000', 'find=1024,1024,80000000,3f800000']
+    yield 'example-more', text(header() + CALLS + more)
     yield 'no-last-line-feed', text(header() + CALLS)[:-1]
-    yield 'leading-zeros', text(header(dim='002', cap='0000000000008') + ['add=0010,3f800000,00000000', BUILD, 'find=01,001,3f800000,00000000'])
+    zeros = ['add=0010,3f800000,00000000', BUILD, 'find=01,001,3f800000,00000000']
+    yield 'leading-zeros', text(header(dim='002', cap='0000000000008') + zeros)
     yield 'edges-of-vectors', text(header() + [f'add=4294967295,{x}' for x in (
         '00000000,80000000', '2edbe6ff,00000000', '2edbe700,00000000', '7f7fffff,ff7fffff', '00000001,80000001', '7f7fffff,00000000')]
         + [BUILD] + [f'find=8,8,{x}' for x in ('00000000,00000000', '3f800000,00000000', '2edbe6ff,2edbe6ff', '00000001,7f7fffff')])
-    yield 'limits-low', generated(d, 1, 1, d.unit, [(0, 0), (1, 0)], dim='1', leaf='1', fraction='8000000000000000', degree='0', ef='0')
+    yield 'limits-low', generated(d, 1, 1, d.unit, [(0, 0), (1, 0)], dim='1', leaf='1', fraction='8000000000000000', degree='0',
+                                  ef='0')
     yield 'limits-high', generated(d, 64, 64, d.unit, [(1024, 1024), (10, 50)], dim='64', leaf='2048', min='1024',
                                    fraction='3ff0000000000000', degree='32', bits='16', alpha='ff7fffff', ef='1024')
-    yield 'household', generated(d, 64, 40, d.unit, [(1, 10), (3, 10), (3, 1), (50, 50)], dim='48', leaf='2048', min='64', degree='32', bits='12', ef='100')
+    yield 'household', generated(d, 64, 40, d.unit, [(1, 10), (3, 10), (3, 1), (50, 50)], dim='48', leaf='2048', min='64', degree='32',
+                                 bits='12', ef='100')
     yield 'carved', generated(d, 64, 63, d.unit, [(5, 2), (5, 5), (1, 1), (0, 1)], dim='3', leaf='6', min='2', degree='3', bits='4')
-    yield 'ties', generated(d, 32, 32, d.whole, [(8, 1), (32, 4), (32, 32)], dim='2', leaf='10', fraction='3fb999999999999a', degree='2', bits='2')
+    yield 'ties', generated(d, 32, 32, d.whole, [(8, 1), (32, 4), (32, 32)], dim='2', leaf='10', fraction='3fb999999999999a', degree='2',
+                            bits='2')
 
 
 def refused():
-    for number, changes in ((1, dict(dim='0')), (1, dict(dim='65', leaf='0')), (2, dict(final='2')), (2, dict(cap='0')), (2, dict(alpha='7fc00000'))):
+    for number, changes in ((1, dict(dim='0')), (1, dict(dim='65', leaf='0')), (2, dict(final='2')), (2, dict(cap='0')),
+                            (2, dict(alpha='7fc00000'))):
         yield f'refused-{number}-{"-".join(changes)}', text(header(**changes) + CALLS)
-    finds = ['find=3,3,3f800000', 'find=3,3', 'find=3,3,7fc00000,00000000', 'find=1025,3,3f800000,00000000', 'find=3,1025,3f800000,00000000',
-             'find=4294967295,4294967295,3f800000,00000000']
+    finds = ['find=3,3,3f800000', 'find=3,3', 'find=3,3,7fc00000,00000000', 'find=1025,3,3f800000,00000000',
+             'find=3,1025,3f800000,00000000', 'find=4294967295,4294967295,3f800000,00000000']
     adds = ['add=1,3f800000', 'add=1', 'add=1,3f800000,00000000,00000000', 'add=1,7f800000,00000000', 'add=1,00000000,ffc00000']
     yield 'refused-calls', text(header(cap='3') + [BUILD, FIND] + ADDS[:2] + adds + finds[:1] + ADDS[2:] + ADDS[:1] + adds
                                 + [BUILD] + ADDS[:1] + adds + finds + [FIND, BUILD])
@@ -61,7 +67,8 @@ def ending():
         'sign': 'find=+3,3,3f800000,00000000', 'number-too-large': 'find=4294967296,3,3f800000,00000000',
         'capitals': 'find=3,3,3F800000,00000000', 'few-digits': 'find=3,3,3f80000,00000000', 'many-digits': 'find=3,3,03f800000,00000000',
         'last-comma': 'find=3,3,3f800000,00000000,', 'one-count': 'find=3', 'no-doc': 'add=,3f800000,00000000', 'build-0': 'build=0',
-        'build-01': 'build=01', 'other-key': 'found=3,3,3f800000,00000000', 'no-equals': 'build', 'second-header': 'dim=2', 'second-cap': 'cap=8',
+        'build-01': 'build=01', 'other-key': 'found=3,3,3f800000,00000000', 'no-equals': 'build', 'second-header': 'dim=2',
+        'second-cap': 'cap=8',
     }
     for name, bad in lines.items():
         yield f'ends-{name}', text(start + [bad, FIND])

@@ -32,14 +32,17 @@ def counts_at_their_ends():
 def large_stores():
     wide = Store(dimension=48, leaf=2048, min=64, fraction=double(0.02), degree=32, bits=12, cap=1024)
     for store, n, style in [
-        (wide, 1024, CLUSTERS), (wide.but(leaf=64, dimension=64, bits=16), 1024, CLUSTERS), (wide.but(dimension=64, leaf=100, degree=4), 1023, ANY),
+        (wide, 1024, CLUSTERS), (wide.but(leaf=64, dimension=64, bits=16), 1024, CLUSTERS),
+        (wide.but(dimension=64, leaf=100, degree=4), 1023, ANY),
         (wide.but(dimension=4, leaf=64, degree=8), 1024, TIES), (wide.but(dimension=8, leaf=30, min=3, degree=2, bits=2), 1024, CLUSTERS),
-        (wide.but(dimension=3, leaf=20, min=0, degree=0), 1024, ANY), (wide.but(dimension=16, leaf=32, min=0, degree=6, bits=4), 700, REPEATS),
+        (wide.but(dimension=3, leaf=20, min=0, degree=0), 1024, ANY),
+        (wide.but(dimension=16, leaf=32, min=0, degree=6, bits=4), 700, REPEATS),
         (wide.but(cap=512), 512, ANY), (wide.but(dimension=6, cap=512, leaf=64, degree=6, bits=4), 512, CLUSTERS),
     ]:
         seed = d.below(1 << 32)
         yield from store.built(n, seed, style)
-        for k, ef in [(0, 0), (1, 0), (1, 1), (0, 1), (1, 2), (1, 10), (10, 1), (10, 10), (10, 50), (1, 50), (50, 10), (1, 100), (10, 300), (1, 1024)]:
+        for k, ef in [(0, 0), (1, 0), (1, 1), (0, 1), (1, 2), (1, 10), (10, 1), (10, 10), (10, 50), (1, 50), (50, 10), (1, 100),
+                      (10, 300), (1, 1024)]:
             yield store.find(k, ef, query(seed, store.dimension, style))
             yield store.find(k, ef, query(seed, store.dimension, style))
         yield store.find(1024, 0, query(seed, store.dimension, style), (1024, 1024))
@@ -79,7 +82,8 @@ def outputs():
     yield from store.built(n)
     for k in (0, 1, 3, 4, 5, 1024):
         need = min(k, n)
-        for pair in sorted({(need, need), (need + 1, need + 7), (max(0, need - 1), need), (need, max(0, need - 1)), (0, 0), (need, 0), (0, need)}):
+        less = max(0, need - 1)
+        for pair in sorted({(need, need), (need + 1, need + 7), (less, need), (need, less), (0, 0), (need, 0), (0, need)}):
             yield store.find(k, 3, [ONE, ZERO, ONE], pair)
     yield SUM
 

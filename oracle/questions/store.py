@@ -184,6 +184,6 @@ def random_histories():
 
 
 def questions():
-    for part in (accepted_parameters, refused_parameters, up_to_capacity, adds_in_order, damaged_headers, damaged_rest, any_content, vectors,
-                 random_histories):
+    for part in (accepted_parameters, refused_parameters, up_to_capacity, adds_in_order, damaged_headers, damaged_rest, any_content,
+                 vectors, random_histories):
         yield from part()
