@@ -1,17 +1,16 @@
--- What tests that are joined say of each. Assumes nothing.
-use mathlib.Core.Path.{_≡_, refl, sym, subst}
+-- What a joined test says, where code joins its tests by `&` and `|`. Assumes nothing.
+use mathlib.Core.Path.{_≡_, refl}
 use mathlib.Core.Logic.{_⊎_, inl, inr}
 use mathlib.Core.Bool.{Bool, true, false, _&&_, _||_}
-use lib.Dec.{T}
 
-pub both : (a b : Bool) → (a && b) ≡ true → (a ≡ true) × (b ≡ true)
-both true b h = (refl, h)
-both false b h = absurd (subst T (sym h) tt)
+pub both-true : (a b : Bool) → (a && b) ≡ true → (a ≡ true) × (b ≡ true)
+both-true true b e = (refl, e)
+both-true false b e = absurd (mathlib.Core.Bool.false≢true e)
 
-pub one-of : (a b : Bool) → (a || b) ≡ true → (a ≡ true) ⊎ (b ≡ true)
-one-of true b h = inl refl
-one-of false b h = inr h
+pub one-true : (a b : Bool) → (a || b) ≡ true → (a ≡ true) ⊎ (b ≡ true)
+one-true true b e = inl refl
+one-true false b e = inr e
 
-pub neither : (a b : Bool) → (a || b) ≡ false → (a ≡ false) × (b ≡ false)
-neither true b h = absurd (subst T h tt)
-neither false b h = (refl, h)
+pub both-false : (a b : Bool) → (a || b) ≡ false → (a ≡ false) × (b ≡ false)
+both-false true b e = absurd (mathlib.Core.Bool.true≢false e)
+both-false false b e = (refl, e)

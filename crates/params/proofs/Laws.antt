@@ -6,7 +6,7 @@ use lib.Ieee.{le}
 use lib.Ieee.Scale.{finite}
 use borrow.Author.Tests.{leb-true}
 use Rattle.basics.specs.Sum.{+zero, +one}
-use Rattle.basics.proofs.Tests.{both}
+use Rattle.basics.proofs.Tests.{both-true}
 use Rattle.params.specs.declared.PipnnParams.{PipnnParams}
 use Rattle.params.specs.Limits.{mostDimension, mostCapacity, mostLeafSize, mostMinLeafSize, mostDegree, mostHashBits, mostEf, dimensionWithin, capacityWithin, withinLimits}
 
@@ -15,14 +15,14 @@ pub record Dimension (d : ℕ) : Type 0 where
   pub most : d ≤ mostDimension
 
 pub dimension : (d : ℕ) → dimensionWithin d ≡ true → Dimension d
-dimension d h = let t = both _ _ h in record { least = leb-true _ _ (t .0); most = leb-true _ _ (t .1) }
+dimension d h = let t = both-true _ _ h in record { least = leb-true _ _ (t .0); most = leb-true _ _ (t .1) }
 
 pub record Capacity (c : ℕ) : Type 0 where
   pub least : 1 ≤ c
   pub most : c ≤ mostCapacity
 
 pub capacity : (c : ℕ) → capacityWithin c ≡ true → Capacity c
-capacity c h = let t = both _ _ h in record { least = leb-true _ _ (t .0); most = leb-true _ _ (t .1) }
+capacity c h = let t = both-true _ _ h in record { least = leb-true _ _ (t .0); most = leb-true _ _ (t .1) }
 
 pub record Within (p : PipnnParams) : Type 0 where
   pub leaf-least : 1 ≤ p .«max_leaf_size»
@@ -38,14 +38,14 @@ pub record Within (p : PipnnParams) : Type 0 where
 pub within : (p : PipnnParams) → withinLimits p ≡ true → Within p
 unfolding withinLimits
 within p h =
-    let t8 = both _ _ h in
-    let t7 = both _ _ (t8 .0) in
-    let t6 = both _ _ (t7 .0) in
-    let t5 = both _ _ (t6 .0) in
-    let t4 = both _ _ (t5 .0) in
-    let t3 = both _ _ (t4 .0) in
-    let t2 = both _ _ (t3 .0) in
-    let t1 = both _ _ (t2 .0) in
+    let t8 = both-true _ _ h in
+    let t7 = both-true _ _ (t8 .0) in
+    let t6 = both-true _ _ (t7 .0) in
+    let t5 = both-true _ _ (t6 .0) in
+    let t4 = both-true _ _ (t5 .0) in
+    let t3 = both-true _ _ (t4 .0) in
+    let t2 = both-true _ _ (t3 .0) in
+    let t1 = both-true _ _ (t2 .0) in
     record {
       leaf-least = leb-true _ _ (t1 .0);
       leaf-most = leb-true _ _ (t1 .1);

@@ -6,7 +6,7 @@ use mathlib.Core.List.{List}
 use Prim.Native.Nat.{ℕ, _≤_, _<_}
 use native.Mathlib.Omega.{arith}
 use borrow.Author.Tests.{leb-true, ltb-true, eqb-true}
-use Rattle.basics.proofs.Tests.{both, one-of}
+use Rattle.basics.proofs.Tests.{both-true, one-true}
 use Rattle.params.specs.Limits.{mostDegree}
 use Rattle.params.proofs.Laws.{Dimension, dimension, Capacity, capacity, Within, within}
 use Rattle.store.specs.Layout.{word, openState, builtState, stateAt, dimensionAt, nodesAt, degreeAt, finalPruneAt, entryAt, bridgeCountAt, capacityAt, zeroAt}
@@ -37,28 +37,28 @@ pub record Header (w : List ℕ) : Type 0 where
 
 open-header : (w : List ℕ) → openOk w ≡ true → Open w
 open-header w h =
-    let t2 = both _ _ h in
-    let t1 = both _ _ (t2 .0) in
+    let t2 = both-true _ _ h in
+    let t1 = both-true _ _ (t2 .0) in
     record { state = eqb-true _ _ (t1 .0); entry = eqb-true _ _ (t1 .1); bridges = eqb-true _ _ (t2 .1) }
 
 built-header : (w : List ℕ) → builtOk w ≡ true → Built w
 built-header w h =
-    let t3 = both _ _ h in
-    let t2 = both _ _ (t3 .0) in
-    let t1 = both _ _ (t2 .0) in
+    let t3 = both-true _ _ h in
+    let t2 = both-true _ _ (t3 .0) in
+    let t1 = both-true _ _ (t2 .0) in
     record { state = eqb-true _ _ (t1 .0); nodes = leb-true _ _ (t1 .1); entry = ltb-true _ _ (t2 .1); bridges = ltb-true _ _ (t3 .1) }
 
 pub header : (w : List ℕ) → headerOk w ≡ true → Header w
 unfolding headerOk paramsOf
 header w h =
-    let t6 = both _ _ h in
-    let t5 = both _ _ (t6 .0) in
-    let t4 = both _ _ (t5 .0) in
-    let t3 = both _ _ (t4 .0) in
-    let t2 = both _ _ (t3 .0) in
-    let t1 = both _ _ (t2 .0) in
+    let t6 = both-true _ _ h in
+    let t5 = both-true _ _ (t6 .0) in
+    let t4 = both-true _ _ (t5 .0) in
+    let t3 = both-true _ _ (t4 .0) in
+    let t2 = both-true _ _ (t3 .0) in
+    let t1 = both-true _ _ (t2 .0) in
     let limits : Within (paramsOf w) = within (paramsOf w) (t1 .0) in
-    let state : Open w ⊎ Built w = ⊎-elim (λ o. inl (open-header w o)) (λ b. inr (built-header w b)) (one-of (openOk w) (builtOk w) (t6 .1)) in
+    let state : Open w ⊎ Built w = ⊎-elim (λ o. inl (open-header w o)) (λ b. inr (built-header w b)) (one-true (openOk w) (builtOk w) (t6 .1)) in
     record {
       params = limits;
       dimension = dimension (word w dimensionAt) (t1 .1);

@@ -9,12 +9,12 @@
 // the number of the first check that fails, or 0. The check reads each word of the store once and
 // gathers its tests without a branch a word, since it happens at every call.
 //
-// It leans on `params` for the limits and on `finite` for the vectors.
+// It leans on `params` for the limits, on `bits` for the two floats of the header and on `finite` for the
+// vectors.
 ghost use mathlib.Core.Path.{_≡_};
 ghost use mathlib.Core.Bool.{true};
-ghost use Prim.Native.Nat.{_+_, _*_, _^_, _≤_};
+ghost use Prim.Native.Nat.{_+_, _*_, _≤_};
 ghost use lib.ListN.{length, drop, set};
-ghost use lib.Ieee.{ofBits, binary32, binary64};
 ghost use Rattle.basics.specs.Refusals.{firstRefusal};
 ghost use Rattle.basics.specs.Lists.{every, pieces};
 ghost use Rattle.store.specs.Layout.{
@@ -163,39 +163,21 @@ pub fn scratch_floats(capacity: u32) -> usize
     16 * capacity as usize + 256
 }
 
-// The number that two words' 64 bits stand for; a pattern of no number gives a NaN.
-fn fraction_of(high: u32, low: u32) -> f64
-    ensures { λ r. ⌜ r ≡ ofBits binary64 (high * 2 ^ 32 + low) ⌝ }
-{
-    let bits = high as u64 * 4294967296 + low as u64;
-    if bits % 0x8000_0000_0000_0000 > 0x7ff0_0000_0000_0000 {
-        return 0.0 / 0.0;
-    }
-    f64::from_bits(bits)
-}
-
-// The same of one word's 32 bits.
-fn alpha_of(bits: u32) -> f32
-    ensures { λ r. ⌜ r ≡ ofBits binary32 bits ⌝ }
-{
-    if bits % 0x8000_0000 > 0x7f80_0000 {
-        return 0.0 / 0.0;
-    }
-    f32::from_bits(bits)
-}
-
 // The parameters as the header has them.
 pub fn params_of(words: &[u32]) -> PipnnParams
     ensures { λ r. ⌜ r ≡ paramsOf (now (words .entry)) ⌝ }
 {
+    let high = word_at(words, FRACTION_HIGH) as u64;
+    let low = word_at(words, FRACTION_LOW) as u64;
+    let fraction = high * 4294967296 + low;
     PipnnParams {
         max_leaf_size: word_at(words, MAX_LEAF_SIZE),
         min_leaf_size: word_at(words, MIN_LEAF_SIZE),
-        leader_fraction: fraction_of(word_at(words, FRACTION_HIGH), word_at(words, FRACTION_LOW)),
+        leader_fraction: bits::f64_from(fraction),
         max_degree: word_at(words, DEGREE),
         num_hash_bits: word_at(words, HASH_BITS),
         final_prune: word_at(words, FINAL_PRUNE) == 1,
-        alpha: alpha_of(word_at(words, ALPHA)),
+        alpha: bits::f32_from(word_at(words, ALPHA)),
         ef_search: word_at(words, EF_SEARCH),
     }
 }

@@ -7,7 +7,7 @@ use borrow.Author.Tests.{lt-ltb, le-ltb, ltb-false, not-true, not-false}
 use borrow.Author.Needs.{needs}
 use Rattle.basics.specs.Refusals.{Check}
 use Rattle.basics.proofs.Refusals.{Pass, turned-at, none-turned}
-use Rattle.basics.proofs.Tests.{neither}
+use Rattle.basics.proofs.Tests.{both-false}
 use Rattle.store.specs.WellFormed.{headerOk}
 use Rattle.store.specs.Opening.{tooShort, opening}
 use Rattle.store.proofs.opening_refusal.Statement.{statement}
@@ -61,7 +61,7 @@ returns-3 c =
 
 rest-ok-requires : tie.Need-rest-ok-requires
 rest-ok-requires c κs =
-    let sizes = neither _ _ (neither _ _ (long c) .0) in
+    let sizes = both-false _ _ (both-false _ _ (long c) .0) in
     (head (c .before .before), (ltb-false _ _ (sizes .0), ltb-false _ _ (sizes .1)))
 
 returns-4 : tie.Need-returns-4

@@ -7,8 +7,20 @@ use Rattle.store.proofs.params_of.Tie as tie
 word-at-requires : tie.Need-word-at-requires
 word-at-requires c κs = search needs
 
+cast-high : tie.Need-cast-high
+cast-high c = search needs
+
 word-at-requires-2 : tie.Need-word-at-requires-2
 word-at-requires-2 c κs = search needs
+
+cast-low : tie.Need-cast-low
+cast-low c = search needs
+
+mul-fraction : tie.Need-mul-fraction
+mul-fraction c = search needs
+
+add-fraction : tie.Need-add-fraction
+add-fraction c = search needs
 
 word-at-requires-3 : tie.Need-word-at-requires-3
 word-at-requires-3 c κs = search needs
@@ -16,8 +28,8 @@ word-at-requires-3 c κs = search needs
 word-at-requires-4 : tie.Need-word-at-requires-4
 word-at-requires-4 c κs = search needs
 
-fraction-of-requires : tie.Need-fraction-of-requires
-fraction-of-requires c κs = search needs
+f64-from-requires : tie.Need-f64-from-requires
+f64-from-requires c κs = search needs
 
 word-at-requires-5 : tie.Need-word-at-requires-5
 word-at-requires-5 c κs = search needs
@@ -31,8 +43,8 @@ word-at-requires-7 c κs = search needs
 word-at-requires-8 : tie.Need-word-at-requires-8
 word-at-requires-8 c κs = search needs
 
-alpha-of-requires : tie.Need-alpha-of-requires
-alpha-of-requires c κs = search needs
+f32-from-requires : tie.Need-f32-from-requires
+f32-from-requires c κs = search needs
 
 word-at-requires-9 : tie.Need-word-at-requires-9
 word-at-requires-9 c κs = search needs
@@ -46,14 +58,18 @@ params-of-spec =
     tie.close
     (tie.spec
     word-at-requires
+    cast-high
     word-at-requires-2
+    cast-low
+    mul-fraction
+    add-fraction
     word-at-requires-3
     word-at-requires-4
-    fraction-of-requires
+    f64-from-requires
     word-at-requires-5
     word-at-requires-6
     word-at-requires-7
     word-at-requires-8
-    alpha-of-requires
+    f32-from-requires
     word-at-requires-9
     returns)
