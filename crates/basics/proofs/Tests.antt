@@ -14,3 +14,7 @@ one-true false b e = inr e
 pub both-false : (a b : Bool) → (a || b) ≡ false → (a ≡ false) × (b ≡ false)
 both-false true b e = absurd (mathlib.Core.Bool.true≢false e)
 both-false false b e = (refl, e)
+
+pub one-false : (a b : Bool) → (a && b) ≡ false → (a ≡ false) ⊎ (b ≡ false)
+one-false true b e = inr e
+one-false false b e = inl refl
