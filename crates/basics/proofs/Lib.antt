@@ -1,4 +1,6 @@
 pub mod Counting
+pub mod Every
 pub mod Loops
+pub mod Refusals
 pub mod Sums
 pub mod Tests

@@ -1,0 +1,40 @@
+// Clearing and copying slices. The Rust uses `vec![0; n]`, `fill` and `extend_from_slice`.
+//
+// Each function is total, and its contract gives the whole slice that it leaves.
+ghost use mathlib.Core.Path.{_≡_};
+ghost use mathlib.Core.List.{_++_};
+ghost use lib.ListN.{length, take, drop, replicate};
+ghost use Rattle.basics.specs.Sum.{+zero};
+
+// Zeroes every word.
+pub fn clear_words(s: &mut [u32])
+    ensures { λ _. ⌜ now (s .exit) ≡ replicate (length (now (s .entry))) 0 ⌝ }
+{
+    let mut i = 0;
+    while i < s.len() {
+        s[i] = 0;
+        i += 1;
+    }
+}
+
+// Zeroes every float, to +0.
+pub fn clear_floats(s: &mut [f32])
+    ensures { λ _. ⌜ now (s .exit) ≡ replicate (length (now (s .entry))) +zero ⌝ }
+{
+    let mut i = 0;
+    while i < s.len() {
+        s[i] = 0.0;
+        i += 1;
+    }
+}
+
+// Copies `from` to `to`, as far as the shorter one goes.
+pub fn copy_floats(to: &mut [f32], from: &[f32])
+    ensures { λ _. ⌜ now (to .exit) ≡ take (length (now (to .entry))) (now (from .entry)) ++ drop (length (now (from .entry))) (now (to .entry)) ⌝ }
+{
+    let mut i = 0;
+    while (i < to.len()) & (i < from.len()) {
+        to[i] = from[i];
+        i += 1;
+    }
+}

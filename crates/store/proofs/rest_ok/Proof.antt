@@ -1,0 +1,93 @@
+-- `store::rest_ok` meets its contract: the header puts each part within the store, and the three tests are the definition's. Assumes nothing.
+use mathlib.Core.Path.{sym}
+use native.Mathlib.Omega.{arith}
+use lib.Seq.{length-take-le}
+use borrow.Author.Needs.{needs}
+use Rattle.store.specs.View.{rowWords, bridgeWords}
+use Rattle.store.specs.WellFormed.{restOk}
+use Rattle.store.proofs.Header.{Header, header}
+use Rattle.store.proofs.Sizes.{Room, room}
+use Rattle.store.proofs.rest_ok.Statement.{statement}
+use Rattle.store.proofs.rest_ok.Tie as tie
+
+head : (s : tie.Start) → Header (s .args .words .now)
+head s = header (s .args .words .now) (s .pre .0)
+
+within : (s : tie.Start) → Room (s .args .words .now) (s .args .floats .now)
+within s = room (s .args .words .now) (s .args .floats .now) (head s) (s .pre .1 .0) (s .pre .1 .1)
+
+word-at-requires : tie.Need-word-at-requires
+word-at-requires c κs = search needs
+
+word-at-requires-2 : tie.Need-word-at-requires-2
+word-at-requires-2 c κs = search needs
+
+word-at-requires-3 : tie.Need-word-at-requires-3
+word-at-requires-3 c κs = search needs
+
+cast-degree : tie.Need-cast-degree
+cast-degree c = let h = head (c .before .before .before .before .before) in omega arith
+
+word-at-requires-4 : tie.Need-word-at-requires-4
+word-at-requires-4 c κs = search needs
+
+word-at-requires-5 : tie.Need-word-at-requires-5
+word-at-requires-5 c κs = search needs
+
+floats-size-requires : tie.Need-floats-size-requires
+floats-size-requires c κs = search needs
+
+rows-at-requires : tie.Need-rows-at-requires
+rows-at-requires c κs = search needs
+
+rows-ok-requires : tie.Need-rows-ok-requires
+rows-ok-requires c κs = rw (c .rows-at .ensures, c .before .before .before .before .word-at3 .ensures, c .before .before .before .before .before .word-at2 .ensures, c .before .before .before .before .before .before .word-at .ensures) (within (c .before .before .before .before .before .before .before .before .before) .rows)
+
+bridges-at-requires : tie.Need-bridges-at-requires
+bridges-at-requires c κs = search needs
+
+bridges-ok-requires : tie.Need-bridges-ok-requires
+bridges-ok-requires c κs = rw (c .bridges-at .ensures, c .before .before .before .before .before .before .word-at3 .ensures, c .before .before .before .before .before .before .before .word-at2 .ensures, c .before .before .before .before .before .word-at4 .ensures) (within (c .before .before .before .before .before .before .before .before .before .before .before) .bridges)
+
+slice-aggregate-all-finite : tie.Need-slice-aggregate-all-finite
+slice-aggregate-all-finite c =
+    sym (length-take-le _ _ (rw (c .before .before .before .before .before .floats-size .ensures, c .before .before .before .before .before .before .word-at5 .ensures, c .before .before .before .before .before .before .before .before .before .before .word-at .ensures) (within (c .before .before .before .before .before .before .before .before .before .before .before .before .before) .vectors)))
+
+all-finite-requires : tie.Need-all-finite-requires
+all-finite-requires c κs = search needs
+
+returns : tie.Need-returns
+unfolding restOk rowWords bridgeWords
+returns c =
+    rw (
+      c .all-finite .ensures,
+      c .before .before .bridges-ok .ensures,
+      c .before .before .before .before .rows-ok .ensures,
+      c .before .before .before .bridges-at .ensures,
+      c .before .before .before .before .before .rows-at .ensures,
+      c .before .before .before .before .before .before .floats-size .ensures,
+      c .before .before .before .before .before .before .before .word-at5 .ensures,
+      c .before .before .before .before .before .before .before .before .word-at4 .ensures,
+      c .before .before .before .before .before .before .before .before .before .word-at3 .ensures,
+      c .before .before .before .before .before .before .before .before .before .before .word-at2 .ensures,
+      c .before .before .before .before .before .before .before .before .before .before .before .word-at .ensures,
+    )
+
+pub rest-ok-spec : {M : Type 1} → statement M
+rest-ok-spec =
+    tie.close
+    (tie.spec
+    word-at-requires
+    word-at-requires-2
+    word-at-requires-3
+    cast-degree
+    word-at-requires-4
+    word-at-requires-5
+    floats-size-requires
+    rows-at-requires
+    rows-ok-requires
+    bridges-at-requires
+    bridges-ok-requires
+    slice-aggregate-all-finite
+    all-finite-requires
+    returns)

@@ -1,0 +1,22 @@
+-- `store::words_size` meets its contract: a capacity of 32 bits and a degree of 16 keep it below 2^49. Assumes nothing.
+use Prim.Native.Nat.{_+_}
+use native.Mathlib.Omega.{arith}
+use borrow.Author.Needs.{needs}
+use Rattle.store.proofs.Sizes.{product-le}
+use Rattle.store.proofs.words_size.Statement.{statement}
+use Rattle.store.proofs.words_size.Tie as tie
+
+add-result : tie.Need-add-result
+add-result c = search needs
+
+mul-result : tie.Need-mul-result
+mul-result c = omega (arith, product-le (c .args .capacity) (4 + c .args .degree) 4294967295 65539 (omega arith) (omega arith))
+
+add-result-2 : tie.Need-add-result-2
+add-result-2 c = omega (arith, product-le (c .args .capacity) (4 + c .args .degree) 4294967295 65539 (omega arith) (omega arith))
+
+returns : tie.Need-returns
+returns c = search needs
+
+pub words-size-spec : {M : Type 1} → statement M
+words-size-spec = tie.close (tie.spec add-result mul-result add-result-2 returns)
