@@ -5,9 +5,9 @@
 -- A node's distances are from it to the other: the Rust writes the earlier place's vector first and uses the number both ways, which is the
 -- same, as a distance is (Rattle.vectors.proofs.Laws, `between-sym`). Its stop at 2·max_degree filled cells never comes before the
 -- candidates end, of which there are no more.
-use mathlib.Core.Bool.{Bool, true, false}
+use mathlib.Core.Bool.{Bool, false}
 use mathlib.Core.List.{List, [], _∷_, _++_, map}
-use Prim.Native.Nat.{ℕ, zero, suc, _+_, _-_, _*_, min}
+use Prim.Native.Nat.{ℕ, zero, suc, _-_, _*_, min}
 use lib.Dec.{leb, ltb, eqb}
 use lib.ListN.{length, getD, set, take, drop}
 use lib.Ieee.{Float, binary32, lt}

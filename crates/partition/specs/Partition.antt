@@ -7,7 +7,7 @@
 use mathlib.Core.Path.{_≡_, refl, sym, ap, _∙_, subst}
 use mathlib.Core.Bool.{Bool, true, false, _||_, or-true}
 use mathlib.Core.List.{List, [], _∷_, _++_, map}
-use Prim.Native.Nat.{ℕ, zero, suc, _+_, _-_, _≤_, _<_}
+use Prim.Native.Nat.{ℕ, zero, suc, _+_, _-_, _<_}
 use native.Mathlib.Omega.{arith}
 use native.Mathlib.Decide.{decLe}
 use lib.Dec.{T, leb, eqb}
@@ -92,27 +92,32 @@ unfoldable pub eachBy : (List ℕ → List (List ℕ)) → List (List ℕ) → L
 eachBy carve [] = []
 eachBy carve (bucket ∷ buckets) = carve bucket ++ eachBy carve buckets
 
+unfoldable pub isLeaf : ℕ → ℕ → List ℕ → Bool
+unfolding fanout
+isLeaf maxLeaf level ids = leb (length ids) maxLeaf || eqb (fanout level) 0
+
+pub above-is-leaf : (maxLeaf level : ℕ) (ids : List ℕ) → 20 < level → T (isLeaf maxLeaf level ids)
+unfolding isLeaf
+above-is-leaf maxLeaf level ids h =
+    subst T (sym (ap (λ (fan : ℕ). leb (length ids) maxLeaf || eqb fan 0) (fanout-above level h) ∙ or-true (leb (length ids) maxLeaf))) tt
+
+-- the buckets of a segment that is no leaf
+unfoldable pub bucketsOf : ℕ → Float → List (List Float) → ℕ → List ℕ → List (List ℕ)
+unfolding gathered dealt fanout leadersOf
+bucketsOf minLeaf fraction vs level ids = gathered minLeaf (dealt vs (fanout level) (leadersOf fraction level ids) ids)
+
 module _ (maxLeaf minLeaf : ℕ) (fraction : Float) (vs : List (List Float)) where
-  unfoldable pub isLeaf : ℕ → List ℕ → Bool
-  unfolding fanout
-  isLeaf level ids = leb (length ids) maxLeaf || eqb (fanout level) 0
-
-  -- the buckets of a segment that is no leaf
-  unfoldable pub bucketsOf : ℕ → List ℕ → List (List ℕ)
-  unfolding gathered dealt fanout leadersOf
-  bucketsOf level ids = gathered minLeaf (dealt vs (fanout level) (leadersOf fraction level ids) ids)
-
   -- `left` levels are left; the test says whether this segment is a leaf
   carveFrom : ℕ → Bool → ℕ → List ℕ → List (List ℕ)
   unfolding eachBy isLeaf bucketsOf
   carveFrom zero leaf level ids = ids ∷ []
   carveFrom (suc left) true level ids = ids ∷ []
   carveFrom (suc left) false level ids =
-      eachBy (λ (bucket : List ℕ). carveFrom left (isLeaf (level + 1) bucket) (level + 1) bucket) (bucketsOf level ids)
+      eachBy (λ (bucket : List ℕ). carveFrom left (isLeaf maxLeaf (level + 1) bucket) (level + 1) bucket) (bucketsOf minLeaf fraction vs level ids)
 
   unfoldable pub carveSegment : ℕ → List ℕ → List (List ℕ)
   unfolding carveFrom isLeaf
-  carveSegment level ids = carveFrom (21 - level) (isLeaf level ids) level ids
+  carveSegment level ids = carveFrom (21 - level) (isLeaf maxLeaf level ids) level ids
 
   unfoldable pub carveBuckets : ℕ → List (List ℕ) → List (List ℕ)
   unfolding eachBy carveSegment
@@ -127,29 +132,24 @@ module _ (maxLeaf minLeaf : ℕ) (fraction : Float) (vs : List (List Float)) whe
 
   from-equation : (left : ℕ) (leaf : Bool) (level : ℕ) (ids : List ℕ)
       → carveFrom (suc left) leaf level ids
-      ≡ pick leaf (ids ∷ []) (eachBy (λ (bucket : List ℕ). carveFrom left (isLeaf (level + 1) bucket) (level + 1) bucket) (bucketsOf level ids))
+      ≡ pick leaf (ids ∷ []) (eachBy (λ (bucket : List ℕ). carveFrom left (isLeaf maxLeaf (level + 1) bucket) (level + 1) bucket) (bucketsOf minLeaf fraction vs level ids))
   unfolding carveFrom pick
   from-equation left true level ids = refl
   from-equation left false level ids = refl
 
-  above-is-leaf : (level : ℕ) (ids : List ℕ) → 20 < level → T (isLeaf level ids)
-  unfolding isLeaf
-  above-is-leaf level ids h =
-      subst T (sym (ap (λ (fan : ℕ). leb (length ids) maxLeaf || eqb fan 0) (fanout-above level h) ∙ or-true (leb (length ids) maxLeaf))) tt
-
   pub segment-equation : (level : ℕ) (ids : List ℕ)
-      → carveSegment level ids ≡ pick (isLeaf level ids) (ids ∷ []) (carveBuckets (level + 1) (bucketsOf level ids))
+      → carveSegment level ids ≡ pick (isLeaf maxLeaf level ids) (ids ∷ []) (carveBuckets (level + 1) (bucketsOf minLeaf fraction vs level ids))
   unfolding carveSegment carveBuckets carveFrom
   segment-equation level ids = elim (decLe level 20) [
     | yes h ↦
         let now : 21 - level ≡ suc (20 - level) = omega arith in
         let next : 20 - level ≡ 21 - (level + 1) = omega arith in
-        ap (λ (left : ℕ). carveFrom left (isLeaf level ids) level ids) now
-        ∙ from-equation (20 - level) (isLeaf level ids) level ids
-        ∙ ap (λ (left : ℕ). pick (isLeaf level ids) (ids ∷ []) (eachBy (λ (bucket : List ℕ). carveFrom left (isLeaf (level + 1) bucket) (level + 1) bucket) (bucketsOf level ids))) next
+        ap (λ (left : ℕ). carveFrom left (isLeaf maxLeaf level ids) level ids) now
+        ∙ from-equation (20 - level) (isLeaf maxLeaf level ids) level ids
+        ∙ ap (λ (left : ℕ). pick (isLeaf maxLeaf level ids) (ids ∷ []) (eachBy (λ (bucket : List ℕ). carveFrom left (isLeaf maxLeaf (level + 1) bucket) (level + 1) bucket) (bucketsOf minLeaf fraction vs level ids))) next
     | no h ↦
         let none : 21 - level ≡ 0 = omega arith in
-        ap (λ (left : ℕ). carveFrom left (isLeaf level ids) level ids) none ∙ sym (pick-yes (isLeaf level ids) _ _ (above-is-leaf level ids (omega arith)))
+        ap (λ (left : ℕ). carveFrom left (isLeaf maxLeaf level ids) level ids) none ∙ sym (pick-yes (isLeaf maxLeaf level ids) _ _ (above-is-leaf maxLeaf level ids (omega arith)))
   ]
 
   pub buckets-none : (level : ℕ) → carveBuckets level [] ≡ []
