@@ -2,3 +2,4 @@ pub mod Counting
 pub mod Loops
 pub mod Sums
 pub mod Members
+pub mod Rows

@@ -2,3 +2,4 @@ pub mod Choice
 pub mod Refusals
 pub mod Sum
 pub mod Nodes
+pub mod Rows

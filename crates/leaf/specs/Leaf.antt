@@ -44,7 +44,7 @@ cellsFrom far hash cells (c ∷ candidates) = cellsFrom far hash (putCell far (r
 -- ---- one node's row
 
 -- `dedup_by_key`: of equal neighbours one stays; equal nodes that are no neighbours all stay
-abbrev startsWith : ℕ → List ℕ → Bool
+abbrev pub startsWith : ℕ → List ℕ → Bool
 startsWith x [] = false
 startsWith x (y ∷ ys) = eqb x y
 
@@ -53,38 +53,39 @@ unfolding pick
 dedup [] = []
 dedup (x ∷ xs) = let rest : List ℕ = dedup xs in pick (startsWith x rest) rest (x ∷ rest)
 
-module _ (maxDegree bits dimension : ℕ) (vs : List (List Float)) where
-  unfoldable pub hashOf : ℕ → ℕ → ℕ
-  unfolding simhashResidual
-  hashOf p c = simhashResidual binary32 dimension (vectorOf vs p) (vectorOf vs c) bits
+-- what the row has comes first
+unfoldable pub merged : ℕ → List (List Float) → ℕ → List ℕ → List ℕ → List ℕ
+unfolding sortBy rank dedup
+merged maxDegree vs p row new = take maxDegree (dedup (sortBy (rank vs p) (row ++ new)))
 
+-- the hash of the residual of a candidate c, seen from p
+unfoldable pub hashOf : ℕ → ℕ → List (List Float) → ℕ → ℕ → ℕ
+unfolding simhashResidual
+hashOf bits dimension vs p c = simhashResidual binary32 dimension (vectorOf vs p) (vectorOf vs c) bits
+
+-- the other places of a leaf as place i sees them, the nearest first; of equally near ones the earlier place
+unfoldable pub candidatesAt : ℕ → List (List Float) → List ℕ → ℕ → List ℕ
+unfolding sortBy rank
+candidatesAt maxDegree vs leaf i =
+    firstBy (rank vs (getD leaf i 0)) (2 * min maxDegree (length leaf - 1)) (take i leaf ++ drop (suc i) leaf)
+
+module _ (maxDegree bits dimension : ℕ) (vs : List (List Float)) where
   -- the nearest of the nodes that hold cells after the candidates have come; of equally near ones that of the lower hash
   unfoldable pub selected : ℕ → List ℕ → List ℕ
   unfolding sortBy rank between hashOf cellsFrom
-  selected p candidates = firstBy (rank vs p) maxDegree (nodesIn (cellsFrom (between vs p) (hashOf p) [] candidates))
-
-  -- what the row has comes first
-  unfoldable pub merged : ℕ → List ℕ → List ℕ → List ℕ
-  unfolding sortBy rank dedup
-  merged p row new = take maxDegree (dedup (sortBy (rank vs p) (row ++ new)))
+  selected p candidates = firstBy (rank vs p) maxDegree (nodesIn (cellsFrom (between vs p) (hashOf bits dimension vs p) [] candidates))
 
   unfoldable pub hashpruneInsert : ℕ → List ℕ → List (List ℕ) → List (List ℕ)
   unfolding selected merged
-  hashpruneInsert p candidates rows = set rows p (merged p (getD rows p []) (selected p candidates))
+  hashpruneInsert p candidates rows = set rows p (merged maxDegree vs p (getD rows p []) (selected p candidates))
 
   -- ---- a leaf
-
-  -- the other places of the leaf, the nearest first; of equally near ones the earlier place
-  unfoldable pub candidatesAt : List ℕ → ℕ → List ℕ
-  unfolding sortBy rank
-  candidatesAt leaf i =
-      firstBy (rank vs (getD leaf i 0)) (2 * min maxDegree (length leaf - 1)) (take i leaf ++ drop (suc i) leaf)
 
   -- the rows after the turns of the places below i
   unfoldable pub placesTo : List ℕ → List (List ℕ) → ℕ → List (List ℕ)
   unfolding hashpruneInsert candidatesAt
   placesTo leaf rows zero = rows
-  placesTo leaf rows (suc i) = hashpruneInsert (getD leaf i 0) (candidatesAt leaf i) (placesTo leaf rows i)
+  placesTo leaf rows (suc i) = hashpruneInsert (getD leaf i 0) (candidatesAt maxDegree vs leaf i) (placesTo leaf rows i)
 
   -- a leaf of one node or none changes nothing
   unfoldable pub buildLeaf : List ℕ → List (List ℕ) → List (List ℕ)

@@ -38,19 +38,19 @@ addReverseEdges maxDegree rows = reverseTo maxDegree rows (length rows)
 
 -- ---- the final prune
 
-module _ (maxDegree : ℕ) (alpha : Float) (vs : List (List Float)) where
-  -- a node chosen before is, times alpha, nearer to the candidate c than node i is
-  unfoldable pub crowded : ℕ → List ℕ → ℕ → Bool
-  unfolding between
-  crowded i [] c = false
-  crowded i (s ∷ chosen) c = lt (mul binary32 alpha (between vs s c)) (between vs i c) || crowded i chosen c
+-- a node chosen before is, times alpha, nearer to the candidate c than node i is
+unfoldable pub crowded : Float → List (List Float) → ℕ → List ℕ → ℕ → Bool
+unfolding between
+crowded alpha vs i [] c = false
+crowded alpha vs i (s ∷ chosen) c = lt (mul binary32 alpha (between vs s c)) (between vs i c) || crowded alpha vs i chosen c
 
+module _ (maxDegree : ℕ) (alpha : Float) (vs : List (List Float)) where
   -- the candidates come in their order; once max_degree are chosen no more are
   unfoldable pub chooseFrom : ℕ → List ℕ → List ℕ → List ℕ
   unfolding pick crowded
   chooseFrom i chosen [] = chosen
   chooseFrom i chosen (c ∷ candidates) =
-      chooseFrom i (pick (leb maxDegree (length chosen) || crowded i chosen c) chosen (chosen ++ (c ∷ []))) candidates
+      chooseFrom i (pick (leb maxDegree (length chosen) || crowded alpha vs i chosen c) chosen (chosen ++ (c ∷ []))) candidates
 
   -- a row of at most max_degree entries stays as it is
   unfoldable pub pruneRow : ℕ → List ℕ → List ℕ
