@@ -1,6 +1,6 @@
 // Leaf lists (01, part 5): each node's nearest in its leaves, spread over directions, as `build_leaf`,
-// `hashprune_insert` and `simhash_residual` of src/pipnn/mod.rs choose them. No code yet: the definitions
-// and their laws.
+// `hashprune_insert` and `simhash_residual` of src/pipnn/mod.rs choose them. Definitions
+// and laws.
 //
 // Each place of a leaf offers its node the nearest of the other places. They compete for hash cells, so
 // that nodes in one direction do not fill the row, and the nearest winners join what the row has from

@@ -25,10 +25,6 @@ unfoldable pub fanout : ℕ → ℕ
 unfolding pick
 fanout level = pick (eqb level 0) 2 (pick (leb level 20) 1 0)
 
-pub fanout-above : (level : ℕ) → 20 < level → fanout level ≡ 0
-unfolding fanout
-fanout-above level h = pick-no (eqb level 0) 2 _ (no-eqb {a = level} {b = 0} (λ (e : level ≡ 0). absurd (omega arith))) ∙ pick-no (leb level 20) 1 0 (no-leb h)
-
 -- ---- dealing a segment to its leaders
 
 -- the nodes at the positions drawn, in the order in which they were drawn
@@ -87,24 +83,31 @@ gathered minLeaf buckets =
 
 -- ---- carving
 
--- the leaves of each bucket in its turn
+-- the leaves of each bucket in its turn, by what carves a bucket
 unfoldable pub eachBy : (List ℕ → List (List ℕ)) → List (List ℕ) → List (List ℕ)
 eachBy carve [] = []
 eachBy carve (bucket ∷ buckets) = carve bucket ++ eachBy carve buckets
 
+-- it fits, or is too deep
 unfoldable pub isLeaf : ℕ → ℕ → List ℕ → Bool
 unfolding fanout
 isLeaf maxLeaf level ids = leb (length ids) maxLeaf || eqb (fanout level) 0
-
-pub above-is-leaf : (maxLeaf level : ℕ) (ids : List ℕ) → 20 < level → T (isLeaf maxLeaf level ids)
-unfolding isLeaf
-above-is-leaf maxLeaf level ids h =
-    subst T (sym (ap (λ (fan : ℕ). leb (length ids) maxLeaf || eqb fan 0) (fanout-above level h) ∙ or-true (leb (length ids) maxLeaf))) tt
 
 -- the buckets of a segment that is no leaf
 unfoldable pub bucketsOf : ℕ → Float → List (List Float) → ℕ → List ℕ → List (List ℕ)
 unfolding gathered dealt fanout leadersOf
 bucketsOf minLeaf fraction vs level ids = gathered minLeaf (dealt vs (fanout level) (leadersOf fraction level ids) ids)
+
+-- above level 20 every segment is a leaf
+pub fanout-above : (level : ℕ) → 20 < level → fanout level ≡ 0
+unfolding fanout
+fanout-above level h =
+    pick-no (eqb level 0) _ _ (no-eqb {a = level} {b = 0} (λ (e : level ≡ 0). absurd (omega arith))) ∙ pick-no (leb level 20) _ _ (no-leb h)
+
+pub above-is-leaf : (maxLeaf level : ℕ) (ids : List ℕ) → 20 < level → T (isLeaf maxLeaf level ids)
+unfolding isLeaf
+above-is-leaf maxLeaf level ids h =
+    subst T (sym (ap (λ (fan : ℕ). leb (length ids) maxLeaf || eqb fan 0) (fanout-above level h) ∙ or-true (leb (length ids) maxLeaf))) tt
 
 module _ (maxLeaf minLeaf : ℕ) (fraction : Float) (vs : List (List Float)) where
   -- `left` levels are left; the test says whether this segment is a leaf

@@ -1,5 +1,5 @@
 // Carving (01, part 4): the nodes of an index in small overlapping leaves, as `partition` of
-// src/pipnn/mod.rs makes them. No code yet: the definitions and their laws.
+// src/pipnn/mod.rs makes them. Definitions and laws.
 //
 // A segment is dealt to leaders drawn from it, small buckets gather, and each bucket is carved one level
 // down, until a segment fits a leaf or 20 levels are passed. The first level deals each node to two

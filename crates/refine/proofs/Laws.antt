@@ -1,12 +1,12 @@
 -- Reverse edges keep the rows within max_degree, so that the final prune, which skips such rows, changes nothing. Assumes nothing.
 use mathlib.Core.Path.{_≡_, refl, ap, _∙_}
 use mathlib.Core.Logic.{_⊎_, inl, inr}
-use mathlib.Core.Bool.{not, _&&_}
+use mathlib.Core.Bool.{not}
 use mathlib.Core.List.{List, [], _∷_, _++_}
 use mathlib.Core.List.{List·Memᴰ as In, List·Memᴰ·append-cases as in-cases, List·Memᴰ·eq-of-singleton as in-one}
 use Prim.Native.Nat.{ℕ, zero, suc, _≤_, _<_}
 use native.Mathlib.Omega.{arith}
-use lib.Dec.{leb, ltb, ltb→lt}
+use lib.Dec.{T, leb, ltb, ltb→lt}
 use lib.ListN.{length, getD, set, length-append}
 use lib.Seq.{set-getD}
 use lib.Ieee.{Float}
@@ -16,17 +16,21 @@ use Rattle.basics.specs.Nodes.{has}
 use Rattle.basics.specs.Rows.{Rows}
 use Rattle.basics.proofs.Members.{both-right}
 use Rattle.basics.proofs.Rows.{set-rows}
-use Rattle.refine.specs.Refine.{addBack, addBacks, reverseTo, addReverseEdges, pruneRow, pruneTo, finalPrune}
+use Rattle.refine.specs.Refine.{takes, addBack, addBacks, reverseTo, addReverseEdges, pruneRow, pruneTo, finalPrune}
 
 -- ---- reverse edges
+
+takes-room : (maxDegree i : ℕ) (row : List ℕ) → T (takes maxDegree i row) → length row < maxDegree
+unfolding takes
+takes-room maxDegree i row t = ltb→lt (length row) maxDegree (both-right (not (has i row)) (ltb (length row) maxDegree) t)
 
 module _ (n maxDegree : ℕ) where
   back-rows : (i nb : ℕ) (rows : List (List ℕ)) → i < n → Rows n maxDegree rows → Rows n maxDegree (addBack maxDegree i nb rows)
   unfolding addBack
   back-rows i nb rows l h =
-      pick-ind (Rows n maxDegree) (not (has i row) && ltb (length row) maxDegree)
+      pick-ind (Rows n maxDegree) (takes maxDegree i row)
       (λ t. set-rows n maxDegree rows nb (row ++ (i ∷ [])) h
-      (omega (arith, length-append row (i ∷ []), ltb→lt (length row) maxDegree (both-right (not (has i row)) (ltb (length row) maxDegree) t)))
+      (omega (arith, length-append row (i ∷ []), takes-room maxDegree i row t))
       (λ v m. go v (in-cases row m))) (λ _. h)
     where
       row : List ℕ

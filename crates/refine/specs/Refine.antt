@@ -12,12 +12,17 @@ use Rattle.vectors.specs.Vectors.{between, rank}
 
 -- ---- reverse edges
 
--- node i goes to the end of neighbour nb's row, if that lacks it and has fewer than max_degree entries
+-- a row takes node i if it lacks it and has fewer than max_degree entries
+unfoldable pub takes : ℕ → ℕ → List ℕ → Bool
+unfolding has
+takes maxDegree i row = not (has i row) && ltb (length row) maxDegree
+
+-- node i goes to the end of its neighbour nb's row, if that takes it
 unfoldable pub addBack : ℕ → ℕ → ℕ → List (List ℕ) → List (List ℕ)
-unfolding pick has
+unfolding pick takes
 addBack maxDegree i nb rows =
     let row : List ℕ = getD rows nb [] in
-    pick (not (has i row) && ltb (length row) maxDegree) (set rows nb (row ++ (i ∷ []))) rows
+    pick (takes maxDegree i row) (set rows nb (row ++ (i ∷ []))) rows
 
 unfoldable pub addBacks : ℕ → ℕ → List ℕ → List (List ℕ) → List (List ℕ)
 unfolding addBack
