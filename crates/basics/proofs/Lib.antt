@@ -4,3 +4,5 @@ pub mod Loops
 pub mod Refusals
 pub mod Sums
 pub mod Tests
+pub mod Members
+pub mod Rows
