@@ -1,0 +1,3 @@
+pub mod KeepClosest
+pub mod Beam
+pub mod Rising
