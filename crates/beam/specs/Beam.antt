@@ -7,6 +7,7 @@ use lib.Dec.{leb, ltb}
 use lib.IntN.{negsuc}
 use lib.ListN.{length}
 use lib.Ieee.{Float, binary32, fin, mul, lt}
+use Rattle.order.specs.Order.{keyOf}
 use Rattle.distance.specs.Distance.{distanceOf}
 use Rattle.vectors.specs.Vectors.{vectorOf}
 use Rattle.sorting.specs.Sorting.{sortBy, firstBy}
@@ -59,5 +60,5 @@ answerable scored = scored
 
 -- the nearest k of them (all, if fewer), nearest first; of equally near ones the one scored first
 unfoldable pub answerOf : (ℕ → Float) → ℕ → List ℕ → List ℕ
-unfolding sortBy
+unfolding sortBy keyOf
 answerOf far k scored = firstBy (keyAt far) k (answerable scored)
