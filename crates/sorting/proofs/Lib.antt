@@ -1,0 +1,5 @@
+pub mod Laws
+pub mod Pairs
+mod Inserting
+mod Keeping
+mod Short
