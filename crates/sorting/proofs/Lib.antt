@@ -3,3 +3,4 @@ pub mod Pairs
 mod Inserting
 mod Keeping
 mod Short
+mod Merging
