@@ -4,3 +4,4 @@ mod Inserting
 mod Keeping
 mod Short
 mod Merging
+mod Halving
