@@ -1,1 +1,7 @@
-pub mod Members
+pub mod Laws
+pub mod Pairs
+mod Inserting
+mod Keeping
+mod Short
+mod Merging
+mod Halving
