@@ -3,15 +3,15 @@
 use mathlib.Core.Path.{_≡_, refl, sym, ap, _∙_, subst}
 use mathlib.Core.Logic.{_≢_, _⊎_, inl, inr}
 use mathlib.Core.Bool.{Bool, true, false, not, _||_}
-use mathlib.Core.List.{List, [], _∷_, _++_}
-use mathlib.Core.List.{List·Memᴰ as In, List·Memᴰ·head as here, List·Memᴰ·tail as there, List·Memᴰ·not-nil as in-nil, List·Memᴰ·cases-cons as in-cons, Memᴰ·cast as in-cast, Memᴰ·append-left as in-left, Memᴰ·append-right as in-right, List·Memᴰ·append-cases as in-cases}
-use Prim.Native.Nat.{ℕ, zero, suc, _+_, _≤_, _<_}
+use mathlib.Core.List.{List, [], _∷_}
+use mathlib.Core.List.{List·Memᴰ as In, List·Memᴰ·head as here, List·Memᴰ·tail as there, List·Memᴰ·not-nil as in-nil, List·Memᴰ·cases-cons as in-cons, Memᴰ·cast as in-cast}
+use Prim.Native.Nat.{ℕ, zero, suc, _≤_, _<_}
 use native.Mathlib.Omega.{arith}
 use native.Mathlib.Decide.{decLt}
-use lib.ListN.{length, length-append}
-use lib.Dec.{T, eqb, eqb→eq, eqb-refl}
-use mir.Facts.{eqb-no, yes-eqb}
-use Rattle.basics.specs.Choice.{pick, pick-ind, pick-yes, pick-no}
+use lib.ListN.{length}
+use lib.Dec.{T, eqb, eqb→eq}
+use mir.Facts.{yes-eqb}
+use Rattle.basics.specs.Choice.{pick, pick-ind, pick-yes}
 use Rattle.basics.specs.Nodes.{has, NoDup, Below}
 
 -- ---- membership, as a test

@@ -3,3 +3,4 @@ pub mod Loops
 pub mod Sums
 pub mod Members
 pub mod Rows
+pub mod Tests

@@ -2,11 +2,11 @@
 use mathlib.Core.List.{List, [], _∷_}
 use lib.Ieee.{Float, Format, add, mul}
 use Rattle.basics.specs.Sum.{sumFrom, products}
-use mathlib.Core.Path.{_≡_, refl, sym, ap, _∙_}
-use Prim.Native.Nat.{ℕ, suc, _+_, _≤_, _<_}
+use mathlib.Core.Path.{_≡_, refl, ap}
+use Prim.Native.Nat.{ℕ, _+_, _≤_, _<_}
 use native.Mathlib.Numerals.{add-one}
-use lib.ListN.{length, getD, drop, drop-of-length-le}
-use lib.Seq.{drop-cons}
+use lib.ListN.{length, getD, take, drop, drop-of-length-le}
+use lib.Seq.{drop-cons, take-nil}
 use lib.Ieee.{nan}
 
 -- the sum of products from component i on takes one step
@@ -31,3 +31,10 @@ pub sum-end-right : (f : Format) (total : Float) (xs ys : List Float) (i : ℕ) 
     → sumFrom f total (products f (drop i xs) (drop i ys)) ≡ total
 unfolding sumFrom
 sum-end-right f total xs ys i h = rw (drop-of-length-le ys h, products-nil f (drop i xs))
+
+-- what lies past the shorter list plays no part
+pub products-take : (f : Format) (xs ys : List Float) → products f (take (length ys) xs) ys ≡ products f xs ys
+unfolding products
+products-take f [] ys = ap (λ (l : List Float). products f l ys) (take-nil (length ys))
+products-take f (x ∷ xs) [] = refl
+products-take f (x ∷ xs) (y ∷ ys) = ap (λ (l : List Float). mul f x y ∷ l) (products-take f xs ys)

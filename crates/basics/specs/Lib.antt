@@ -3,3 +3,4 @@ pub mod Refusals
 pub mod Sum
 pub mod Nodes
 pub mod Rows
+pub mod Lists

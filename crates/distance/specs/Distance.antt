@@ -3,11 +3,21 @@ use mathlib.Core.Bool.{false}
 use mathlib.Core.List.{List}
 use lib.Dec.{eqb}
 use lib.ListN.{length}
-use lib.Ieee.{Float, Format, inf, sub}
+use lib.Ieee.{Float, Format, binary32, inf, sub}
 use Rattle.basics.specs.Choice.{pick}
 use Rattle.basics.specs.Sum.{+one}
 use Rattle.simd.specs.Dot.{dotOf}
+use Rattle.simd.specs.declared.Four.{Four}
 
 unfoldable pub distanceOf : Format → List Float → List Float → Float
 unfolding pick dotOf
 distanceOf f xs ys = pick (eqb (length xs) (length ys)) (sub f +one (dotOf f xs ys)) (inf false)
+
+-- four rows at once: each number is the single row's
+abbrev pub distancesOf : List Float → List Float → List Float → List Float → List Float → Four
+distancesOf q a b c d = record {
+  a = distanceOf binary32 q a;
+  b = distanceOf binary32 q b;
+  c = distanceOf binary32 q c;
+  d = distanceOf binary32 q d;
+}

@@ -2,8 +2,8 @@
 use Prim.Native.Nat.{ℕ, _+_, _*_, _/_, _%_, _^_}
 
 -- r becomes r·6364136223846793005 + addend, added and multiplied modulo 2^64
-unfoldable pub next : ℕ → ℕ → ℕ
-next addend r = (r * 6364136223846793005 + addend) % 2 ^ 64
+unfoldable pub nextOf : ℕ → ℕ → ℕ
+nextOf addend r = (r * 6364136223846793005 + addend) % 2 ^ 64
 
 -- h is r shifted right by 33
 abbrev pub high : ℕ → ℕ

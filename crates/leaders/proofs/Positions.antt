@@ -6,16 +6,11 @@ use mathlib.Core.List.{List·Memᴰ as In, List·Memᴰ·head as here, List·Mem
 use Prim.Native.Nat.{ℕ, zero, suc, _%_, _<_}
 use native.Mathlib.Omega.{arith}
 use native.Mathlib.Decide.{decLt}
-use lib.ListN.{length, length-append}
+use lib.ListN.{length}
 use lib.Ieee.{Float}
 use Rattle.basics.specs.Nodes.{NoDup, Below}
-use Rattle.lcg.specs.Lcg.{next, high, drawAddend}
+use Rattle.lcg.specs.Lcg.{nextOf, high, drawAddend}
 use Rattle.leaders.specs.Leaders.{upTo, drawn, swapRemove, leaderCount, leaderPositions}
-
-pub length-upTo : (n : ℕ) → length (upTo n) ≡ n
-unfolding upTo
-length-upTo zero = refl
-length-upTo (suc n) = let r = length-upTo n in omega (arith, length-append (upTo n) (n ∷ []))
 
 pub in-upTo : (n x : ℕ) → x < n → In x (upTo n)
 unfolding upTo
@@ -52,8 +47,8 @@ length-drawn : (count r : ℕ) (left : List ℕ) → length (drawn count r left)
 unfolding drawn
 length-drawn zero r left = refl
 length-drawn (suc count) r left =
-    let p : ℕ = high (next drawAddend r) % length left in
-    ap suc (length-drawn count (next drawAddend r) (swapRemove p left))
+    let p : ℕ = high (nextOf drawAddend r) % length left in
+    ap suc (length-drawn count (nextOf drawAddend r) (swapRemove p left))
 
 -- as many positions as leaders
 pub length-positions : (level n : ℕ) (fraction : Float) → length (leaderPositions level n fraction) ≡ leaderCount n fraction

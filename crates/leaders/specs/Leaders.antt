@@ -3,8 +3,8 @@ use mathlib.Core.List.{List, [], _∷_, _++_}
 use Prim.Native.Nat.{ℕ, zero, suc, _+_, _-_, _*_, _%_, _^_, min, max}
 use lib.IntN.{pos}
 use lib.Ieee.{Float, binary64, mul, ofInt, toUnsigned}
-use lib.ListN.{length, getD, set, take}
-use Rattle.lcg.specs.Lcg.{next, high, drawAddend}
+use lib.ListN.{length, getD, set, take, drop}
+use Rattle.lcg.specs.Lcg.{nextOf, high, drawAddend}
 
 -- the floor of the rounded product of length and fraction, at least 2, at most the length
 abbrev pub leaderCount : ℕ → Float → ℕ
@@ -20,10 +20,10 @@ swapRemove p left = take (length left - 1) (set left p (getD left (length left -
 
 -- `count` draws from those left: each steps r, and takes the position that r gives
 unfoldable pub drawn : ℕ → ℕ → List ℕ → List ℕ
-unfolding next swapRemove
+unfolding nextOf swapRemove
 drawn zero r left = []
 drawn (suc count) r left =
-    let r′ : ℕ = next drawAddend r in
+    let r′ : ℕ = nextOf drawAddend r in
     let p : ℕ = high r′ % length left in
     getD left p 0 ∷ drawn count r′ (swapRemove p left)
 
@@ -36,3 +36,7 @@ upTo (suc n) = upTo n ++ (n ∷ [])
 unfoldable pub leaderPositions : ℕ → ℕ → Float → List ℕ
 unfolding drawn upTo
 leaderPositions level n fraction = drawn (leaderCount n fraction) (drawStart level) (upTo n)
+
+-- as many of them as a slice has room for, at its front
+unfoldable pub drawnInto : ℕ → ℕ → List ℕ → List ℕ
+drawnInto level n out = let count : ℕ = min (length out) n in drawn count (drawStart level) (upTo n) ++ drop count out

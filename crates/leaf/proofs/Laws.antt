@@ -14,7 +14,7 @@ use Rattle.basics.specs.Rows.{Rows}
 use Rattle.basics.proofs.Members.{in-take, in-drop}
 use Rattle.basics.proofs.Rows.{set-rows}
 use Rattle.sorting.specs.Sorting.{sortBy}
-use Rattle.sorting.proofs.Members.{in-sort}
+use Rattle.sorting.proofs.Laws.{in-sort}
 use Rattle.vectors.specs.Vectors.{between, rank}
 use Rattle.leaf.specs.Leaf.{startsWith, dedup, hashOf, selected, merged, hashpruneInsert, candidatesAt, placesTo, buildLeaf, buildLeaves}
 use Rattle.leaf.proofs.Cells.{cells-in}

@@ -1,6 +1,63 @@
-// The entry node (01, part 6), as `compute_medoid` of src/pipnn/mod.rs finds it: the node nearest to the
-// centroid. Definitions and laws.
+// The centroid of the stored vectors (01, part 6), the first half of the Rust's `compute_medoid`. Of the
+// second half, the node nearest to it, here are the definition and its laws.
 //
-// specs/Centroid   the mean of the stored vectors, component by component
-// specs/Medoid     the nearest node to it, the lowest of equally near ones
-// proofs/Laws      it is one of the nodes
+// Components are summed node by node, in the order of adding, each step rounded, and then divided by
+// the number of nodes as an f32. Equal to `centroidOf` of specs/Centroid.
+//
+// specs/Medoid   the nearest node to the centroid, the lowest of equally near ones
+// proofs/Laws    it is one of the nodes
+ghost use mathlib.Core.Path.{_≡_};
+ghost use Prim.Native.Nat.{_*_, _^_, _≤_};
+ghost use lib.ListN.{length, replicate};
+ghost use lib.Ieee.{binary32};
+ghost use Rattle.basics.specs.Lists.{pieces};
+ghost use Rattle.basics.specs.Sum.{+zero};
+ghost use Rattle.medoid.specs.Centroid.{addTo, sumsFrom, centroidOf};
+
+// The centroid of the first n rows of `vectors`, whose dimension is the length of `out`. The number of
+// rows is one that an f32 counts without a gap.
+pub fn centroid(vectors: &[f32], n: usize, out: &mut [f32])
+    requires { ⌜ (n * length (now out) ≤ length (now vectors)) × (n ≤ 2 ^ 24) ⌝ }
+    ensures { λ _. ⌜ now (out .exit) ≡ centroidOf binary32 (length (now (out .entry))) (pieces (length (now (out .entry))) n (now (vectors .entry))) ⌝ }
+{
+    clear(out);
+    sum_rows(vectors, n, out);
+    norm::divide(out, n as f32);
+}
+
+fn clear(out: &mut [f32])
+    ensures { λ _. ⌜ now (out .exit) ≡ replicate (length (now (out .entry))) +zero ⌝ }
+{
+    let mut i: usize = 0;
+    while i < out.len() {
+        out[i] = 0.0;
+        i += 1;
+    }
+}
+
+// The rows added to the sums, one after the other.
+fn sum_rows(vectors: &[f32], n: usize, sums: &mut [f32])
+    requires { ⌜ n * length (now sums) ≤ length (now vectors) ⌝ }
+    ensures { λ _. ⌜ now (sums .exit) ≡ sumsFrom binary32 (now (sums .entry)) (pieces (length (now (sums .entry))) n (now (vectors .entry))) ⌝ }
+{
+    let dimension = sums.len();
+    let mut at: usize = 0;
+    let mut i: usize = 0;
+    while i < n {
+        let end = at + dimension;
+        add_row(&vectors[at..end], sums);
+        at = end;
+        i += 1;
+    }
+}
+
+fn add_row(row: &[f32], sums: &mut [f32])
+    requires { ⌜ length (now row) ≡ length (now sums) ⌝ }
+    ensures { λ _. ⌜ now (sums .exit) ≡ addTo binary32 (now (sums .entry)) (now (row .entry)) ⌝ }
+{
+    let mut j: usize = 0;
+    while j < sums.len() {
+        sums[j] = sums[j] + row[j];
+        j += 1;
+    }
+}

@@ -5,17 +5,21 @@ use Prim.Native.Nat.{_^_}
 use lib.Ieee.{Float, Format, round, lt, div}
 use Rattle.basics.specs.Choice.{pick}
 use Rattle.basics.specs.Sum.{sumFrom, sumOf, products}
-use Rattle.norm.specs.Root.{rootOf}
+use Rattle.root.specs.Root.{rootOf}
 
 -- 1e-10, rounded to the format
 unfoldable pub tiny : Format → Float
 unfolding round
 tiny f = round f false 1 (10 ^ 10)
 
--- the squares added from the first component on, then the root
+-- the squares added from the first component on
+unfoldable pub squaresOf : Format → List Float → Float
+unfolding sumFrom products
+squaresOf f v = sumOf f (products f v v)
+
 unfoldable pub lengthOf : Format → List Float → Float
-unfolding sumFrom products rootOf
-lengthOf f v = rootOf f (sumOf f (products f v v))
+unfolding squaresOf rootOf
+lengthOf f v = rootOf f (squaresOf f v)
 
 -- each component divided by the length, where that is above 1e-10; otherwise the vector as it is
 unfoldable pub scaledOf : Format → List Float → List Float

@@ -2,7 +2,7 @@
 use Prim.Native.Nat.{ℕ, zero, suc, _+_, _-_, _*_, _/_, _%_, _^_}
 use mathlib.Core.Bool.{Bool, true, false}
 use lib.IntN.{ℤ}
-use lib.Dec.{leb}
+use lib.Dec.{leb, eqb}
 use lib.Ieee.{Float, nan, inf, fin, up, down, Format, prec, low, size, odd}
 use Rattle.basics.specs.Choice.{pick}
 
@@ -45,3 +45,8 @@ rootOf f nan = nan
 rootOf f (inf s) = pick s nan (inf false)
 rootOf f (fin s zero e) = fin s zero e
 rootOf f (fin s (suc m) e) = pick s nan (rootUnits f (unitsOf f (suc m) e))
+
+-- how many of binary32's smallest values the pattern b, with no sign and below the infinity's, stands for
+unfoldable pub patternUnits : ℕ → ℕ
+unfolding pick
+patternUnits b = pick (eqb (b / 2 ^ 23) 0) (b % 2 ^ 23) ((2 ^ 23 + b % 2 ^ 23) * 2 ^ (b / 2 ^ 23 - 1))

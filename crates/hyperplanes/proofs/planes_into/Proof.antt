@@ -1,0 +1,111 @@
+-- The invariant: the first k numbers stand at the front, what was there follows. The measure is what is left of n. Assumes nothing.
+use borrow.Author.Needs.{needs}
+use native.Mathlib.Omega.{arith}
+use mathlib.Core.Path.{_≡_, refl, sym, ap, _∙_}
+use mathlib.Core.List.{List, []}
+use mathlib.Core.List.{_∷_, _++_}
+use Prim.Native.Nat.{ℕ, zero, suc, _+_, _-_, _≤_, _<_, min}
+use native.Mathlib.Numerals.{add-one}
+use lib.ListN.{length, getD, drop, set, length-append, length-set}
+use lib.Ieee.{Float, binary32, ofBits}
+use Rattle.basics.proofs.Loops.{front-set}
+use Rattle.hyperplanes.specs.Hyperplanes.{planeNumber, planeNumbers}
+use Rattle.hyperplanes.proofs.Stream.{read}
+use Rattle.hyperplanes.proofs.Table.{table, rule}
+use Rattle.hyperplanes.proofs.planes_into.Statement.{statement}
+use Rattle.hyperplanes.proofs.planes_into.Tie as tie
+
+length-planes : (n : ℕ) → length (planeNumbers binary32 n) ≡ n
+unfolding planeNumbers
+length-planes zero = refl
+length-planes (suc n) = let r = length-planes n in omega (arith, length-append (planeNumbers binary32 n) (planeNumber binary32 n ∷ []))
+
+planes-more : (k : ℕ) → planeNumbers binary32 k ++ (planeNumber binary32 k ∷ []) ≡ planeNumbers binary32 (k + 1)
+unfolding planeNumbers
+planes-more k = ap (planeNumbers binary32) (sym (add-one k))
+
+-- the turn at k, of an `out` that has the first k numbers
+written : (out₀ out : List Float) (k : ℕ) (v : Float) → out ≡ planeNumbers binary32 k ++ drop k out₀ → k < length out₀ → v ≡ planeNumber binary32 k
+    → set out k v ≡ planeNumbers binary32 (k + 1) ++ drop (k + 1) out₀
+written out₀ out k v e h q =
+    ap (λ (l : List Float). set l k v) e
+    ∙ front-set out₀ (planeNumbers binary32 k) k v (length-planes k) h
+    ∙ ap (λ (x : Float). (planeNumbers binary32 k ++ (x ∷ [])) ++ drop (k + 1) out₀) q
+    ∙ ap (λ (l : List Float). l ++ drop (k + 1) out₀) (planes-more k)
+
+abbrev Inv-loop : tie.InvT-loop
+Inv-loop out₀ table n k₀ out k = (k ≤ n) × (n ≤ length out₀) × (n ≤ 1024) × (length out ≡ length out₀) × (out ≡ planeNumbers binary32 k ++ drop k out₀)
+
+abbrev μ-loop : tie.MeasureT-loop
+μ-loop out₀ table n k₀ out k = n - k
+
+at-most-requires : tie.Need-at-most-requires Inv-loop μ-loop
+at-most-requires c κs = search needs
+
+loop-holds : tie.Need-loop-holds Inv-loop μ-loop
+unfolding planeNumbers
+loop-holds c = (omega arith, omega (arith, c .at-most .ensures), omega (arith, c .at-most .ensures), refl, refl)
+
+mul-out : tie.Need-mul-out Inv-loop μ-loop
+mul-out c = search needs
+
+array-read-out : tie.Need-array-read-out Inv-loop μ-loop
+array-read-out c = search needs
+
+float-from-bits-out : tie.Need-float-from-bits-out Inv-loop μ-loop
+unfolding table
+float-from-bits-out c = rule (c .before .loop .k) (omega arith) .1
+
+mul-out-2 : tie.Need-mul-out-2 Inv-loop μ-loop
+mul-out-2 c = search needs
+
+slice-write-out : tie.Need-slice-write-out Inv-loop μ-loop
+slice-write-out c = search needs
+
+add-k : tie.Need-add-k Inv-loop μ-loop
+add-k c = search needs
+
+loop-less : tie.Need-loop-less Inv-loop μ-loop
+loop-less c = search needs
+
+loop-again : tie.Need-loop-again Inv-loop μ-loop
+unfolding table
+loop-again c =
+    let l = c .before .loop in
+    let out₀ = c .before .before .before .before .args .out .now in
+    let v : Float = ofBits binary32 (getD table (l .k) 0) in (
+      omega arith,
+      omega arith,
+      omega arith,
+      length-set (l .out) (l .k) v ∙ l .inv .3,
+      written out₀ (l .out) (l .k) v (l .inv .4) (omega arith) (read binary32 (l .k) (getD table (l .k) 0) (rule (l .k) (omega arith))),
+    )
+
+same-length : tie.Need-same-length Inv-loop μ-loop
+same-length c = c .before .loop .inv .3
+
+returns : tie.Need-returns Inv-loop μ-loop
+returns c =
+    let l = c .before .loop in
+    let out₀ = c .before .before .before .before .args .out .now in
+    let e : l .k ≡ min (length out₀) 1024 = omega (arith, c .before .before .at-most .ensures) in
+    l .inv .4 ∙ ap (λ (k : ℕ). planeNumbers binary32 k ++ drop k out₀) e
+
+pub planes-into-spec : {M : Type 1} → statement M
+planes-into-spec =
+    tie.close
+    (tie.spec
+    Inv-loop
+    μ-loop
+    at-most-requires
+    loop-holds
+    mul-out
+    array-read-out
+    float-from-bits-out
+    mul-out-2
+    slice-write-out
+    add-k
+    loop-less
+    loop-again
+    same-length
+    returns)

@@ -1,0 +1,25 @@
+-- The product is reduced before the addend is added, which the sum's own reduction makes no difference to. Assumes nothing.
+use borrow.Author.Needs.{needs}
+use mathlib.Core.Path.{ap, _∙_}
+use Prim.Native.Nat.{ℕ, _+_, _*_, _%_, _^_}
+use native.Mathlib.Nat.{mod-add-mod}
+use Rattle.lcg.specs.Lcg.{nextOf}
+use Rattle.lcg.proofs.next.Statement.{statement}
+use Rattle.lcg.proofs.next.Tie as tie
+
+wrapping-mul-requires : tie.Need-wrapping-mul-requires
+wrapping-mul-requires c κs = search needs
+
+wrapping-add-u64-requires : tie.Need-wrapping-add-u64-requires
+wrapping-add-u64-requires c κs = search needs
+
+returns : tie.Need-returns
+unfolding nextOf
+returns c =
+    let x = c .before .before .args in
+    c .wrapping-add-u64 .ensures
+    ∙ ap (λ (m : ℕ). (m + x .addend) % 2 ^ 64) (c .before .wrapping-mul .ensures)
+    ∙ mod-add-mod (x .r * 6364136223846793005) (2 ^ 64) (x .addend)
+
+pub next-spec : {M : Type 1} → statement M
+next-spec = tie.close (tie.spec wrapping-mul-requires wrapping-add-u64-requires returns)

@@ -1,0 +1,121 @@
+-- The invariant: what is left to add from row i on, which starts at `at`, completes the whole. The measure is how many rows are left.
+-- Assumes nothing.
+use borrow.Author.Needs.{needs}
+use native.Mathlib.Omega.{arith}
+use mathlib.Core.Path.{_≡_, refl, sym, ap, subst, _∙_}
+use mathlib.Core.List.{List}
+use Prim.Native.Nat.{ℕ, _+_, _-_, _*_, _≤_, _<_}
+use native.Mathlib.Nat.{mul-le-mul-right, suc-mul}
+use lib.ListN.{length, take, drop, length-drop}
+use lib.Seq.{length-take-le}
+use lib.Ieee.{Float, binary32}
+use Rattle.medoid.specs.Centroid.{addTo}
+use Rattle.medoid.proofs.Sums.{length-addTo, Summing, summing-none, summing-more, summing-done}
+use Rattle.medoid.proofs.sum_rows.Statement.{statement}
+use Rattle.medoid.proofs.sum_rows.Tie as tie
+
+-- row i, which starts at `at`, ends within the rows
+row-end : (n d size i at : ℕ) → n * d ≤ size → i < n → at ≡ i * d → at + d ≤ size
+row-end n d size i at h l e = omega (arith, mul-le-mul-right d l, suc-mul i d)
+
+next-at : (i d at : ℕ) → at ≡ i * d → at + d ≡ (i + 1) * d
+next-at i d at e = omega (arith, suc-mul i d)
+
+-- the part of a row
+part-is : (xs : List Float) (at d : ℕ) → take (at + d - at) (drop at xs) ≡ take d (drop at xs)
+part-is xs at d = let e : at + d - at ≡ d = omega arith in ap (λ (k : ℕ). take k (drop at xs)) e
+
+part-length : (xs : List Float) (at d : ℕ) → at + d ≤ length xs → length (take (at + d - at) (drop at xs)) ≡ d
+part-length xs at d h = ap length (part-is xs at d) ∙ length-take-le d (drop at xs) (omega (arith, length-drop at xs))
+
+abbrev Inv-loop : tie.InvT-loop
+Inv-loop vectors n sums₀ dimension at₀ i₀ sums at i = (i ≤ n) × (at ≡ i * dimension) × (length sums ≡ length sums₀) × Summing vectors dimension n sums₀ at i sums
+
+abbrev μ-loop : tie.MeasureT-loop
+μ-loop vectors n sums₀ dimension at₀ i₀ sums at i = n - i
+
+loop-holds : tie.Need-loop-holds Inv-loop μ-loop
+loop-holds c =
+    let x = c .before .before .args in
+    (omega arith, omega arith, refl, summing-none (x .vectors .now) (length (x .sums .now)) (x .n) (x .sums .now))
+
+add-end : tie.Need-add-end Inv-loop μ-loop
+add-end c =
+    let l = c .before .loop in
+    let start = c .before .before .before .before in
+    let h = row-end (start .args .n) (length (start .args .sums .now)) (length (start .args .vectors .now)) (l .i) (l .at) (start .pre) (c .loop-test .taken) (l .inv .1) in
+    omega arith
+
+mul-add-row : tie.Need-mul-add-row Inv-loop μ-loop
+mul-add-row c =
+    let l = c .before .loop in
+    let start = c .before .before .before .before in
+    let h = row-end (start .args .n) (length (start .args .sums .now)) (length (start .args .vectors .now)) (l .i) (l .at) (start .pre) (c .loop-test .taken) (l .inv .1) in
+    search needs
+
+sub-add-row : tie.Need-sub-add-row Inv-loop μ-loop
+sub-add-row c = search needs
+
+part-add-row-start : tie.Need-part-add-row-start Inv-loop μ-loop
+part-add-row-start c = omega arith
+
+part-add-row-end : tie.Need-part-add-row-end Inv-loop μ-loop
+part-add-row-end c =
+    let l = c .before .loop in
+    let start = c .before .before .before .before in
+    let h = row-end (start .args .n) (length (start .args .sums .now)) (length (start .args .vectors .now)) (l .i) (l .at) (start .pre) (c .loop-test .taken) (l .inv .1) in
+    h
+
+add-row-requires : tie.Need-add-row-requires Inv-loop μ-loop
+add-row-requires c κs =
+    let l = c .before .before .before .loop in
+    let start = c .before .before .before .before .before .before in
+    let h = row-end (start .args .n) (length (start .args .sums .now)) (length (start .args .vectors .now)) (l .i) (l .at) (start .pre) (c .before .before .loop-test .taken) (l .inv .1) in
+    part-length (start .args .vectors .now) (l .at) (length (start .args .sums .now)) h ∙ sym (l .inv .2)
+
+add-i : tie.Need-add-i Inv-loop μ-loop
+add-i c = search needs
+
+loop-less : tie.Need-loop-less Inv-loop μ-loop
+loop-less c = search needs
+
+loop-again : tie.Need-loop-again Inv-loop μ-loop
+loop-again c =
+    let l = c .before .before .before .before .before .before .loop in
+    let x = c .before .before .before .before .before .before .before .before .before .args in
+    let d : ℕ = length (x .sums .now) in
+    let one = c .before .before .add-row .ensures ∙ ap (addTo binary32 (l .sums)) (part-is (x .vectors .now) (l .at) d) in (
+      omega arith,
+      next-at (l .i) d (l .at) (l .inv .1),
+      ap length one ∙ length-addTo binary32 (l .sums) (take d (drop (l .at) (x .vectors .now))) ∙ l .inv .2,
+      subst (Summing (x .vectors .now) d (x .n) (x .sums .now) (l .at + d) (l .i + 1)) (sym one)
+          (summing-more (x .vectors .now) d (x .n) (x .sums .now) (l .at) (l .i) (l .sums) (omega arith) (l .inv .3)),
+    )
+
+same-length : tie.Need-same-length Inv-loop μ-loop
+same-length c = c .before .loop .inv .2
+
+returns : tie.Need-returns Inv-loop μ-loop
+returns c =
+    let l = c .before .loop in
+    let x = c .before .before .before .before .args in
+    summing-done (x .vectors .now) (length (x .sums .now)) (x .n) (x .sums .now) (l .at) (l .i) (l .sums) (omega arith) (l .inv .3)
+
+pub sum-rows-spec : {M : Type 1} → statement M
+sum-rows-spec =
+    tie.close
+    (tie.spec
+    Inv-loop
+    μ-loop
+    loop-holds
+    add-end
+    mul-add-row
+    sub-add-row
+    part-add-row-start
+    part-add-row-end
+    add-row-requires
+    add-i
+    loop-less
+    loop-again
+    same-length
+    returns)
