@@ -41,7 +41,7 @@ workedSettings = record {
   leaderFraction = half;
   maxDegree = 1;
   numHashBits = 0;
-  finalPruned = true;
+  finalPrune = true;
   alpha = alpha;
 }
 
@@ -96,7 +96,7 @@ leafSettings = record {
   leaderFraction = threeQuarters;
   maxDegree = 2;
   numHashBits = 3;
-  finalPruned = true;
+  finalPrune = true;
   alpha = alpha;
 }
 
@@ -134,7 +134,7 @@ twiceSettings = record {
   leaderFraction = threeQuarters;
   maxDegree = 3;
   numHashBits = 3;
-  finalPruned = true;
+  finalPrune = true;
   alpha = alpha;
 }
 

@@ -30,7 +30,7 @@ module _ (p : Settings) (vs : List (List Float)) where
   pub prune-changes-nothing : rowsOf p vs ≡ reversedRows p vs
   unfolding rowsOf
   prune-changes-nothing =
-      pick-ind (λ (rows : List (List ℕ)). rows ≡ reversedRows p vs) (p .finalPruned)
+      pick-ind (λ (rows : List (List ℕ)). rows ≡ reversedRows p vs) (p .finalPrune)
       (λ _. prune-stays (p .maxDegree) (p .alpha) vs (reversedRows p vs) (reversed-bounds .short)) (λ _. refl)
 
   pub rows-bounds : Rows (length vs) (p .maxDegree) (rowsOf p vs)

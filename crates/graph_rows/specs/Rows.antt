@@ -19,7 +19,7 @@ pub record Settings : Type 0 where
   pub leaderFraction : Float
   pub maxDegree : ℕ
   pub numHashBits : ℕ
-  pub finalPruned : Bool
+  pub finalPrune : Bool
   pub alpha : Float
 
 -- each leaf's lists, from empty rows
@@ -38,7 +38,7 @@ reversedRows p vs = addReverseEdges (p .maxDegree) (leafRows p vs)
 -- the lists before repair
 unfoldable pub rowsOf : Settings → List (List Float) → List (List ℕ)
 unfolding pick reversedRows finalPrune
-rowsOf p vs = pick (p .finalPruned) (finalPrune (p .maxDegree) (p .alpha) vs (reversedRows p vs)) (reversedRows p vs)
+rowsOf p vs = pick (p .finalPrune) (finalPrune (p .maxDegree) (p .alpha) vs (reversedRows p vs)) (reversedRows p vs)
 
 -- the entry node
 unfoldable pub entryOf : Settings → List (List Float) → ℕ

@@ -6,16 +6,11 @@ use mathlib.Core.List.{List·Memᴰ as In, List·Memᴰ·head as here, List·Mem
 use Prim.Native.Nat.{ℕ, zero, suc, _%_, _<_}
 use native.Mathlib.Omega.{arith}
 use native.Mathlib.Decide.{decLt}
-use lib.ListN.{length, length-append}
+use lib.ListN.{length}
 use lib.Ieee.{Float}
 use Rattle.basics.specs.Nodes.{NoDup, Below}
 use Rattle.lcg.specs.Lcg.{nextOf, high, drawAddend}
 use Rattle.leaders.specs.Leaders.{upTo, drawn, swapRemove, leaderCount, leaderPositions}
-
-pub length-upTo : (n : ℕ) → length (upTo n) ≡ n
-unfolding upTo
-length-upTo zero = refl
-length-upTo (suc n) = let r = length-upTo n in omega (arith, length-append (upTo n) (n ∷ []))
 
 pub in-upTo : (n x : ℕ) → x < n → In x (upTo n)
 unfolding upTo

@@ -3,21 +3,32 @@ use mathlib.Core.Path.{_≡_, refl}
 use mathlib.Core.Logic.{_⊎_, inl, inr}
 use mathlib.Core.List.{List, [], _∷_, _++_}
 use mathlib.Core.List.{List·Memᴰ as In, List·Memᴰ·head as here, List·Memᴰ·tail as there, List·Memᴰ·not-nil as in-nil, List·Memᴰ·cases-cons as in-cons, List·Memᴰ·append-cases as in-cases}
-use Prim.Native.Nat.{ℕ, zero, suc, _-_, _*_, _≤_, _<_, min}
+use Prim.Native.Nat.{ℕ, zero, suc, _+_, _-_, _*_, _^_, _≤_, _<_, min}
+use native.Mathlib.Nat.{pow-suc}
 use native.Mathlib.Omega.{arith}
 use lib.Dec.{leb}
 use lib.ListN.{length, getD, take, drop, length-take}
-use lib.Ieee.{Float}
+use lib.Ieee.{Float, Format}
 use Rattle.basics.specs.Choice.{pick-ind}
 use Rattle.basics.specs.Nodes.{Below}
 use Rattle.basics.specs.Rows.{Rows}
 use Rattle.basics.proofs.Members.{in-take, in-drop}
 use Rattle.basics.proofs.Rows.{set-rows}
 use Rattle.sorting.specs.Sorting.{sortBy}
-use Rattle.sorting.proofs.Members.{in-sort}
+use Rattle.sorting.proofs.Laws.{in-sort}
 use Rattle.vectors.specs.Vectors.{between, rank}
+use Rattle.leaf.specs.Simhash.{bitSet, simhashResidual}
 use Rattle.leaf.specs.Leaf.{startsWith, dedup, hashOf, selected, merged, hashpruneInsert, candidatesAt, placesTo, buildLeaf, buildLeaves}
 use Rattle.leaf.proofs.Cells.{cells-in}
+
+-- a hash has its bits and no more
+pub hash-below : (f : Format) (dimension : ℕ) (p c : List Float) (bits : ℕ) → simhashResidual f dimension p c bits < 2 ^ bits
+unfolding simhashResidual
+hash-below f dimension p c zero = omega arith
+hash-below f dimension p c (suc bits) =
+    let rec = hash-below f dimension p c bits in
+    let double = pow-suc 2 bits in
+    pick-ind (λ (weight : ℕ). simhashResidual f dimension p c bits + weight < 2 ^ suc bits) (bitSet f dimension p c bits) (λ _. omega arith) (λ _. omega arith)
 
 pub dedup-in : {x : ℕ} (l : List ℕ) → In x (dedup l) → In x l
 unfolding dedup

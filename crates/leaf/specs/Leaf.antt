@@ -3,8 +3,8 @@
 -- Leaves are processed in order, places in order, each seeing the rows as those before left them. Rows are a list of lists, node by node.
 --
 -- A node's distances are from it to the other: the Rust writes the earlier place's vector first and uses the number both ways, which is the
--- same, as a distance is (Rattle.vectors.proofs.Laws, `between-sym`). Its stop at 2·max_degree filled cells never comes before the
--- candidates end, of which there are no more.
+-- same (`between-sym` of Rattle.vectors.proofs.Laws). Its stop at 2·max_degree filled cells never comes before the candidates end, of which
+-- there are no more (`candidates-few`), and with at most 16 hash bits each hash has a cell of its own.
 use mathlib.Core.Bool.{Bool, false}
 use mathlib.Core.List.{List, [], _∷_, _++_, map}
 use Prim.Native.Nat.{ℕ, zero, suc, _-_, _*_, min}

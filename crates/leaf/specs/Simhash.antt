@@ -1,5 +1,6 @@
 -- The hash of a residual (01, part 5; `simhash_residual`): a bit for each hyperplane, by which side of it the residual c − p lies on. Over any
 -- format.
+use mathlib.Core.Bool.{Bool}
 use mathlib.Core.List.{List, [], _∷_}
 use Prim.Native.Nat.{ℕ, zero, suc, _+_, _*_, _^_}
 use lib.Ieee.{Float, Format, sub, le}
@@ -23,13 +24,13 @@ numbersFrom f k (suc count) = planeNumber f k ∷ numbersFrom f (suc k) count
 abbrev pub planeOf : Format → ℕ → ℕ → List Float
 planeOf f dimension b = numbersFrom f (b * dimension) dimension
 
--- bit b, at its weight: set where the sum is 0, −0 or above, and not where it is a NaN
-unfoldable pub bitOf : Format → ℕ → List Float → List Float → ℕ → ℕ
-unfolding pick sumFrom products residual numbersFrom
-bitOf f dimension p c b = pick (le +zero (sumOf f (products f (residual f c p) (planeOf f dimension b)))) (2 ^ b) 0
+-- bit b is set where the sum is 0, −0 or above, and not where it is a NaN
+unfoldable pub bitSet : Format → ℕ → List Float → List Float → ℕ → Bool
+unfolding sumFrom products residual numbersFrom
+bitSet f dimension p c b = le +zero (sumOf f (products f (residual f c p) (planeOf f dimension b)))
 
--- the bits below `bits`
+-- the bits below `bits`, each at its weight
 unfoldable pub simhashResidual : Format → ℕ → List Float → List Float → ℕ → ℕ
-unfolding bitOf
+unfolding pick bitSet
 simhashResidual f dimension p c zero = 0
-simhashResidual f dimension p c (suc bits) = simhashResidual f dimension p c bits + bitOf f dimension p c bits
+simhashResidual f dimension p c (suc bits) = simhashResidual f dimension p c bits + pick (bitSet f dimension p c bits) (2 ^ bits) 0

@@ -8,6 +8,7 @@
 //
 // specs/Simhash   the hash of a residual, a bit for each hyperplane
 // specs/Leaf      hash cells, one node's row, a leaf, all leaves
+// proofs/Planes   a plane is a part of the first numbers of the stream
 // proofs/Cells    cells stand in strictly rising order and are no more than the candidates
 // proofs/Laws     n rows stay n rows, at most max_degree entries each, all of them nodes of the leaves
 //

@@ -15,9 +15,10 @@ use Rattle.basics.specs.Choice.{pick, pick-ind}
 use Rattle.basics.specs.Nodes.{has, NoDup, Below}
 use Rattle.basics.proofs.Counting.{has-in, in-has, shorter}
 use Rattle.basics.proofs.Members.{in-take, nodup-take}
-use Rattle.sorting.proofs.Members.{in-sort, length-sort, nodup-sort}
+use Rattle.sorting.proofs.Laws.{in-sort, length-sort, sort-nodup}
 use Rattle.leaders.specs.Leaders.{upTo}
-use Rattle.leaders.proofs.Positions.{length-upTo, in-upTo, upTo-below, nodup-upTo}
+use Rattle.leaders.proofs.Draws.{length-upTo}
+use Rattle.leaders.proofs.Positions.{in-upTo, upTo-below, nodup-upTo}
 use Rattle.partition.specs.Partition.{keep, nearestLeaders, dealt}
 use Rattle.partition.specs.Occurrences.{weigh, weighAll}
 
@@ -72,7 +73,7 @@ members m l d b =
 module _ (vs : List (List Float)) (fan : ℕ) (leaders : List ℕ) (id : ℕ) where
   nearest-nodup : NoDup (nearestLeaders vs fan leaders id)
   unfolding nearestLeaders
-  nearest-nodup = nodup-take fan _ (nodup-sort _ (upTo (length leaders)) (nodup-upTo (length leaders)))
+  nearest-nodup = nodup-take fan _ (sort-nodup _ (upTo (length leaders)) (nodup-upTo (length leaders)))
 
   nearest-below : Below (length leaders) (nearestLeaders vs fan leaders id)
   unfolding nearestLeaders

@@ -17,7 +17,8 @@ use mir.Facts.{or-no, or-yes, yes-eqb, no-eqb, leb-no, yes-ltb}
 use Rattle.basics.specs.Choice.{pick, pick-ind, pick-yes, pick-no}
 use Rattle.basics.specs.Nodes.{Below}
 use Rattle.leaders.specs.Leaders.{leaderCount, leaderPositions, upTo}
-use Rattle.leaders.proofs.Positions.{length-upTo, length-positions}
+use Rattle.leaders.proofs.Draws.{length-upTo}
+use Rattle.leaders.proofs.Positions.{length-positions}
 use Rattle.partition.specs.Partition.{fanout, leadersOf, dealt, isLeaf, above-is-leaf, bucketsOf, carveSegment, carveBuckets, leavesOf, segment-equation, buckets-none, buckets-more}
 use Rattle.partition.specs.Occurrences.{weigh, weighAll, occurrences, entries}
 use Rattle.partition.proofs.Dealing.{dealt-weight}

@@ -110,7 +110,7 @@ above-is-leaf maxLeaf level ids h =
     subst T (sym (ap (λ (fan : ℕ). leb (length ids) maxLeaf || eqb fan 0) (fanout-above level h) ∙ or-true (leb (length ids) maxLeaf))) tt
 
 module _ (maxLeaf minLeaf : ℕ) (fraction : Float) (vs : List (List Float)) where
-  -- `left` levels are left; the test says whether this segment is a leaf
+  -- `left` levels are left. Whether the segment is a leaf is an argument, so that what is under the other case is not worked out.
   carveFrom : ℕ → Bool → ℕ → List ℕ → List (List ℕ)
   unfolding eachBy isLeaf bucketsOf
   carveFrom zero leaf level ids = ids ∷ []
