@@ -1,3 +1,4 @@
+pub mod AddLaws
 pub mod Answer
 pub mod Examples
 pub mod NewLaws

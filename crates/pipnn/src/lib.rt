@@ -89,3 +89,52 @@ pub fn new(
     slices::clear_floats(&mut floats[..floats_end]);
     0
 }
+
+// The number of the first of add's checks that fails, or 0.
+fn add_refusal(words: &[u32], floats: &[f32], vector: &[f32]) -> u32
+    ensures { λ r. ⌜ r ≡ firstRefusal (addChecks (now (words .entry)) (now (floats .entry)) (now (vector .entry))) ⌝ }
+{
+    let refusal = store::opening_refusal(words, floats, Lent::Nothing);
+    if refusal != 0 {
+        return refusal;
+    }
+    if store::word_at(words, store::STATE) == store::BUILT {
+        return 5;
+    }
+    if vector.len() != store::word_at(words, store::DIMENSION) as usize {
+        return 6;
+    }
+    if !finite::all_finite(vector) {
+        return 7;
+    }
+    if store::word_at(words, store::NODES) == store::word_at(words, store::CAPACITY) {
+        return 8;
+    }
+    0
+}
+
+// Puts the scaled vector in its place, `at`.
+fn put_vector(floats: &mut [f32], at: usize, vector: &[f32])
+    requires { ⌜ at + length (now vector) ≤ length (now floats) ⌝ }
+    ensures { λ _. ⌜ now (floats .exit) ≡ take at (now (floats .entry)) ++ (scaledOf binary32 (now (vector .entry)) ++ drop (at + length (now (vector .entry))) (now (floats .entry))) ⌝ }
+{
+    let end = at + vector.len();
+    slices::copy_floats(&mut floats[at..end], vector);
+    norm::normalize(&mut floats[at..end]);
+}
+
+// `PipnnIndex::add_slice`: the vector, scaled, and its doc id become node n of an open store.
+pub fn add_slice(words: &mut [u32], floats: &mut [f32], doc: DocId, vector: &[f32]) -> u32
+    ensures { λ r. ⌜ (r, now (words .exit), now (floats .exit)) ≡ addSpec (now (words .entry)) (now (floats .entry)) (doc .0) (now (vector .entry)) ⌝ }
+{
+    let refusal = add_refusal(words, floats, vector);
+    if refusal != 0 {
+        return refusal;
+    }
+    let n = store::word_at(words, store::NODES);
+    let at = store::floats_size(n, store::word_at(words, store::DIMENSION));
+    put_vector(floats, at, vector);
+    store::put_doc(words, Node(n), doc);
+    words[store::NODES] = n + 1;
+    0
+}
