@@ -1,9 +1,9 @@
 -- The one view of the two stores (01, "Records"): what every later definition and contract reads. It has a value on words and floats of any
 -- content and length; what lies past n, past a row's count, past the bridges counted and past the sizes is not in it.
-use mathlib.Core.List.{List, [], _∷_, map}
-use Prim.Native.Nat.{ℕ, _+_, _*_, _/_, _%_, _^_}
+use mathlib.Core.List.{List, [], _∷_, _++_, map}
+use Prim.Native.Nat.{ℕ, _+_, _-_, _*_, _/_, _%_, _^_}
 use lib.Dec.{eqb}
-use lib.ListN.{getD, take, drop}
+use lib.ListN.{length, getD, take, drop, replicate}
 use lib.Ieee.{Float, binary32, binary64, ofBits, toBits}
 use Rattle.basics.specs.Choice.{pick}
 use Rattle.basics.specs.Lists.{pieces}
@@ -48,6 +48,13 @@ entriesIn row = take (getD row 0 0) (drop 1 row)
 
 abbrev pub bridgeIn : List ℕ → Bridge
 bridgeIn pair = record { near = getD pair 0 0; far = getD pair 1 0 }
+
+-- the other way: a row as words, zero past its count, and a bridge
+abbrev pub rowBlock : ℕ → List ℕ → List ℕ
+rowBlock D row = length row ∷ (row ++ replicate (D - length row) 0)
+
+abbrev pub bridgeBlock : Bridge → List ℕ
+bridgeBlock b = b .near ∷ b .far ∷ []
 
 pub record View : Type 0 where
   pub params : PipnnParams
