@@ -8,8 +8,8 @@ use mathlib.Core.List.{List·Memᴰ as In, List·Memᴰ·head as here, List·Mem
 use Prim.Native.Nat.{ℕ, zero, suc, _≤_, _<_}
 use native.Mathlib.Omega.{arith}
 use native.Mathlib.Decide.{decLt}
-use lib.Dec.{T, eqb, eqb→eq}
 use lib.ListN.{length}
+use lib.Dec.{T, eqb, eqb→eq}
 use mir.Facts.{yes-eqb}
 use Rattle.basics.specs.Choice.{pick, pick-ind, pick-yes}
 use Rattle.basics.specs.Nodes.{has, NoDup, Below}

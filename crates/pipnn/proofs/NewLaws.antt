@@ -20,7 +20,7 @@ use Rattle.store.specs.Layout.{headerSize, wordsSize, floatsSize}
 use Rattle.store.specs.View.{emptyHeader}
 use Rattle.pipnn.specs.New.{newChecks, newWords, newFloats}
 
-sixteen-words : (d : ℕ) (p : PipnnParams) (c : ℕ) → length (emptyHeader d p c) ≡ headerSize
+pub sixteen-words : (d : ℕ) (p : PipnnParams) (c : ℕ) → length (emptyHeader d p c) ≡ headerSize
 unfolding emptyHeader
 sixteen-words d p c = refl
 
