@@ -116,12 +116,18 @@ fn number(kind: &str, q: &mut Question, a: &mut Answer) {
         "scale" => {
             let vector = q.vector();
             let mut index = index_of(vector.len(), Vec::new());
-            index.add_slice(0, &vector).expect("an open index of this dimension");
+            index
+                .add_slice(0, &vector)
+                .expect("an open index of this dimension");
             a.float(trace::take().length);
             a.floats(index.vectors());
         }
         "sort" | "first" => {
-            let most = if kind == "first" { q.size() } else { usize::MAX };
+            let most = if kind == "first" {
+                q.size()
+            } else {
+                usize::MAX
+            };
             let mut places: Vec<(usize, f32)> = q.vector().into_iter().enumerate().collect();
             places.sort_by(|a, b| compare(a.1, b.1));
             places.iter().take(most).for_each(|place| a.number(place.0));
@@ -139,11 +145,25 @@ fn number(kind: &str, q: &mut Question, a: &mut Answer) {
 
 /// The published index with these vectors as they are, the full number of hyperplanes and the Rust's defaults else.
 fn index_of(dimension: usize, vectors: Vec<f32>) -> PipnnIndex {
-    PipnnIndex::holding(dimension, PipnnParams { num_hash_bits: 16, ..Default::default() }, vectors, Vec::new())
+    PipnnIndex::holding(
+        dimension,
+        PipnnParams {
+            num_hash_bits: 16,
+            ..Default::default()
+        },
+        vectors,
+        Vec::new(),
+    )
 }
 
 /// The published index for carving alone.
-fn index_to_carve(dimension: usize, leaf: usize, min: usize, fraction: u64, vectors: Vec<f32>) -> PipnnIndex {
+fn index_to_carve(
+    dimension: usize,
+    leaf: usize,
+    min: usize,
+    fraction: u64,
+    vectors: Vec<f32>,
+) -> PipnnIndex {
     let params = PipnnParams {
         max_leaf_size: leaf,
         min_leaf_size: min,
@@ -168,7 +188,8 @@ fn draws(kind: &str, q: &mut Question, a: &mut Answer) {
 }
 
 fn leaves(kind: &str, q: &mut Question, a: &mut Answer) {
-    let (dimension, leaf, min, fraction, count) = (q.size(), q.size(), q.size(), q.long(), q.size());
+    let (dimension, leaf, min, fraction, count) =
+        (q.size(), q.size(), q.size(), q.long(), q.size());
     let vectors = match kind {
         "leaves" => q.floats(count * dimension),
         _ => generated(count, dimension, q.long(), q.long()).concat(),
@@ -189,7 +210,9 @@ fn leaves(kind: &str, q: &mut Question, a: &mut Answer) {
 }
 
 fn checksum(values: &[u32]) -> u64 {
-    values.iter().fold(0, |h: u64, &x| h.wrapping_mul(MULTIPLIER).wrapping_add(x as u64 + 1))
+    values.iter().fold(0, |h: u64, &x| {
+        h.wrapping_mul(MULTIPLIER).wrapping_add(x as u64 + 1)
+    })
 }
 
 /// `dimension` numbers of the generator from a state on, and the state after them.
@@ -215,7 +238,11 @@ fn generated(count: usize, dimension: usize, seed: u64, style: u64) -> Vec<Vec<f
         3 => {
             let centre = numbers(seed.wrapping_add(i % 16), dimension, 0).0;
             let noise = numbers(seed.wrapping_mul(31).wrapping_add(i + 1000), dimension, 0).0;
-            centre.iter().zip(noise).map(|(c, x)| c + 0.05f32 * x).collect()
+            centre
+                .iter()
+                .zip(noise)
+                .map(|(c, x)| c + 0.05f32 * x)
+                .collect()
         }
         _ => {
             let (vector, after) = numbers(r, dimension, style);
@@ -232,12 +259,21 @@ fn set(state: &mut State, kind: &str, q: &mut Question) {
             let (words, floats, seed) = (q.size(), q.size(), q.long());
             let scattered = |i: usize| seed.wrapping_add((i as u64).wrapping_mul(2654435761));
             state.words = (0..words).map(|i| scattered(i) as u32).collect();
-            state.floats = (0..floats).map(|i| (scattered(i) % (1 << 30)) as u32).collect();
+            state.floats = (0..floats)
+                .map(|i| (scattered(i) % (1 << 30)) as u32)
+                .collect();
             state.lent = (words, floats);
         }
         "lend" => state.lent = (q.size(), q.size()),
-        "word" => state.words[q.size()] = q.word(),
-        _ => state.floats[q.size()] = q.word(),
+        _ => {
+            let (place, x) = (q.size(), q.word());
+            let store = if kind == "word" {
+                &mut state.words
+            } else {
+                &mut state.floats
+            };
+            store[place] = x;
+        }
     }
 }
 
@@ -249,7 +285,9 @@ fn look(state: &State, kind: &str, q: &mut Question, a: &mut Answer) {
         }
         _ => {
             let (from, count) = (q.size(), q.size());
-            state.words[from..from + count].iter().for_each(|&x| a.number(x));
+            state.words[from..from + count]
+                .iter()
+                .for_each(|&x| a.number(x));
         }
     }
 }
@@ -297,7 +335,12 @@ fn call(state: &mut State, kind: &str, q: &mut Question, a: &mut Answer) {
 /// Adds generated vectors up to the first refusal, and gives the last number.
 fn adds(stores: &mut Stores, count: usize, seed: u64, style: u64) -> u32 {
     let dimension = stores.words.get(1).map_or(0, |&x| x as usize);
-    let vectors = generated(count, if dimension > 64 { 0 } else { dimension }, seed, style);
+    let vectors = generated(
+        count,
+        if dimension > 64 { 0 } else { dimension },
+        seed,
+        style,
+    );
     let mut number = 0;
     for (i, vector) in vectors.iter().enumerate() {
         let components: Vec<u32> = vector.iter().map(|x| x.to_bits()).collect();

@@ -1,11 +1,20 @@
 #!/usr/bin/env python3
-"""Prints the questions of a recorded file: numbers. They are the same at every run."""
+"""Makes the questions of the recorded answers, the same at every run.
+
+usage: generate.py numbers|store|build|search    prints the questions of that file
+       generate.py probe FOLDER                  writes inputs of the program probe, FOLDER/NAME.in
+"""
 import importlib
 import pathlib
 import sys
 
-sys.path.insert(0, str(pathlib.Path(__file__).parent / 'questions'))
 sys.dont_write_bytecode = True
+sys.path.insert(0, str(pathlib.Path(__file__).parent / 'questions'))
 
-for question in importlib.import_module(sys.argv[1]).questions():
-    print(question)
+questions = importlib.import_module(sys.argv[1])
+if sys.argv[1] == 'probe':
+    for name, content in questions.inputs():
+        pathlib.Path(sys.argv[2], f'{name}.in').write_bytes(content)
+else:
+    for question in questions.questions():
+        print(question)

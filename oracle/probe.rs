@@ -50,16 +50,24 @@ impl Printer {
 }
 
 fn bits(values: &[f32]) -> Vec<String> {
-    values.iter().map(|&x| format!("{:08x}", order::bits(x))).collect()
+    values
+        .iter()
+        .map(|&x| format!("{:08x}", order::bits(x)))
+        .collect()
 }
 
 fn pairs(items: &[(u32, f32)]) -> Vec<String> {
-    items.iter().map(|&(node, distance)| format!("{node}={:08x}", order::bits(distance))).collect()
+    items
+        .iter()
+        .map(|&(node, distance)| format!("{node}={:08x}", order::bits(distance)))
+        .collect()
 }
 
 /// Decimal digits and nothing else, of a number that fits.
 fn decimal(text: &str) -> Option<u32> {
-    text.bytes().all(|b| b.is_ascii_digit()).then(|| text.parse().ok())?
+    text.bytes()
+        .all(|b| b.is_ascii_digit())
+        .then(|| text.parse().ok())?
 }
 
 /// So many hexadecimal digits in lower case and nothing else.
@@ -69,7 +77,9 @@ fn hexadecimal(text: &str, digits: usize) -> Option<u64> {
 }
 
 fn components<'a>(texts: impl Iterator<Item = &'a str>) -> Option<Vec<u32>> {
-    texts.map(|text| hexadecimal(text, 8).map(|x| x as u32)).collect()
+    texts
+        .map(|text| hexadecimal(text, 8).map(|x| x as u32))
+        .collect()
 }
 
 /// The ten header lines, in their order.
@@ -93,11 +103,21 @@ pub fn run(input: &[u8], all: bool) -> String {
     let input = String::from_utf8_lossy(input);
     let mut lines = input.split_terminator('\n');
     let (mut words, mut floats) = (vec![0; 16 + CAPACITY * 36], vec![0; CAPACITY * 64]);
-    let mut stores = Stores { words: &mut words, floats: &mut floats };
-    let mut printer = Printer { text: String::new(), all };
+    let mut stores = Stores {
+        words: &mut words,
+        floats: &mut floats,
+    };
+    let mut printer = Printer {
+        text: String::new(),
+        all,
+    };
     if let Some(asked) = header(&mut lines) {
         refused(&mut printer, stores.new(&asked));
-        while lines.next().and_then(|line| call(line, &mut stores, &mut printer)).is_some() {}
+        while lines
+            .next()
+            .and_then(|line| call(line, &mut stores, &mut printer))
+            .is_some()
+        {}
     }
     printer.text
 }
@@ -134,7 +154,10 @@ fn add(stores: &mut Stores, printer: &mut Printer, doc: u32, vector: &[u32]) {
     if !refused(printer, stores.add(doc, vector)) {
         printer.aside("length", bits(&[trace::take().length]));
         let stored = &stores.floats[node * vector.len()..][..vector.len()];
-        printer.aside(format!("vector of {node}"), stored.iter().map(|x| format!("{x:08x}")));
+        printer.aside(
+            format!("vector of {node}"),
+            stored.iter().map(|x| format!("{x:08x}")),
+        );
     }
 }
 
@@ -144,7 +167,11 @@ fn build(stores: &mut Stores, printer: &mut Printer) {
         if let Some(trace) = trace {
             printer.built(&trace);
         }
-        printer.line(format!("entry={} bridges={}", stores.entry(), stores.bridge_count()));
+        printer.line(format!(
+            "entry={} bridges={}",
+            stores.entry(),
+            stores.bridge_count()
+        ));
     }
 }
 

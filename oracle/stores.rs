@@ -92,7 +92,10 @@ impl Asked {
 
 /// The number of the first check that fails, or 0.
 fn first(checks: &[(bool, u32)]) -> u32 {
-    checks.iter().find(|check| check.0).map_or(0, |check| check.1)
+    checks
+        .iter()
+        .find(|check| check.0)
+        .map_or(0, |check| check.1)
 }
 
 fn floats_of(bits: &[u32]) -> Vec<f32> {
@@ -139,7 +142,10 @@ impl Stores<'_> {
 
     fn bridges(&self) -> Vec<(u32, u32)> {
         let start = self.bridge_at(0);
-        self.words[start..start + 2 * self.bridge_count()].chunks(2).map(|ends| (ends[0], ends[1])).collect()
+        self.words[start..start + 2 * self.bridge_count()]
+            .chunks(2)
+            .map(|ends| (ends[0], ends[1]))
+            .collect()
     }
 
     fn vectors(&self) -> &[u32] {
@@ -162,8 +168,12 @@ impl Stores<'_> {
 
     fn rest_well_formed(&self) -> bool {
         let n = self.words[2];
-        (0..n as usize).all(|node| self.words[self.row_at(node)] <= self.words[5] && self.row(node).iter().all(|&e| e < n))
-            && self.bridges().iter().all(|&(near, far)| near < n && far < n && near != far)
+        (0..n as usize).all(|node| {
+            self.words[self.row_at(node)] <= self.words[5] && self.row(node).iter().all(|&e| e < n)
+        }) && self
+            .bridges()
+            .iter()
+            .all(|&(near, far)| near < n && far < n && near != far)
             && all_finite(self.vectors())
     }
 
@@ -177,7 +187,8 @@ impl Stores<'_> {
         }
         let asked = self.asked();
         let capacity = asked.capacity as usize;
-        let (scratch_words, scratch_floats) = scratch.unwrap_or((64 * capacity, 16 * capacity + 256));
+        let (scratch_words, scratch_floats) =
+            scratch.unwrap_or((64 * capacity, 16 * capacity + 256));
         let short = self.words.len() < asked.words()
             || self.floats.len() < asked.floats()
             || scratch_words < 64 * capacity
@@ -191,11 +202,18 @@ impl Stores<'_> {
     /// The published index with this store's vectors and, if it is built, its graph.
     fn index(&self) -> PipnnIndex {
         let asked = self.asked();
-        let index = PipnnIndex::holding(asked.dimension as usize, asked.params(), floats_of(self.vectors()), self.doc_ids());
+        let index = PipnnIndex::holding(
+            asked.dimension as usize,
+            asked.params(),
+            floats_of(self.vectors()),
+            self.doc_ids(),
+        );
         if !self.built() {
             return index;
         }
-        let mut lists: Vec<Vec<u32>> = (0..self.nodes()).map(|node| self.row(node).to_vec()).collect();
+        let mut lists: Vec<Vec<u32>> = (0..self.nodes())
+            .map(|node| self.row(node).to_vec())
+            .collect();
         for (near, far) in self.bridges() {
             lists[near as usize].push(far);
             lists[far as usize].push(near);
@@ -213,18 +231,17 @@ impl Stores<'_> {
         }
         self.words[..asked.words()].fill(0);
         self.floats[..asked.floats()].fill(0);
-        let a = asked;
-        let (high, low) = ((a.leader_fraction >> 32) as u32, a.leader_fraction as u32);
-        self.words[1] = a.dimension;
-        self.words[3..9].copy_from_slice(&[
-            a.max_leaf_size,
-            a.min_leaf_size,
-            a.max_degree,
-            a.num_hash_bits,
-            a.final_prune,
-            a.ef_search,
-        ]);
-        self.words[11..15].copy_from_slice(&[a.capacity, high, low, a.alpha]);
+        self.words[1] = asked.dimension;
+        self.words[3] = asked.max_leaf_size;
+        self.words[4] = asked.min_leaf_size;
+        self.words[5] = asked.max_degree;
+        self.words[6] = asked.num_hash_bits;
+        self.words[7] = asked.final_prune;
+        self.words[8] = asked.ef_search;
+        self.words[11] = asked.capacity;
+        self.words[12] = (asked.leader_fraction >> 32) as u32;
+        self.words[13] = asked.leader_fraction as u32;
+        self.words[14] = asked.alpha;
         0
     }
 
@@ -245,7 +262,9 @@ impl Stores<'_> {
             return number;
         }
         let mut index = PipnnIndex::holding(dimension, asked.params(), Vec::new(), Vec::new());
-        index.add_slice(doc, &floats_of(vector)).expect("what the Rust refuses is refused above");
+        index
+            .add_slice(doc, &floats_of(vector))
+            .expect("what the Rust refuses is refused above");
         for (place, x) in index.vectors().iter().enumerate() {
             self.floats[n * dimension + place] = x.to_bits();
         }
@@ -265,7 +284,9 @@ impl Stores<'_> {
         }
         let mut index = self.index();
         trace::take();
-        index.build().expect("what the Rust refuses is refused above");
+        index
+            .build()
+            .expect("what the Rust refuses is refused above");
         let trace = trace::take();
         for (node, list) in trace.lists_before_repair.iter().enumerate() {
             let (at, end) = (self.row_at(node), self.row_at(node + 1));
@@ -280,12 +301,22 @@ impl Stores<'_> {
         self.words[0] = 1;
         self.words[9] = index.entry();
         self.words[10] = trace.bridges.len() as u32;
-        assert!(self.index().lists() == index.lists(), "rows and bridges are the lists");
+        assert!(
+            self.index().lists() == index.lists(),
+            "rows and bridges are the lists"
+        );
         (0, Some(trace))
     }
 
     /// `outputs` are the lengths of the two that a search is lent, doc ids and distances.
-    pub fn find(&self, scratch: Scratch, k: u32, ef: u32, outputs: (usize, usize), query: &[u32]) -> (u32, Found) {
+    pub fn find(
+        &self,
+        scratch: Scratch,
+        k: u32,
+        ef: u32,
+        outputs: (usize, usize),
+        query: &[u32],
+    ) -> (u32, Found) {
         let mut number = self.refusal(Some(scratch));
         if number == 0 {
             let wanted = self.nodes().min(k as usize);
@@ -303,9 +334,22 @@ impl Stores<'_> {
         let index = self.index();
         trace::take();
         let answer = index.search_with_ef(&floats_of(query), k as usize, ef as usize);
-        let (docs, distances) = answer.expect("what the Rust refuses is refused above").into_iter().unzip();
+        let (docs, distances) = answer
+            .expect("what the Rust refuses is refused above")
+            .into_iter()
+            .unzip();
         let trace = trace::take();
-        assert!(trace.visited_count == trace.scored.len(), "each visit scores");
-        (0, Found { docs, distances, scored: trace.scored })
+        assert!(
+            trace.visited_count == trace.scored.len(),
+            "each visit scores"
+        );
+        (
+            0,
+            Found {
+                docs,
+                distances,
+                scored: trace.scored,
+            },
+        )
     }
 }

@@ -78,8 +78,8 @@ def scales():
     # lengths at the bound by many components
     vectors += [[single(value(x) / n**0.5)] * n for x in beside for n in (4, 48)]
     # squares and sums of squares that overflow, each sign and −0 kept
-    vectors += [[LARGEST, SIGN | LARGEST, MINUS_ZERO, ZERO], [single(1.5e19), single(-1.5e19)], [single(1.8e19)], [single(1.9e19), SIGN | ONE]]
-    vectors += [[INFINITY, ONE], [NAN, ONE], [SIGN | INFINITY], [SIGN | NAN, ZERO]]
+    vectors += [[LARGEST, SIGN | LARGEST, MINUS_ZERO, ZERO], [single(1.5e19), single(-1.5e19)]]
+    vectors += [[single(1.8e19)], [single(1.9e19), SIGN | ONE], [INFINITY, ONE], [NAN, ONE], [SIGN | INFINITY], [SIGN | NAN, ZERO]]
     for v in vectors:
         yield line('scale', counted(v))
     for _ in range(170):
@@ -139,7 +139,7 @@ def fractions(n):
 def leaders():
     sizes = list(range(1, 12)) + [49, 64, 100, 1023, 1024, 2047, 2048]
     for n in sizes:
-        for f in (0, double(-0.0), double(0.02), double(0.5), double(1.0) - 1, double(1.0), double(2 / n) if n > 1 else 0, double(3 / n) if n > 2 else 0):
+        for f in (0, double(-0.0), double(0.02), double(0.5), double(1.0) - 1, double(1.0), double(min(1, 2 / n)), double(min(1, 3 / n))):
             yield line('leaders', n, fraction(f))
     for _ in range(650):
         n = d.between(1, 2048)

@@ -6,7 +6,9 @@ use std::path::Path;
 type Lists = [SmallVec<[u32; 32]>];
 
 fn left_out<T>() -> Result<T> {
-    Err(RetrieveError::Other("the oracle neither saves nor loads".into()))
+    Err(RetrieveError::Other(
+        "the oracle neither saves nor loads".into(),
+    ))
 }
 
 pub fn write_json_atomic<T>(_: &Path, _: &T) -> Result<()> {

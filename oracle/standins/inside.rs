@@ -4,7 +4,12 @@ use smallvec::SmallVec;
 
 impl PipnnIndex {
     /// An open index with these vectors as they are.
-    pub fn holding(dimension: usize, params: PipnnParams, vectors: Vec<f32>, doc_ids: Vec<u32>) -> Self {
+    pub fn holding(
+        dimension: usize,
+        params: PipnnParams,
+        vectors: Vec<f32>,
+        doc_ids: Vec<u32>,
+    ) -> Self {
         let mut index = Self::new(dimension, params).expect("a dimension above 0");
         index.num_vectors = vectors.len() / dimension;
         index.vectors = vectors;

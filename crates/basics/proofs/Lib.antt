@@ -5,3 +5,5 @@ pub mod Pieces
 pub mod Refusals
 pub mod Sums
 pub mod Tests
+pub mod Members
+pub mod Rows

@@ -4,3 +4,4 @@ pub mod Sum
 pub mod Nodes
 pub mod Lists
 pub mod Graph
+pub mod Rows

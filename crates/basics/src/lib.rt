@@ -6,9 +6,12 @@
 // specs/Nodes      lists of node numbers: membership as a test, no repeats, how many there can be
 // specs/Lists      a test of every element, a list in pieces of one length
 // specs/Graph      a node's list: its row, then the other ends of its bridges
+// specs/Rows       n rows of at most d entries below n, which every step of a build keeps
 // proofs/Loops     what a loop that reads or rewrites a slice has done so far
 // proofs/Every     what a loop that gathers a test over a slice has gathered so far
 // proofs/Refusals  which check's number a list of checks gives
 // proofs/Tests     what tests joined by `&` and `|` say of each
 // proofs/Counting  how many different nodes below n there can be
 // proofs/Sums      a sum of products, one step and the end
+// proofs/Members   membership in a part of a list
+// proofs/Rows      rows stay bounded where one is replaced

@@ -1,1 +1,2 @@
 pub mod Centroid
+pub mod Medoid

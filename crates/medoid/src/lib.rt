@@ -1,5 +1,11 @@
-// The centroid of the stored vectors (01, part 6), the first half of the Rust's `compute_medoid`.
+// The entry node (01, part 6), as the Rust's `compute_medoid` finds it: the node nearest to the centroid
+// of the stored vectors.
 //
+// specs/Centroid   the mean of the stored vectors, component by component
+// specs/Medoid     the nearest node to it, the lowest of equally near ones
+// proofs/Laws      it is one of the nodes
+//
+// So far the code is of the first half, the centroid.
 // Components are summed node by node, in the order of adding, each step rounded, and then divided by
 // the number of nodes as an f32. Equal to `centroidOf` of specs/Centroid.
 ghost use mathlib.Core.Path.{_≡_};

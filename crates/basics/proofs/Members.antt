@@ -1,0 +1,47 @@
+-- Membership in a part of a list, in a row that a store replaced, and under a map; tests joined by `&&`. Assumes nothing.
+use mathlib.Core.Path.{_≡_, refl}
+use mathlib.Core.Logic.{_⊎_, inl, inr}
+use mathlib.Core.Bool.{Bool, true, false, _&&_}
+use mathlib.Core.List.{List, [], _∷_}
+use mathlib.Core.List.{List·Memᴰ as In, List·Memᴰ·head as here, List·Memᴰ·tail as there, List·Memᴰ·not-nil as in-nil, List·Memᴰ·cases-cons as in-cons}
+use Prim.Native.Nat.{ℕ, zero, suc, _<_}
+use native.Mathlib.Omega.{arith}
+use lib.Dec.{T}
+use lib.ListN.{length, getD, take, drop}
+use Rattle.basics.specs.Nodes.{NoDup}
+
+module _ {A : Type 0} {z : A} where
+  pub in-take : (k : ℕ) (l : List A) → In z (take k l) → In z l
+  in-take zero l m = absurd (in-nil m)
+  in-take (suc k) [] m = m
+  in-take (suc k) (x ∷ l) m = go (in-take k l) (in-cons m)
+    where
+      go : (In z (take k l) → In z l) → (z ≡ x) ⊎ In z (take k l) → In z (x ∷ l)
+      go rec (inl e) = here e
+      go rec (inr i) = there (rec i)
+
+  pub in-drop : (k : ℕ) (l : List A) → In z (drop k l) → In z l
+  in-drop zero l m = m
+  in-drop (suc k) [] m = m
+  in-drop (suc k) (x ∷ l) m = there (in-drop k l m)
+
+-- the element at a place is one of the list's
+pub in-getD : {A : Type 0} (l : List A) (i : ℕ) (d : A) → i < length l → In (getD l i d) l
+in-getD [] i d h = absurd (omega arith)
+in-getD (x ∷ l) zero d h = here refl
+in-getD (x ∷ l) (suc i) d h = there (in-getD l i d (omega arith))
+
+pub nodup-take : (k : ℕ) (l : List ℕ) → NoDup l → NoDup (take k l)
+nodup-take zero l d = tt
+nodup-take (suc k) [] d = tt
+nodup-take (suc k) (x ∷ l) d = ((λ m. d .0 (in-take k l m)), nodup-take k l (d .1))
+
+-- ---- two tests
+
+pub both-left : (a b : Bool) → T (a && b) → T a
+both-left true b t = tt
+both-left false b t = t
+
+pub both-right : (a b : Bool) → T (a && b) → T b
+both-right true b t = t
+both-right false b t = absurd t

@@ -1,0 +1,2 @@
+pub mod Simhash
+pub mod Leaf

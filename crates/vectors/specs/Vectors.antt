@@ -1,0 +1,21 @@
+-- The vector of a node (`get_vector`), how far two nodes are apart, and where that distance stands in part 1's order. An index's vectors are a
+-- list, node by node, as they are stored.
+use mathlib.Core.List.{List, []}
+use Prim.Native.Nat.{ℕ}
+use lib.ListN.{getD}
+use lib.Ieee.{Float, binary32}
+use Rattle.distance.specs.Distance.{distanceOf}
+use Rattle.order.specs.Order.{keyOf}
+
+abbrev pub vectorOf : List (List Float) → ℕ → List Float
+vectorOf vs i = getD vs i []
+
+-- the distance of node i and node j
+unfoldable pub between : List (List Float) → ℕ → ℕ → Float
+unfolding distanceOf
+between vs i j = distanceOf binary32 (vectorOf vs i) (vectorOf vs j)
+
+-- a whole number that orders the nodes j by their distance from node i
+unfoldable pub rank : List (List Float) → ℕ → ℕ → ℕ
+unfolding between keyOf
+rank vs i j = keyOf binary32 (between vs i j)
