@@ -14,15 +14,14 @@ use lib.Ieee.{Float, binary32, mul, lt}
 use Rattle.basics.specs.Nodes.{NoDup, Below}
 use Rattle.basics.proofs.Counting.{at-most, all-of, holds-all}
 use Rattle.basics.proofs.Members.{both-left, in-take, nodup-take}
-use Rattle.sorting.specs.Sorting.{sortBy}
-use Rattle.sorting.proofs.Members.{in-sort, length-sort, nodup-sort}
+use Rattle.sorting.specs.Sorting.{sortBy, Rising}
+use Rattle.sorting.proofs.Laws.{sort-in, in-sort, length-sort, sort-nodup, sort-rising, rising-take}
 use Rattle.walk.specs.Walk.{Reach, start}
 use Rattle.walk.proofs.Laws.{Inv, Closed, Ended, walk-ended, walk-short, reach-in}
 use Rattle.beam.specs.KeepClosest.{keyAt, heldOf, cutoffOf}
 use Rattle.beam.specs.Beam.{stopFactor, stopMultiplier, placesFor, toFrontier, tooFar, tooMany, walked, beamSearch, answerOf}
-use Rattle.beam.specs.Rising.{Rising}
 use Rattle.beam.proofs.Reverse.{in-reverse, reverse-in, nodup-reverse}
-use Rattle.beam.proofs.Sorted.{sort-in, sort-rising, rising-take, left-out}
+use Rattle.beam.proofs.Nearest.{left-out}
 use Rattle.beam.proofs.Inserting.{frontier-laws, held-length}
 
 -- of n nodes whose lists have at most L entries, a walk with b places and the first k of what it scored
@@ -114,7 +113,7 @@ search-found list n e e-below inside reached far L longest k ef = record {
   low = omega (arith, enough, length-reverse latest);
   high = omega (arith, seen-short list n e e-below inside far b L longest, few, length-reverse latest);
   many = omega (arith, length-take k sorted, length-sort (keyAt far) scored, length-reverse latest, few, enough);
-  distinct = nodup-take k sorted (nodup-sort (keyAt far) scored (nodup-reverse latest (done .nodup)));
+  distinct = nodup-take k sorted (sort-nodup (keyAt far) scored (nodup-reverse latest (done .nodup)));
   inside = λ y m. done .below y (in-reverse latest (in-sort (keyAt far) scored (in-take k sorted m)));
   rising = rising-take (keyAt far) k sorted (sort-rising (keyAt far) scored);
   nearest = λ h x y m l out.

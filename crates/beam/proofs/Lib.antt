@@ -1,5 +1,5 @@
 pub mod Reverse
-pub mod Sorted
+pub mod Nearest
 pub mod Inserting
 pub mod Laws
 pub mod Examples

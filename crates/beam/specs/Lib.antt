@@ -1,3 +1,2 @@
 pub mod KeepClosest
 pub mod Beam
-pub mod Rising
