@@ -9,7 +9,7 @@ use lib.ListN.{take}
 use Rattle.sorting.specs.Sorting.{From, Rising}
 
 module _ {A : Type 0} (key : A → ℕ) where
-  from-in : (k : ℕ) (ys : List A) → From key k ys → (y : A) → In y ys → k ≤ key y
+  pub from-in : (k : ℕ) (ys : List A) → From key k ys → (y : A) → In y ys → k ≤ key y
   from-in k [] f y m = absurd (in-nil m)
   from-in k (z ∷ ys) f y m = go (from-in k ys (f .1) y) (in-cons m)
     where
