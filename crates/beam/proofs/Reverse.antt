@@ -1,5 +1,5 @@
 -- A list turned round has the same elements, each as often. Assumes nothing.
-use mathlib.Core.Path.{_≡_, refl, sym, subst}
+use mathlib.Core.Path.{_≡_, sym, subst}
 use mathlib.Core.Logic.{_⊎_, inl, inr}
 use mathlib.Core.List.{List, [], _∷_, _++_, reverse, reverse-cons}
 use mathlib.Core.List.{List·Memᴰ as In, List·Memᴰ·head as here, List·Memᴰ·tail as there, List·Memᴰ·cases-cons as in-cons, Memᴰ·append-left as in-left, Memᴰ·append-right as in-right, List·Memᴰ·append-cases as in-cases, List·Memᴰ·eq-of-singleton as in-one}

@@ -1,17 +1,16 @@
 -- What the view gives after an accepted build: the graph, and all else as it was. The rows and the bridges are laid behind the header and the doc
 -- ids, the bridges behind all rows, so that neither disturbs what the view reads elsewhere. Assumes nothing.
-use mathlib.Core.Path.{_≡_, refl, sym, ap, ap₂, _∙_, subst}
-use mathlib.Core.List.{List, [], _∷_, _++_, map, flatten}
+use mathlib.Core.Path.{_≡_, sym, ap, _∙_}
+use mathlib.Core.List.{List, _++_, map, flatten}
 use Prim.Native.Nat.{ℕ, _+_, _*_, _^_, _≤_, _<_}
 use native.Mathlib.Omega.{arith}
 use lib.Dec.{eqb}
-use lib.ListN.{length, getD, take, drop, set, length-set, length-map}
+use lib.ListN.{length, take, drop, set, length-set, length-map}
 use lib.Seq.{drop-set-lt, getD-set-same, getD-set-other}
 use lib.Ieee.{Float, binary32, binary64, ofBits}
 use Rattle.basics.specs.Lists.{pieces}
 use Rattle.basics.specs.Graph.{Bridge}
 use Rattle.basics.proofs.Pieces.{length-flatten}
-use Rattle.params.specs.declared.PipnnParams.{PipnnParams}
 use Rattle.store.specs.declared.Lent.{Lent}
 use Rattle.store.specs.Layout.{word, builtState, headerSize, stateAt, dimensionAt, nodesAt, maxLeafSizeAt, minLeafSizeAt, degreeAt, hashBitsAt, finalPruneAt, efSearchAt, entryAt, bridgeCountAt, capacityAt, fractionHighAt, fractionLowAt, alphaAt, docsAt, rowsAt, rowSize, bridgesAt, bridgeSize, wordsSize}
 use Rattle.store.specs.View.{paramsOf, rowWords, bridgeWords, rowBlock, bridgeBlock, entriesIn, bridgeIn, View, view}

@@ -17,7 +17,7 @@ use Rattle.basics.specs.Graph.{Bridge, otherEnd, listOf}
 use Rattle.basics.proofs.Counting.{has-in, hasn't}
 use Rattle.basics.proofs.Members.{both-left}
 use Rattle.vectors.specs.Vectors.{between}
-use Rattle.walk.specs.Walk.{Reach, start, along, walk}
+use Rattle.walk.specs.Walk.{Reach, start, along}
 use Rattle.walk.proofs.Laws.{Pushes, Closed, Inv, Ended, reach-wider, walk-ended}
 use Rattle.graph_utils.specs.Repair.{stack, markReachable, candidatesFor, nearestReached, Repaired, bridgeTo, turn, turnsTo, ensureConnectivity}
 use Rattle.graph_utils.proofs.Bridges.{list-snoc, Ends, AllEnds, ends-snoc, Opposite, other-end-in, far-in, list-below}

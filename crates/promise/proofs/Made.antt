@@ -1,15 +1,14 @@
 -- What holds between two calls: after an accepted `new` the store is open and has exactly the nodes added since, and after an accepted build its
 -- view is that with the graph of parts 1 to 7. Each call keeps it, a refused one because it leaves both stores as they were. Assumes nothing.
 use mathlib.Core.Path.{_≡_, refl, sym, ap, _∙_, subst}
-use mathlib.Core.Bool.{Bool, true, false, not}
-use mathlib.Core.List.{List, [], _∷_, _++_, map, map-append}
+use mathlib.Core.List.{List, [], _∷_, _++_, map-append}
 use Prim.Native.Nat.{ℕ, zero, suc, _<_}
 use native.Mathlib.Omega.{arith}
-use lib.Dec.{T, eqb, eqb→eq}
-use lib.ListN.{length, replicate, length-map}
+use lib.Dec.{eqb, eqb→eq}
+use lib.ListN.{length-map}
 use lib.Ieee.{Float, binary32}
 use mir.Facts.{eqb-no, yes-eqb}
-use Rattle.basics.specs.Choice.{pick, pick-ind, pick-yes, pick-no}
+use Rattle.basics.specs.Choice.{pick, pick-ind, pick-yes}
 use Rattle.basics.specs.Refusals.{firstRefusal}
 use Rattle.params.specs.declared.PipnnParams.{PipnnParams}
 use Rattle.norm.specs.Norm.{scaledOf}
@@ -21,8 +20,8 @@ use Rattle.pipnn.specs.Answer.{Answer, unlessRefused}
 use Rattle.pipnn.specs.New.{newChecks, newWords, newFloats, newSpec}
 use Rattle.pipnn.specs.Add.{addChecks, addedWords, addedFloats, addSpec}
 use Rattle.pipnn.proofs.NewLaws.{new-taken}
-use Rattle.pipnn.proofs.AddLaws.{AddTaken, add-taken}
-use Rattle.pipnn.proofs.Views.{Floats, openView}
+use Rattle.pipnn.proofs.AddLaws.{add-taken}
+use Rattle.pipnn.proofs.Views.{Floats}
 use Rattle.pipnn.proofs.Open.{OpenStore, new-open, add-open}
 use Rattle.calls.specs.Graph.{settingsOf, graphOf, graphFor}
 use Rattle.calls.specs.Build.{buildChecks, builtWords, buildSpec}

@@ -1,10 +1,10 @@
 -- Demand 3: the claim holds of every list of calls, on stores of any first content. By induction over the list: what `Made` says between two
 -- calls gives what is claimed there, and every call keeps it. Assumes nothing.
 use mathlib.Core.Path.{_≡_, refl, sym, ap, _∙_, subst}
-use mathlib.Core.List.{List, [], _∷_, _++_, map}
+use mathlib.Core.List.{List, [], _∷_, _++_}
 use Prim.Native.Nat.{ℕ, _+_, _*_, _<_}
 use native.Mathlib.Omega.{arith}
-use lib.ListN.{length, getD, length-map}
+use lib.ListN.{length, length-map}
 use lib.Ieee.{Float, binary32}
 use Rattle.basics.specs.Graph.{otherEnds, listOf}
 use Rattle.norm.specs.Norm.{scaledOf}
@@ -22,7 +22,7 @@ use Rattle.calls.specs.Graph.{Graph, graphOf}
 use Rattle.calls.specs.Search.{farIn, scoredIn, foundIn, replyOf, searchWithEfSpec, searchSpec}
 use Rattle.calls.proofs.Taken.{search-replied}
 use Rattle.calls.proofs.Graph.{listFor, graph-reaches-all, graph-total, graph-found}
-use Rattle.promise.specs.Calls.{Call, new, add, build, searchWithEf, search, outcome, Added, Index, Past, nothing, opened, built, then, vectorsOf, docsOf}
+use Rattle.promise.specs.Calls.{Call, new, add, build, searchWithEf, search, outcome, Added, Index, Past, nothing, opened, built, then, vectorsOf}
 use Rattle.promise.specs.Promise.{size, listBefore, listNow, farOf, Graphed, Answered, AnsweredIf, Stands, Told, Claims}
 use Rattle.promise.proofs.Order.{nondecreasing}
 use Rattle.promise.proofs.Made.{settings, ideal, BuiltStore, Made, open-state, call-made}

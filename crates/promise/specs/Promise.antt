@@ -16,7 +16,6 @@ use Rattle.store.specs.View.{view, listIn}
 use Rattle.graph_rows.specs.Rows.{rowsOf}
 use Rattle.graph_utils.specs.Lengths.{totalLength, longestLength}
 use Rattle.beam.specs.Beam.{stopMultiplier, farFrom, placesFor}
-use Rattle.pipnn.specs.Answer.{Answer}
 use Rattle.calls.specs.Graph.{settingsOf}
 use Rattle.calls.specs.Search.{Reply, searchWithEfSpec, searchSpec}
 use Rattle.promise.specs.Calls.{Call, new, add, build, searchWithEf, search, outcome, Index, Past, nothing, opened, built, then, vectorsOf, docsOf}
