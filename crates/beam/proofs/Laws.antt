@@ -85,6 +85,25 @@ module _ (list : ℕ → List ℕ) (n e : ℕ) (e-below : e < n) (inside : (u v 
       walk-short list n e (toFrontier far) (frontier-laws far) (tooFar far b) (tooMany b) (λ l. b ≤ length l) far-late many-late (λ u v h. inside u v)
       (max 1 (stopMultiplier * b)) L few-else longest n (e ∷ []) (e ∷ []) begun (omega arith)
 
+  -- what is scored, in order, and the answer: on a store that no build made there may be fewer
+  pub scored-once : NoDup (beamSearch list n e far b)
+  unfolding beamSearch
+  scored-once = nodup-reverse seen (ended .nodup)
+
+  pub scored-nodes : Below n (beamSearch list n e far b)
+  unfolding beamSearch
+  scored-nodes x m = ended .below x (in-reverse seen m)
+
+  pub scored-few : length (beamSearch list n e far b) ≤ n
+  unfolding beamSearch
+  scored-few = omega (arith, seen-few, length-reverse seen)
+
+  pub answer-few : (k : ℕ) → length (answerOf far k (beamSearch list n e far b)) ≤ min k n
+  unfolding answerOf
+  answer-few k =
+      let scored : List ℕ = beamSearch list n e far b in
+      omega (arith, length-take k (sortBy (keyAt far) scored), length-sort (keyAt far) scored, scored-few)
+
   -- ---- where every node is reached
 
   module _ (reached : (x : ℕ) → x < n → Reach list e x) where
@@ -108,13 +127,13 @@ pub search-found : (list : ℕ → List ℕ) (n e : ℕ) → e < n → ((u v : �
     → Found n L k (placesFor ef k) far (beamSearch list n e far (placesFor ef k)) (answerOf far k (beamSearch list n e far (placesFor ef k)))
 unfolding beamSearch answerOf
 search-found list n e e-below inside reached far L longest k ef = record {
-  once = nodup-reverse latest (done .nodup);
-  nodes = λ x m. done .below x (in-reverse latest m);
+  once = scored-once list n e e-below inside far b;
+  nodes = scored-nodes list n e e-below inside far b;
   low = omega (arith, enough, length-reverse latest);
   high = omega (arith, seen-short list n e e-below inside far b L longest, few, length-reverse latest);
   many = omega (arith, length-take k sorted, length-sort (keyAt far) scored, length-reverse latest, few, enough);
-  distinct = nodup-take k sorted (sort-nodup (keyAt far) scored (nodup-reverse latest (done .nodup)));
-  inside = λ y m. done .below y (in-reverse latest (in-sort (keyAt far) scored (in-take k sorted m)));
+  distinct = nodup-take k sorted (sort-nodup (keyAt far) scored (scored-once list n e e-below inside far b));
+  inside = λ y m. scored-nodes list n e e-below inside far b y (in-sort (keyAt far) scored (in-take k sorted m));
   rising = rising-take (keyAt far) k sorted (sort-rising (keyAt far) scored);
   nearest = λ h x y m l out.
       left-out (keyAt far) k sorted (sort-rising (keyAt far) scored) x y m

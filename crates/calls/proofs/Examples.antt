@@ -9,8 +9,6 @@ use lib.Ieee.{Float, fin, binary32, binary64, ofBits, toBits, add, sub, mul, div
 use Rattle.basics.specs.Sum.{+zero, +one}
 use Rattle.basics.specs.Graph.{listOf}
 use Rattle.params.specs.declared.PipnnParams.{PipnnParams}
-use Rattle.store.specs.declared.Lent.{Lent}
-use Rattle.store.specs.declared.Lent.the-variants.{Scratch}
 use Rattle.store.specs.View.{view, listIn}
 use Rattle.pipnn.specs.Answer.{Answer}
 use Rattle.pipnn.specs.New.{newSpec}
@@ -33,9 +31,6 @@ p = record {
   «ef_search» = 3;
 }
 
-abbrev scratch : Lent
-scratch = Scratch 512 384
-
 -- the stores after cap, after the three adds, after build
 abbrev new₀ : Answer
 new₀ = newSpec 2 p 8 (replicate 56 7) (replicate 16 -one)
@@ -47,7 +42,7 @@ added =
     addSpec (two .1) (two .2) 30 (-one ∷ +zero ∷ [])
 
 abbrev built : Answer
-built = buildSpec scratch (added .1) (added .2)
+built = buildSpec 512 384 (added .1) (added .2)
 
 -- ---- build: entry 1, one bridge, from 1 to 2; its rows and bridge are written, words 0, 9 and 10, and nothing else
 
@@ -66,14 +61,14 @@ unfolding view listOf newSpec addSpec buildSpec ofBits toBits add sub mul div lt
 worked-lists = refl
 
 -- a second build is success, and leaves all as it is
-worked-again : buildSpec scratch workedWords (replicate 16 +one) ≡ (0, workedWords, replicate 16 +one)
+worked-again : buildSpec 512 384 workedWords (replicate 16 +one) ≡ (0, workedWords, replicate 16 +one)
 unfolding buildSpec ofBits lt le eq
 worked-again = refl
 
 -- ---- search, into outputs of four places each
 
 abbrev asked : ℕ → ℕ → List Float → Reply
-asked k ef query = searchWithEfSpec scratch (built .1) (built .2) query k ef (replicate 4 7) (replicate 4 -one)
+asked k ef query = searchWithEfSpec 512 384 (built .1) (built .2) query k ef (replicate 4 7) (replicate 4 -one)
 
 -- what is told: number, count, scored, the doc ids, the distances' bits
 abbrev Told : Type 0
@@ -93,7 +88,7 @@ unfolding searchWithEfSpec newSpec addSpec buildSpec ofBits toBits add sub mul d
 scaled-find = refl
 
 -- `search` is the same, with ef_search, 3
-worked-search : searchSpec scratch (built .1) (built .2) (+one ∷ +zero ∷ []) 3 (replicate 4 7) (replicate 4 -one) ≡ asked 3 3 (+one ∷ +zero ∷ [])
+worked-search : searchSpec 512 384 (built .1) (built .2) (+one ∷ +zero ∷ []) 3 (replicate 4 7) (replicate 4 -one) ≡ asked 3 3 (+one ∷ +zero ∷ [])
 unfolding searchSpec searchWithEfSpec newSpec addSpec buildSpec ofBits toBits add sub mul div lt le eq isNan ofInt toUnsigned round
 worked-search = refl
 
@@ -112,15 +107,15 @@ pub worked-refused : asked 3 3 (+one ∷ +zero ∷ +zero ∷ []) ≡ refused 6 (
 unfolding searchWithEfSpec newSpec addSpec buildSpec ofBits toBits add sub mul div lt le eq isNan ofInt toUnsigned round
 worked-refused = refl
 
-open-refused : searchWithEfSpec scratch (added .1) (added .2) (+one ∷ []) 1025 3 [] [] ≡ refused 10 [] []
+open-refused : searchWithEfSpec 512 384 (added .1) (added .2) (+one ∷ []) 1025 3 [] [] ≡ refused 10 [] []
 unfolding searchWithEfSpec newSpec addSpec ofBits toBits add sub mul div lt le eq isNan round
 open-refused = refl
 
 -- a build of no nodes; and with scratch a word short, which comes first
-empty-refused : buildSpec scratch (new₀ .1) (new₀ .2) ≡ (9, new₀ .1, new₀ .2)
+empty-refused : buildSpec 512 384 (new₀ .1) (new₀ .2) ≡ (9, new₀ .1, new₀ .2)
 unfolding newSpec buildSpec ofBits toBits lt le eq isNan
 empty-refused = refl
 
-scratch-refused : buildSpec (Scratch 511 384) (new₀ .1) (new₀ .2) ≡ (3, new₀ .1, new₀ .2)
+scratch-refused : buildSpec 511 384 (new₀ .1) (new₀ .2) ≡ (3, new₀ .1, new₀ .2)
 unfolding newSpec buildSpec ofBits toBits lt le eq isNan
 scratch-refused = refl

@@ -11,7 +11,6 @@ use lib.Ieee.{Float, binary32, binary64, ofBits}
 use Rattle.basics.specs.Lists.{pieces}
 use Rattle.basics.specs.Graph.{Bridge}
 use Rattle.basics.proofs.Pieces.{length-flatten}
-use Rattle.store.specs.declared.Lent.{Lent}
 use Rattle.store.specs.Layout.{word, builtState, headerSize, stateAt, dimensionAt, nodesAt, maxLeafSizeAt, minLeafSizeAt, degreeAt, hashBitsAt, finalPruneAt, efSearchAt, entryAt, bridgeCountAt, capacityAt, fractionHighAt, fractionLowAt, alphaAt, docsAt, rowsAt, rowSize, bridgesAt, bridgeSize, wordsSize}
 use Rattle.store.specs.View.{paramsOf, rowWords, bridgeWords, rowBlock, bridgeBlock, entriesIn, bridgeIn, View, view}
 use Rattle.store.proofs.Sizes.{product-le}
@@ -205,10 +204,10 @@ module _ (g : Graph) (w : List ℕ) (f : List Float) (long : wordsSize (word w c
 
 -- ---- what a build that is accepted makes of an open store
 
-pub build-view : (lent : Lent) (w : List ℕ) (f : List Float) → BuildTaken lent w f
+pub build-view : (ws fs : ℕ) (w : List ℕ) (f : List Float) → BuildTaken ws fs w f
     → view (builtWords (graphFor (view w f)) w) f ≡ viewWith (graphFor (view w f)) (view w f)
 unfolding view paramsOf
-build-view lent w f t =
+build-view ws fs w f t =
     let s : Settings = settingsOf (word w dimensionAt) (paramsOf w) in
     let vs : List (List Float) = pieces (word w dimensionAt) (word w nodesAt) f in
     let n : length vs ≡ word w nodesAt = vectors-read w f in

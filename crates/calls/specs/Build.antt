@@ -7,7 +7,7 @@ use lib.ListN.{length, take, drop, set}
 use lib.Ieee.{Float}
 use Rattle.basics.specs.Choice.{pick}
 use Rattle.basics.specs.Refusals.{Check, check, firstRefusal}
-use Rattle.store.specs.declared.Lent.{Lent}
+use Rattle.store.specs.declared.Lent.the-variants.{Scratch}
 use Rattle.store.specs.Layout.{word, builtState, stateAt, nodesAt, degreeAt, entryAt, bridgeCountAt, capacityAt, rowsAt, bridgesAt}
 use Rattle.store.specs.View.{rowBlock, bridgeBlock, view}
 use Rattle.store.specs.Opening.{opening}
@@ -19,9 +19,10 @@ use Rattle.calls.specs.Graph.{Graph, graphOf, graphFor}
 unfoldable pub ownBuildChecks : List ℕ → List Check
 ownBuildChecks w = check (eqb (word w nodesAt) 0) 9 ∷ []
 
-unfoldable pub buildChecks : Lent → List ℕ → List Float → List Check
+-- scratch of ws words and fs floats is lent
+unfoldable pub buildChecks : (ws fs : ℕ) → List ℕ → List Float → List Check
 unfolding opening ownBuildChecks
-buildChecks lent w f = opening lent w f ++ ownBuildChecks w
+buildChecks ws fs w f = opening (Scratch ws fs) w f ++ ownBuildChecks w
 
 -- ---- what it writes
 
@@ -42,8 +43,8 @@ builtWords g w =
 
 -- ---- the call
 
-unfoldable pub buildSpec : Lent → List ℕ → List Float → Answer
+unfoldable pub buildSpec : (ws fs : ℕ) → List ℕ → List Float → Answer
 unfolding pick firstRefusal buildChecks builtWords graphOf view unlessRefused
-buildSpec lent w f =
+buildSpec ws fs w f =
     let words : List ℕ = builtWords (graphFor (view w f)) w in
-    unlessRefused (firstRefusal (buildChecks lent w f)) w f (pick (eqb (word w stateAt) builtState) w words) f
+    unlessRefused (firstRefusal (buildChecks ws fs w f)) w f (pick (eqb (word w stateAt) builtState) w words) f

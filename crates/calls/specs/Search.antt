@@ -12,7 +12,7 @@ use Rattle.basics.specs.Lists.{every}
 use Rattle.basics.specs.Graph.{listOf}
 use Rattle.basics.specs.Refusals.{Check, check, firstRefusal}
 use Rattle.norm.specs.Norm.{scaledOf}
-use Rattle.store.specs.declared.Lent.{Lent}
+use Rattle.store.specs.declared.Lent.the-variants.{Scratch}
 use Rattle.store.specs.Layout.{word, builtState, stateAt, dimensionAt, nodesAt, efSearchAt}
 use Rattle.store.specs.View.{View, view, listIn}
 use Rattle.store.specs.Opening.{opening}
@@ -38,9 +38,10 @@ module _ (w : List ℕ) (query : List Float) (k ef : ℕ) (docs : List ℕ) (dis
       ∷ check (ltb (length docs) (min k (word w nodesAt)) || ltb (length distances) (min k (word w nodesAt))) 12
       ∷ []
 
-  unfoldable pub searchChecks : Lent → List Float → List Check
+  -- scratch of ws words and fs floats is lent
+  unfoldable pub searchChecks : (ws fs : ℕ) → List Float → List Check
   unfolding opening ownSearchChecks
-  searchChecks lent f = opening lent w f ++ ownSearchChecks
+  searchChecks ws fs f = opening (Scratch ws fs) w f ++ ownSearchChecks
 
 -- ---- what it finds
 
@@ -84,14 +85,14 @@ replyOf v query k ef docs distances =
       distances = map (farIn v query) found ++ drop (length found) distances;
     }
 
-unfoldable pub searchWithEfSpec : Lent → List ℕ → List Float → List Float → ℕ → ℕ → List ℕ → List Float → Reply
+unfoldable pub searchWithEfSpec : (ws fs : ℕ) → List ℕ → List Float → List Float → ℕ → ℕ → List ℕ → List Float → Reply
 unfolding pick firstRefusal searchChecks replyOf view
-searchWithEfSpec lent w f query k ef docs distances =
-    let refusal : ℕ = firstRefusal (searchChecks w query k ef docs distances lent f) in
+searchWithEfSpec ws fs w f query k ef docs distances =
+    let refusal : ℕ = firstRefusal (searchChecks w query k ef docs distances ws fs f) in
     let reply : Reply = replyOf (view w f) query k ef docs distances in
     pick (eqb refusal 0) reply (refused refusal docs distances)
 
 -- with the store's ef_search
-unfoldable pub searchSpec : Lent → List ℕ → List Float → List Float → ℕ → List ℕ → List Float → Reply
+unfoldable pub searchSpec : (ws fs : ℕ) → List ℕ → List Float → List Float → ℕ → List ℕ → List Float → Reply
 unfolding searchWithEfSpec
-searchSpec lent w f query k docs distances = searchWithEfSpec lent w f query k (word w efSearchAt) docs distances
+searchSpec ws fs w f query k docs distances = searchWithEfSpec ws fs w f query k (word w efSearchAt) docs distances

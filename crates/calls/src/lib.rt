@@ -7,6 +7,8 @@
 // specs/Graph      parts 1 to 7 for an index's parameters and vectors: rows, entry node, bridges
 // specs/Build      `build`
 // specs/Search     `search_with_ef` and `search`
+// proofs/Taken     what a build and a search that are accepted have passed
+// proofs/Graph     what that graph promises, and a search along its lists
 // proofs/Laid      words laid over others: what stays before and behind them
 // proofs/Views     what the view gives after an accepted build
 // proofs/Examples  01's worked example, from `new` to the answers

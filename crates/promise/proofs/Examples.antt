@@ -8,7 +8,6 @@ use lib.ListN.{replicate}
 use lib.Ieee.{Float, fin, binary32, binary64, fits, ofBits, toBits, add as plus, sub, mul, div, lt, le, eq, isNan, ofInt, toUnsigned, round}
 use Rattle.basics.specs.Sum.{+zero, +one}
 use Rattle.params.specs.declared.PipnnParams.{PipnnParams}
-use Rattle.store.specs.declared.Lent.the-variants.{Scratch}
 use Rattle.promise.specs.Calls.{Typed, Call, new, add, build, searchWithEf, outcome, Past, nothing, built, then}
 use Rattle.promise.specs.Promise.{Claims}
 use Rattle.promise.proofs.Promise.{demand-3}
@@ -48,9 +47,9 @@ calls =
     ∷ add 15 (+one ∷ [])
     ∷ add 20 up
     ∷ add 30 minusOne
-    ∷ build (Scratch 512 384)
+    ∷ build 512 384
     ∷ add 40 one
-    ∷ searchWithEf (Scratch 512 384) one 3 3 (replicate 3 0) (replicate 3 +zero)
+    ∷ searchWithEf 512 384 one 3 3 (replicate 3 0) (replicate 3 +zero)
     ∷ []
 
 -- what is remembered after a list of calls

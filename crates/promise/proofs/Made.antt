@@ -12,7 +12,6 @@ use Rattle.basics.specs.Choice.{pick, pick-ind, pick-yes}
 use Rattle.basics.specs.Refusals.{firstRefusal}
 use Rattle.params.specs.declared.PipnnParams.{PipnnParams}
 use Rattle.norm.specs.Norm.{scaledOf}
-use Rattle.store.specs.declared.Lent.{Lent}
 use Rattle.store.specs.Layout.{word, openState, builtState, stateAt, nodesAt}
 use Rattle.store.specs.View.{View, view}
 use Rattle.graph_rows.specs.Rows.{Settings}
@@ -122,11 +121,11 @@ unfolding view
 open-state x w f o = ap (λ (v : View). v .state) (o .is)
 
 -- an open store, built
-build-open : (lent : Lent) (x : Index) (w : List ℕ) (f : List Float) → Made (opened x) w f → BuildTaken lent w f
+build-open : (ws fs : ℕ) (x : Index) (w : List ℕ) (f : List Float) → Made (opened x) w f → BuildTaken ws fs w f
     → BuiltStore x (builtWords (graphFor (view w f)) w) f
 unfolding docsOf
-build-open lent x w f o t = record {
-  is = build-view lent w f t ∙ ap (λ (v : View). viewWith (graphFor v) v) (o .is) ∙ (λ i. record {
+build-open ws fs x w f o t = record {
+  is = build-view ws fs w f t ∙ ap (λ (v : View). viewWith (graphFor v) v) (o .is) ∙ (λ i. record {
     params = x .params;
     dimension = x .dimension;
     capacity = x .capacity;
@@ -141,15 +140,15 @@ build-open lent x w f o t = record {
   some = omega (arith, t .some, open-nodes x w f o);
 }
 
-build-made : (lent : Lent) (past : Past) (w : List ℕ) (f : List Float) → Made past w f → firstRefusal (buildChecks lent w f) ≡ 0
-    → Made (accepted (build lent) past) (pick (eqb (word w stateAt) builtState) w (builtWords (graphFor (view w f)) w)) f
+build-made : (ws fs : ℕ) (past : Past) (w : List ℕ) (f : List Float) → Made past w f → firstRefusal (buildChecks ws fs w f) ≡ 0
+    → Made (accepted (build ws fs) past) (pick (eqb (word w stateAt) builtState) w (builtWords (graphFor (view w f)) w)) f
 unfolding accepted
-build-made lent nothing w f m e = tt
-build-made lent (opened x) w f m e =
+build-made ws fs nothing w f m e = tt
+build-made ws fs (opened x) w f m e =
     pick-ind (λ (words : List ℕ). BuiltStore x words f) (eqb (word w stateAt) builtState)
     (λ t. absurd (let s = open-state x w f m in let s′ = eqb→eq (word w stateAt) builtState t in omega arith))
-    (λ _. build-open lent x w f m (build-taken lent w f e))
-build-made lent (built x) w f m e =
+    (λ _. build-open ws fs x w f m (build-taken ws fs w f e))
+build-made ws fs (built x) w f m e =
     subst (λ (words : List ℕ). BuiltStore x words f) (sym (pick-yes (eqb (word w stateAt) builtState) w (builtWords (graphFor (view w f)) w) (yes-eqb (state-of m)))) m
 
 -- ---- any call
@@ -159,8 +158,8 @@ pub call-made : (c : Call) (past : Past) (w : List ℕ) (f : List Float) → Mad
 unfolding outcome newSpec addSpec buildSpec accepted
 call-made (new d p t c) past w f m = changes (new d p t c) past (firstRefusal (newChecks d p c w f)) w f _ _ m (new-made d p t c past w f)
 call-made (add doc v) past w f m = changes (add doc v) past (firstRefusal (addChecks w f v)) w f _ _ m (add-made doc v past w f m)
-call-made (build lent) past w f m = changes (build lent) past (firstRefusal (buildChecks lent w f)) w f _ f m (build-made lent past w f m)
-call-made (searchWithEf lent q k ef docs distances) past w f m =
-    subst (λ (h : Past). Made h w f) (sym (same-past (searchWithEf lent q k ef docs distances) (searchWithEfSpec lent w f q k ef docs distances .number) past refl)) m
-call-made (search lent q k docs distances) past w f m =
-    subst (λ (h : Past). Made h w f) (sym (same-past (search lent q k docs distances) (searchSpec lent w f q k docs distances .number) past refl)) m
+call-made (build ws fs) past w f m = changes (build ws fs) past (firstRefusal (buildChecks ws fs w f)) w f _ f m (build-made ws fs past w f m)
+call-made (searchWithEf ws fs q k ef docs distances) past w f m =
+    subst (λ (h : Past). Made h w f) (sym (same-past (searchWithEf ws fs q k ef docs distances) (searchWithEfSpec ws fs w f q k ef docs distances .number) past refl)) m
+call-made (search ws fs q k docs distances) past w f m =
+    subst (λ (h : Past). Made h w f) (sym (same-past (search ws fs q k docs distances) (searchSpec ws fs w f q k docs distances .number) past refl)) m

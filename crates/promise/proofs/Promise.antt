@@ -9,7 +9,6 @@ use lib.Ieee.{Float, binary32}
 use Rattle.basics.specs.Graph.{otherEnds, listOf}
 use Rattle.norm.specs.Norm.{scaledOf}
 use Rattle.walk.specs.Walk.{Reach}
-use Rattle.store.specs.declared.Lent.{Lent}
 use Rattle.store.specs.Layout.{word, efSearchAt, bridgeCountAt}
 use Rattle.store.specs.View.{paramsOf, View, view, listIn}
 use Rattle.store.proofs.Reading.{bridges-read}
@@ -109,16 +108,16 @@ stands (built x) w f m = graphed x w f m
 -- ---- what a search tells
 
 -- the reply to a search with this ef, which may be the store's own
-told : (past : Past) (lent : Lent) (w : List ℕ) (f query : List Float) (k : ℕ) (ef : Index → ℕ) (given : ℕ) (docs : List ℕ) (distances : List Float)
+told : (past : Past) (ws fs : ℕ) (w : List ℕ) (f query : List Float) (k : ℕ) (ef : Index → ℕ) (given : ℕ) (docs : List ℕ) (distances : List Float)
     → Made past w f → ((x : Index) → past ≡ built x → given ≡ ef x)
-    → AnsweredIf past w f query k ef docs distances (searchWithEfSpec lent w f query k given docs distances)
-told nothing lent w f query k ef given docs distances m same = tt
-told (opened x) lent w f query k ef given docs distances m same = λ e.
-    let t = search-replied lent w f query k given docs distances e in
+    → AnsweredIf past w f query k ef docs distances (searchWithEfSpec ws fs w f query k given docs distances)
+told nothing ws fs w f query k ef given docs distances m same = tt
+told (opened x) ws fs w f query k ef given docs distances m same = λ e.
+    let t = search-replied ws fs w f query k given docs distances e in
     omega (arith, t .0 .built, open-state x w f m)
-told (built x) lent w f query k ef given docs distances m same = λ e.
-    let t = search-replied lent w f query k given docs distances e in
-    subst (λ (b : ℕ). Answered x query k b (longestLength (size x) (listNow w f)) docs distances (searchWithEfSpec lent w f query k given docs distances)) (same x refl)
+told (built x) ws fs w f query k ef given docs distances m same = λ e.
+    let t = search-replied ws fs w f query k given docs distances e in
+    subst (λ (b : ℕ). Answered x query k b (longestLength (size x) (listNow w f)) docs distances (searchWithEfSpec ws fs w f query k given docs distances)) (same x refl)
     (subst (Answered x query k given (longestLength (size x) (listNow w f)) docs distances) (sym (t .1))
     (subst (λ (v : View). Answered x query k given (longestLength (size x) (listIn v)) docs distances (replyOf v query k given docs distances)) (sym (m .is))
     (ideal-answered x (m .some) query k given docs distances)))
@@ -132,10 +131,10 @@ call-told : (c : Call) (past : Past) (w : List ℕ) (f : List Float) → Made pa
 unfolding searchSpec
 call-told (new d p t c) past w f m = tt
 call-told (add doc v) past w f m = tt
-call-told (build lent) past w f m = tt
-call-told (searchWithEf lent q k ef docs distances) past w f m = told past lent w f q k (λ x. ef) ef docs distances m (λ x e. refl)
-call-told (search lent q k docs distances) past w f m =
-    told past lent w f q k (λ x. x .params .«ef_search») (word w efSearchAt) docs distances m (stored-ef past w f m)
+call-told (build ws fs) past w f m = tt
+call-told (searchWithEf ws fs q k ef docs distances) past w f m = told past ws fs w f q k (λ x. ef) ef docs distances m (λ x e. refl)
+call-told (search ws fs q k docs distances) past w f m =
+    told past ws fs w f q k (λ x. x .params .«ef_search») (word w efSearchAt) docs distances m (stored-ef past w f m)
 
 -- ---- the whole list
 

@@ -6,7 +6,6 @@ use lib.Dec.{T}
 use lib.Ieee.{Float, binary32, binary64, fits}
 use Rattle.params.specs.declared.PipnnParams.{PipnnParams}
 use Rattle.norm.specs.Norm.{scaledOf}
-use Rattle.store.specs.declared.Lent.{Lent}
 use Rattle.pipnn.specs.Answer.{Answer}
 use Rattle.pipnn.specs.New.{newSpec}
 use Rattle.pipnn.specs.Add.{addSpec}
@@ -20,22 +19,22 @@ pub record Typed (p : PipnnParams) : Type 0 where
   pub fraction : T (fits binary64 (p .«leader_fraction»))
   pub alpha : T (fits binary32 (p .alpha))
 
--- Of scratch the lengths alone count. `docs` and `distances` are the outputs as the call finds them.
+-- Of scratch the lengths alone count, ws words and fs floats. `docs` and `distances` are the outputs as the call finds them.
 pub data Call : Type 0 where
   new : (dimension : ℕ) (p : PipnnParams) → Typed p → (capacity : ℕ) → Call
   add : (doc : ℕ) (vector : List Float) → Call
-  build : (scratch : Lent) → Call
-  searchWithEf : (scratch : Lent) (query : List Float) (k ef : ℕ) (docs : List ℕ) (distances : List Float) → Call
-  search : (scratch : Lent) (query : List Float) (k : ℕ) (docs : List ℕ) (distances : List Float) → Call
+  build : (ws fs : ℕ) → Call
+  searchWithEf : (ws fs : ℕ) (query : List Float) (k ef : ℕ) (docs : List ℕ) (distances : List Float) → Call
+  search : (ws fs : ℕ) (query : List Float) (k : ℕ) (docs : List ℕ) (distances : List Float) → Call
 
 -- the number that it returns, and both stores as it leaves them
 unfoldable pub outcome : Call → List ℕ → List Float → Answer
 unfolding newSpec addSpec buildSpec searchWithEfSpec searchSpec
 outcome (new d p typed c) w f = newSpec d p c w f
 outcome (add doc v) w f = addSpec w f doc v
-outcome (build scratch) w f = buildSpec scratch w f
-outcome (searchWithEf scratch q k ef docs distances) w f = (searchWithEfSpec scratch w f q k ef docs distances .number, w, f)
-outcome (search scratch q k docs distances) w f = (searchSpec scratch w f q k docs distances .number, w, f)
+outcome (build ws fs) w f = buildSpec ws fs w f
+outcome (searchWithEf ws fs q k ef docs distances) w f = (searchWithEfSpec ws fs w f q k ef docs distances .number, w, f)
+outcome (search ws fs q k docs distances) w f = (searchSpec ws fs w f q k docs distances .number, w, f)
 
 -- ---- what is remembered: the last accepted `new`, the adds accepted since, and whether a build was
 
@@ -69,11 +68,11 @@ accepted (new d p typed c) past = opened (record { dimension = d; params = p; ca
 accepted (add doc v) nothing = nothing
 accepted (add doc v) (opened x) = opened (withNode doc v x)
 accepted (add doc v) (built x) = built (withNode doc v x)
-accepted (build scratch) nothing = nothing
-accepted (build scratch) (opened x) = built x
-accepted (build scratch) (built x) = built x
-accepted (searchWithEf scratch q k ef docs distances) past = past
-accepted (search scratch q k docs distances) past = past
+accepted (build ws fs) nothing = nothing
+accepted (build ws fs) (opened x) = built x
+accepted (build ws fs) (built x) = built x
+accepted (searchWithEf ws fs q k ef docs distances) past = past
+accepted (search ws fs q k docs distances) past = past
 
 -- after a call that returned this number
 unfoldable pub then : Call → ℕ → Past → Past

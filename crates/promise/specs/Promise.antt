@@ -97,11 +97,11 @@ AnsweredIf (built x) w f query k ef docs distances reply =
 abbrev pub Told : Call → Past → List ℕ → List Float → Type 0
 Told (new d p typed c) past w f = Unit
 Told (add doc v) past w f = Unit
-Told (build scratch) past w f = Unit
-Told (searchWithEf scratch q k ef docs distances) past w f =
-    AnsweredIf past w f q k (λ x. ef) docs distances (searchWithEfSpec scratch w f q k ef docs distances)
-Told (search scratch q k docs distances) past w f =
-    AnsweredIf past w f q k (λ x. x .params .«ef_search») docs distances (searchSpec scratch w f q k docs distances)
+Told (build ws fs) past w f = Unit
+Told (searchWithEf ws fs q k ef docs distances) past w f =
+    AnsweredIf past w f q k (λ x. ef) docs distances (searchWithEfSpec ws fs w f q k ef docs distances)
+Told (search ws fs q k docs distances) past w f =
+    AnsweredIf past w f q k (λ x. x .params .«ef_search») docs distances (searchSpec ws fs w f q k docs distances)
 
 -- of a list of calls: each call gets both stores as the call before left them
 abbrev pub Claims : List Call → Past → List ℕ → List Float → Type 0
