@@ -1,15 +1,20 @@
 -- The draws as a loop makes them: positions drawn stand at the front of `out`, those not drawn at the front of `left`, and what is left to draw
 -- completes the whole. One turn, and the end. Assumes nothing.
 use mathlib.Core.Path.{_≡_, refl, sym, ap, ap₂, subst, _∙_}
-use mathlib.Core.List.{List, _∷_, _++_, append-nil}
-use Prim.Native.Nat.{ℕ, suc, _+_, _-_, _%_, _≤_, _<_}
+use mathlib.Core.List.{List, [], _∷_, _++_, append-nil}
+use Prim.Native.Nat.{ℕ, zero, suc, _+_, _-_, _%_, _≤_, _<_}
 use native.Mathlib.Nat.{mod-lt}
 use native.Mathlib.Numerals.{add-one}
 use native.Mathlib.Omega.{arith}
-use lib.ListN.{length, getD, set, take, drop, length-set, take-append-drop}
+use lib.ListN.{length, getD, set, take, drop, length-set, length-append, take-append-drop}
 use lib.Seq.{take-length, length-take-le, getD-take, take-suc-set, append-snoc, drop-set-lt, drop-drop, take-take, take-set-lt}
 use Rattle.lcg.specs.Lcg.{nextOf, high, drawAddend}
-use Rattle.leaders.specs.Leaders.{swapRemove, drawn}
+use Rattle.leaders.specs.Leaders.{swapRemove, drawn, upTo}
+
+pub length-upTo : (n : ℕ) → length (upTo n) ≡ n
+unfolding upTo
+length-upTo zero = refl
+length-upTo (suc n) = let r = length-upTo n in omega (arith, length-append (upTo n) (n ∷ []))
 
 pub record Drawing (count start : ℕ) (left₀ out₀ : List ℕ) (i r : ℕ) (left out : List ℕ) : Type 0 where
   pub within : i ≤ count

@@ -8,7 +8,7 @@ use lib.ListN.{length, drop, set, length-set}
 use lib.Seq.{drop-length}
 use Rattle.basics.proofs.Loops.{front-set}
 use Rattle.leaders.specs.Leaders.{upTo}
-use Rattle.leaders.proofs.Positions.{length-upTo}
+use Rattle.leaders.proofs.Draws.{length-upTo}
 use native.Mathlib.Omega.{arith}
 use Rattle.leaders.proofs.count_up.Statement.{statement}
 use Rattle.leaders.proofs.count_up.Tie as tie

@@ -6,7 +6,7 @@ use Prim.Native.Nat.{ℕ, _+_, _*_, _^_, _<_, min}
 use native.Mathlib.Nat.{mod-eq-of-lt}
 use lib.ListN.{length, drop}
 use Rattle.leaders.specs.Leaders.{drawStart, drawn, drawnInto, upTo}
-use Rattle.leaders.proofs.Positions.{length-upTo}
+use Rattle.leaders.proofs.Draws.{length-upTo}
 use borrow.Author.Needs.{needs}
 use Rattle.leaders.proofs.draw_leaders.Statement.{statement}
 use Rattle.leaders.proofs.draw_leaders.Tie as tie
