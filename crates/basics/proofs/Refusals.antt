@@ -6,6 +6,7 @@ use Prim.Native.Nat.{ℕ, zero, suc}
 use native.Mathlib.Omega.{arith}
 use lib.Dec.{T}
 use lib.ListN.{getD, take}
+use lib.Ieee.Bits.{is-false}
 use Rattle.basics.specs.Choice.{pick-ind, pick-yes, pick-no, pick-true, pick-false}
 use Rattle.basics.specs.Refusals.{Check, check, firstRefusal, Numbered}
 
@@ -46,3 +47,19 @@ then-first (c ∷ cs) second =
     pick-ind (λ (x : ℕ). (x ≡ 0 → ⊥) → firstRefusal ((c ∷ cs) ++ second) ≡ x) (c .fails)
     (λ t n. pick-yes (c .fails) (c .number) (firstRefusal (cs ++ second)) t)
     (λ t n. pick-no (c .fails) (c .number) (firstRefusal (cs ++ second)) t ∙ then-first cs second n)
+
+-- a list that turns nothing back passes check by check
+pub passes : (cs : List Check) → Numbered cs → firstRefusal cs ≡ 0 → Pass cs
+unfolding firstRefusal
+passes [] k = λ e. tt
+passes (c ∷ cs) k =
+    pick-ind (λ (x : ℕ). x ≡ 0 → Pass (c ∷ cs)) (c .fails) (λ t e. absurd (omega (arith, k .0))) (λ t e. (is-false (c .fails) t, passes cs (k .1) e))
+
+-- two lists that turn nothing back together turn nothing back each
+pub both-none : (first second : List Check) → Numbered first → firstRefusal (first ++ second) ≡ 0 → (firstRefusal first ≡ 0) × (firstRefusal second ≡ 0)
+unfolding firstRefusal
+both-none [] second k = λ e. (refl, e)
+both-none (c ∷ cs) second k =
+    pick-ind (λ (x : ℕ). x ≡ 0 → (firstRefusal (c ∷ cs) ≡ 0) × (firstRefusal second ≡ 0)) (c .fails)
+    (λ t e. absurd (omega (arith, k .0)))
+    (λ t e. let r = both-none cs second (k .1) e in (pick-no (c .fails) (c .number) (firstRefusal cs) t ∙ r .0, r .1))

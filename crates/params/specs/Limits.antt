@@ -36,6 +36,7 @@ capacityWithin c = leb 1 c && leb c mostCapacity
 
 -- The fraction is compared as a number: −0 is 0, and a NaN lies nowhere. Alpha is any finite number, final_prune either bool.
 unfoldable pub withinLimits : PipnnParams → Bool
+unfolding le
 withinLimits p =
     leb 1 (p .«max_leaf_size») && leb (p .«max_leaf_size») mostLeafSize && leb (p .«min_leaf_size») mostMinLeafSize
     && le +zero (p .«leader_fraction») && le (p .«leader_fraction») +one

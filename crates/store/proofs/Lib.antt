@@ -1,2 +1,5 @@
+pub mod Good
 pub mod Header
+pub mod Opened
+pub mod Reading
 pub mod Sizes

@@ -1,14 +1,15 @@
 -- The one view of the two stores (01, "Records"): what every later definition and contract reads. It has a value on words and floats of any
 -- content and length; what lies past n, past a row's count, past the bridges counted and past the sizes is not in it.
-use mathlib.Core.List.{List, map}
-use Prim.Native.Nat.{ℕ, _+_, _*_, _^_}
+use mathlib.Core.List.{List, [], _∷_, _++_, map}
+use Prim.Native.Nat.{ℕ, _+_, _-_, _*_, _/_, _%_, _^_}
 use lib.Dec.{eqb}
-use lib.ListN.{getD, take, drop}
-use lib.Ieee.{Float, binary32, binary64, ofBits}
+use lib.ListN.{length, getD, take, drop, replicate}
+use lib.Ieee.{Float, binary32, binary64, ofBits, toBits}
+use Rattle.basics.specs.Choice.{pick}
 use Rattle.basics.specs.Lists.{pieces}
 use Rattle.basics.specs.Graph.{Bridge, listOf}
 use Rattle.params.specs.declared.PipnnParams.{PipnnParams}
-use Rattle.store.specs.Layout.{word, stateAt, dimensionAt, nodesAt, maxLeafSizeAt, minLeafSizeAt, degreeAt, hashBitsAt, finalPruneAt, efSearchAt, entryAt, bridgeCountAt, capacityAt, fractionHighAt, fractionLowAt, alphaAt, docsAt, rowsAt, rowSize, bridgesAt, bridgeSize}
+use Rattle.store.specs.Layout.{word, openState, stateAt, dimensionAt, nodesAt, maxLeafSizeAt, minLeafSizeAt, degreeAt, hashBitsAt, finalPruneAt, efSearchAt, entryAt, bridgeCountAt, capacityAt, fractionHighAt, fractionLowAt, alphaAt, docsAt, rowsAt, rowSize, bridgesAt, bridgeSize}
 
 -- the parameters as the header has them, the two floats from their bits
 unfoldable pub paramsOf : List ℕ → PipnnParams
@@ -23,6 +24,14 @@ paramsOf w = record {
   alpha = ofBits binary32 (word w alphaAt);
   «ef_search» = word w efSearchAt;
 }
+
+-- the other way: the header of an open store with no nodes
+unfoldable pub emptyHeader : ℕ → PipnnParams → ℕ → List ℕ
+unfolding toBits
+emptyHeader dimension p capacity =
+    openState ∷ dimension ∷ 0 ∷ p .«max_leaf_size» ∷ p .«min_leaf_size» ∷ p .«max_degree» ∷ p .«num_hash_bits»
+    ∷ pick (p .«final_prune») 1 0 ∷ p .«ef_search» ∷ 0 ∷ 0 ∷ capacity
+    ∷ toBits binary64 (p .«leader_fraction») / 2 ^ 32 ∷ toBits binary64 (p .«leader_fraction») % 2 ^ 32 ∷ toBits binary32 (p .alpha) ∷ 0 ∷ []
 
 -- the words of the first n rows, and of the bridges counted
 unfoldable pub rowWords : List ℕ → List (List ℕ)
@@ -39,6 +48,13 @@ entriesIn row = take (getD row 0 0) (drop 1 row)
 
 abbrev pub bridgeIn : List ℕ → Bridge
 bridgeIn pair = record { near = getD pair 0 0; far = getD pair 1 0 }
+
+-- the other way: a row as words, zero past its count, and a bridge
+abbrev pub rowBlock : ℕ → List ℕ → List ℕ
+rowBlock D row = length row ∷ (row ++ replicate (D - length row) 0)
+
+abbrev pub bridgeBlock : Bridge → List ℕ
+bridgeBlock b = b .near ∷ b .far ∷ []
 
 pub record View : Type 0 where
   pub params : PipnnParams

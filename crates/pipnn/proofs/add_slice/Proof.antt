@@ -1,0 +1,107 @@
+-- `pipnn::add_slice` meets its contract: a refusal has written nothing; accepted, node n's places are free and the three stores go there. Assumes nothing.
+use mathlib.Core.Path.{_≡_, sym, ap, _∙_}
+use Prim.Native.Nat.{ℕ, _+_}
+use native.Mathlib.Omega.{arith}
+use lib.ListN.{set}
+use borrow.Author.Needs.{needs}
+use Rattle.basics.specs.Refusals.{firstRefusal}
+use Rattle.store.specs.Layout.{nodesAt}
+use Rattle.pipnn.specs.Answer.{Answer}
+use Rattle.pipnn.specs.Add.{addChecks, addedWords, addedFloats, addSpec}
+use Rattle.pipnn.proofs.Answer.{left-alone, changed}
+use Rattle.pipnn.proofs.AddLaws.{AddTaken, add-taken}
+use Rattle.pipnn.proofs.add_slice.Statement.{statement}
+use Rattle.pipnn.proofs.add_slice.Tie as tie
+
+abbrev refusal : tie.Start → ℕ
+refusal s = firstRefusal (addChecks (s .args .words .now) (s .args .floats .now) (s .args .vector .now))
+
+zero : (c : tie.Else1) → refusal (c .before .before .before .before .before .before .before) ≡ 0
+zero c = sym (c .before .add-refusal .ensures) ∙ c .if1 .left
+
+abbrev Taken : tie.Start → Type 0
+Taken s = AddTaken (s .args .words .now) (s .args .floats .now) (s .args .vector .now)
+
+taken : (c : tie.Else1) → Taken (c .before .before .before .before .before .before .before)
+taken c = add-taken _ _ _ (zero c)
+
+add-refusal-requires : tie.Need-add-refusal-requires
+add-refusal-requires c κs = search needs
+
+same-length : tie.Need-same-length
+same-length c = search needs
+
+same-length-2 : tie.Need-same-length-2
+same-length-2 c = search needs
+
+returns : tie.Need-returns
+unfolding addSpec
+returns c =
+    let s = c .before .before .before .before .before .before .before in
+    ap (λ (k : ℕ). (k, s .args .words .now, s .args .floats .now)) (c .before .add-refusal .ensures)
+    ∙ left-alone (refusal s) _ _ _ _ (λ e. c .if1 .taken (c .before .add-refusal .ensures ∙ e))
+
+word-at-requires : tie.Need-word-at-requires
+word-at-requires c κs = search needs
+
+word-at-requires-2 : tie.Need-word-at-requires-2
+word-at-requires-2 c κs = search needs
+
+floats-size-requires : tie.Need-floats-size-requires
+floats-size-requires c κs = search needs
+
+put-vector-requires : tie.Need-put-vector-requires
+put-vector-requires c κs =
+    rw (c .before .floats-size .ensures, c .before .before .word-at2 .ensures, c .before .before .before .before .word-at .ensures) (taken (c .before .before .before .before .before .before) .vector)
+
+put-doc-requires : tie.Need-put-doc-requires
+put-doc-requires c κs = search needs
+
+add-words : tie.Need-add-words
+add-words c =
+    let t = taken (c .before .before .before .before .before .before .before .before .before .before .before .before .before) in
+    omega (arith, c .before .before .before .before .before .before .before .before .before .before .before .word-at .ensures, t .free, t .stores .header .capacity .most)
+
+slice-write-words : tie.Need-slice-write-words
+slice-write-words c =
+    let t = taken (c .before .before .before .before .before .before .before .before .before .before .before .before .before) in
+    omega (arith, c .before .before .put-doc .kept .0, t .stores .long)
+
+same-length-3 : tie.Need-same-length-3
+same-length-3 c = search needs
+
+same-length-4 : tie.Need-same-length-4
+same-length-4 c = search needs
+
+returns-2 : tie.Need-returns-2
+unfolding addSpec addedWords addedFloats
+returns-2 c =
+    let s = c .before .before .before .before .before .before .before .before .before .before .before .before .before .before .before .before .before .before .before .before in
+    let n = c .before .before .before .before .before .before .before .before .before .before .before .word-at in
+    let d = c .before .before .before .before .before .before .before .before .before .word-at2 in
+    let at = c .before .before .before .before .before .before .before .before .floats-size in
+    let doc = c .before .before .put-doc in
+    let vector = c .before .before .before .before .before .before .put-vector in
+    let words : set (doc .last .0) nodesAt (n .result + 1) ≡ addedWords (s .args .words .now) (s .args .doc .0) = rw (doc .ensures, n .ensures) in
+    let floats : vector .last .0 ≡ addedFloats (s .args .words .now) (s .args .floats .now) (s .args .vector .now) =
+    rw (vector .ensures, at .ensures, n .ensures, d .ensures) in
+    _∙_ {A = Answer} (λ i. (0, words i, floats i)) (changed (refusal s) _ _ _ _ (zero (c .before .before .before .before .before .before .before .before .before .before .before .before .before)))
+
+pub add-slice-spec : {M : Type 1} → statement M
+add-slice-spec =
+    tie.close
+    (tie.spec
+    add-refusal-requires
+    same-length
+    same-length-2
+    returns
+    word-at-requires
+    word-at-requires-2
+    floats-size-requires
+    put-vector-requires
+    put-doc-requires
+    add-words
+    slice-write-words
+    same-length-3
+    same-length-4
+    returns-2)

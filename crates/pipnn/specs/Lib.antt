@@ -1,0 +1,3 @@
+pub mod Answer
+pub mod New
+pub mod Add
