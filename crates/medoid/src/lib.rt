@@ -10,10 +10,9 @@
 // the number of nodes as an f32. Equal to `centroidOf` of specs/Centroid.
 ghost use mathlib.Core.Path.{_≡_};
 ghost use Prim.Native.Nat.{_*_, _^_, _≤_};
-ghost use lib.ListN.{length, replicate};
+ghost use lib.ListN.{length};
 ghost use lib.Ieee.{binary32};
 ghost use Rattle.basics.specs.Lists.{pieces};
-ghost use Rattle.basics.specs.Sum.{+zero};
 ghost use Rattle.medoid.specs.Centroid.{addTo, sumsFrom, centroidOf};
 
 // The centroid of the first n rows of `vectors`, whose dimension is the length of `out`. The number of
@@ -22,19 +21,9 @@ pub fn centroid(vectors: &[f32], n: usize, out: &mut [f32])
     requires { ⌜ (n * length (now out) ≤ length (now vectors)) × (n ≤ 2 ^ 24) ⌝ }
     ensures { λ _. ⌜ now (out .exit) ≡ centroidOf binary32 (length (now (out .entry))) (pieces (length (now (out .entry))) n (now (vectors .entry))) ⌝ }
 {
-    clear(out);
+    slices::clear_floats(out);
     sum_rows(vectors, n, out);
     norm::divide(out, n as f32);
-}
-
-fn clear(out: &mut [f32])
-    ensures { λ _. ⌜ now (out .exit) ≡ replicate (length (now (out .entry))) +zero ⌝ }
-{
-    let mut i: usize = 0;
-    while i < out.len() {
-        out[i] = 0.0;
-        i += 1;
-    }
 }
 
 // The rows added to the sums, one after the other.

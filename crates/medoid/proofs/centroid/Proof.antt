@@ -9,19 +9,19 @@ use lib.Ieee.{Float, binary32, div, ofInt, inFloat}
 use Rattle.basics.specs.Lists.{pieces}
 use Rattle.basics.specs.Sum.{+zero}
 use Rattle.medoid.specs.Centroid.{sumsFrom, centroidOf}
-use Rattle.medoid.proofs.Sums.{length-pieces}
+use Rattle.basics.proofs.Pieces.{length-pieces}
 use borrow.Author.Needs.{needs}
 use Rattle.medoid.proofs.centroid.Statement.{statement}
 use Rattle.medoid.proofs.centroid.Tie as tie
 
-clear-requires : tie.Need-clear-requires
-clear-requires c κs = search needs
+clear-floats-requires : tie.Need-clear-floats-requires
+clear-floats-requires c κs = search needs
 
 sum-rows-requires : tie.Need-sum-rows-requires
 sum-rows-requires c κs =
     let start = c .before .before .before .before .before .before .before in
     subst (λ (d : ℕ). start .args .n * d ≤ length (start .args .vectors .now))
-    (sym (ap length (c .before .before .before .clear .ensures) ∙ length-replicate (length (start .args .out .now)) +zero)) (start .pre .0)
+    (sym (ap length (c .before .before .before .clear-floats .ensures) ∙ length-replicate (length (start .args .out .now)) +zero)) (start .pre .0)
 
 int-to-float-divide : tie.Need-int-to-float-divide
 unfolding inFloat
@@ -52,7 +52,7 @@ returns : tie.Need-returns
 returns c =
     let x = c .before .before .before .before .before .before .before .before .before .before .before .before .before .before .before .args in
     joined (x .vectors .now) (x .out .now) _ _ _ (x .n)
-    (c .before .before .before .before .before .before .before .before .before .before .before .clear .ensures)
+    (c .before .before .before .before .before .before .before .before .before .before .before .clear-floats .ensures)
     (c .before .before .before .before .before .before .before .sum-rows .ensures)
     (c .before .before .divide .ensures)
 
@@ -60,7 +60,7 @@ pub centroid-spec : {M : Type 1} → statement M
 centroid-spec =
     tie.close
     (tie.spec
-    clear-requires
+    clear-floats-requires
     sum-rows-requires
     int-to-float-divide
     divide-requires
