@@ -9,15 +9,33 @@
 // Components are summed node by node, in the order of adding, each step rounded, and then divided by
 // the number of nodes as an f32. Equal to `centroidOf` of specs/Centroid.
 ghost use mathlib.Core.Path.{_≡_};
-ghost use Prim.Native.Nat.{_*_, _^_, _≤_};
+ghost use Prim.Native.Nat.{_*_, _^_, _≤_, min};
 ghost use lib.ListN.{length};
 ghost use lib.Ieee.{binary32};
 ghost use Rattle.basics.specs.Lists.{pieces};
-ghost use Rattle.medoid.specs.Centroid.{addTo, sumsFrom, centroidOf};
+ghost use Rattle.medoid.specs.Centroid.{addTo, sumsFrom, centroidOf, rowsIn};
 
-// The centroid of the first n rows of `vectors`, whose dimension is the length of `out`. The number of
-// rows is one that an f32 counts without a gap.
-pub fn centroid(vectors: &[f32], n: usize, out: &mut [f32])
+// The centroid of the first n rows of `vectors`, or of as many as stand there whole, whose dimension is
+// the length of `out`.
+pub fn centroid(vectors: &[f32], n: u16, out: &mut [f32])
+    ensures { λ _. ⌜ now (out .exit) ≡ centroidOf binary32 (length (now (out .entry))) (rowsIn (length (now (out .entry))) n (now (vectors .entry))) ⌝ }
+{
+    let dimension = out.len();
+    if dimension == 0 {
+        return;
+    }
+    let rows = lesser(n as usize, vectors.len() / dimension);
+    mean(vectors, rows, out);
+}
+
+fn lesser(a: usize, b: usize) -> usize
+    ensures { λ r. ⌜ r ≡ min a b ⌝ }
+{
+    if a < b { a } else { b }
+}
+
+// The same of rows that are all there, and few enough that an f32 counts them without a gap.
+fn mean(vectors: &[f32], n: usize, out: &mut [f32])
     requires { ⌜ (n * length (now out) ≤ length (now vectors)) × (n ≤ 2 ^ 24) ⌝ }
     ensures { λ _. ⌜ now (out .exit) ≡ centroidOf binary32 (length (now (out .entry))) (pieces (length (now (out .entry))) n (now (vectors .entry))) ⌝ }
 {

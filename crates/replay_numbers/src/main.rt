@@ -95,35 +95,23 @@ fn leaders_is_same(tokens: &[u64], asked: usize) -> bool {
 fn draw_is_same(tokens: &[u64], asked: usize, left: &mut [u32], drawn: &mut [u32]) -> bool {
     let n = replay::word(tokens, 0, 1);
     let count = leaders::leader_count(n, bits::f64_from(replay::token(tokens, 0, 2)));
-    let room = n as usize;
     let many = count as usize;
-    if left.len() < room {
-        return false;
-    }
     if drawn.len() < many {
         return false;
     }
-    leaders::draw_leaders(
-        replay::word(tokens, 0, 0),
-        &mut left[..room],
-        &mut drawn[..many],
-    );
+    leaders::draw_leaders(replay::word(tokens, 0, 0), n, left, &mut drawn[..many]);
     replay::same_words(tokens, asked, replay::front_words(drawn, many))
 }
 
 // centroid N DIM v.. = c..
 fn centroid_is_same(tokens: &[u64], asked: usize, vectors: &mut [f32], sums: &mut [f32]) -> bool {
-    let n = replay::lesser(replay::size(tokens, 0, 0), 1024);
-    let dimension = replay::lesser(replay::size(tokens, 0, 1), 64);
-    let many = n * dimension;
-    let got = replay::floats(tokens, 2, many, vectors);
-    if got < many {
-        return false;
-    }
+    let dimension = replay::size(tokens, 0, 1);
+    let got = replay::floats(tokens, 2, 8192, vectors);
     if sums.len() < dimension {
         return false;
     }
-    medoid::centroid(vectors, n, &mut sums[..dimension]);
+    let n = (replay::word(tokens, 0, 0) % 65536) as u16;
+    medoid::centroid(&vectors[..got], n, &mut sums[..dimension]);
     replay::same_floats(tokens, asked, replay::front(sums, dimension))
 }
 

@@ -1,6 +1,5 @@
--- The two parts are within their slices, and a part of as many words as a u32 counts is no longer than that. Assumes nothing.
+-- The parts are within their slices. Assumes nothing.
 use mathlib.Core.Path.{sym}
-use lib.ListN.{length-take}
 use lib.Seq.{length-take-le}
 use native.Mathlib.Omega.{arith}
 use borrow.Author.Needs.{needs}
@@ -19,17 +18,11 @@ f64-from-requires c κs = search needs
 leader-count-requires : tie.Need-leader-count-requires
 leader-count-requires c κs = search needs
 
-cast-room : tie.Need-cast-room
-cast-room c = search needs
-
 cast-many : tie.Need-cast-many
 cast-many c = search needs
 
 returns : tie.Need-returns
 returns c = search needs
-
-returns-2 : tie.Need-returns-2
-returns-2 c = search needs
 
 word-requires-2 : tie.Need-word-requires-2
 word-requires-2 c κs = search needs
@@ -40,14 +33,8 @@ slice-relend-prefix-draw-leaders c = search needs
 slice-aggregate-draw-leaders : tie.Need-slice-aggregate-draw-leaders
 slice-aggregate-draw-leaders c = sym (length-take-le _ _ (omega arith))
 
-slice-relend-prefix-draw-leaders-2 : tie.Need-slice-relend-prefix-draw-leaders-2
-slice-relend-prefix-draw-leaders-2 c = search needs
-
-slice-aggregate-draw-leaders-2 : tie.Need-slice-aggregate-draw-leaders-2
-slice-aggregate-draw-leaders-2 c = sym (length-take-le _ _ (omega arith))
-
 draw-leaders-requires : tie.Need-draw-leaders-requires
-draw-leaders-requires c κs = simp length-take (omega arith)
+draw-leaders-requires c κs = search needs
 
 front-words-requires : tie.Need-front-words-requires
 front-words-requires c κs = search needs
@@ -61,8 +48,8 @@ same-length c = search needs
 same-length-2 : tie.Need-same-length-2
 same-length-2 c = search needs
 
-returns-3 : tie.Need-returns-3
-returns-3 c = search needs
+returns-2 : tie.Need-returns-2
+returns-2 c = search needs
 
 pub draw-is-same-spec : {M : Type 1} → statement M
 draw-is-same-spec =
@@ -72,18 +59,14 @@ draw-is-same-spec =
     token-requires
     f64-from-requires
     leader-count-requires
-    cast-room
     cast-many
     returns
-    returns-2
     word-requires-2
     slice-relend-prefix-draw-leaders
     slice-aggregate-draw-leaders
-    slice-relend-prefix-draw-leaders-2
-    slice-aggregate-draw-leaders-2
     draw-leaders-requires
     front-words-requires
     same-words-requires
     same-length
     same-length-2
-    returns-3)
+    returns-2)
