@@ -1,12 +1,12 @@
 -- Without components there is nothing to sum; otherwise the rows taken stand whole in the slice. Assumes nothing.
 use mathlib.Core.Path.{_≡_, refl, sym, ap, _∙_}
 use mathlib.Core.List.{List, [], _∷_, map}
-use Prim.Native.Nat.{ℕ, _*_, _/_, _≤_}
-use native.Mathlib.Nat.{le-trans, mul-le-mul-right, div-mul-le-self}
+use Prim.Native.Nat.{ℕ}
 use lib.IntN.{pos}
 use lib.ListN.{length}
 use lib.Ieee.{Float, binary32, div, ofInt}
 use Rattle.basics.specs.Lists.{pieces}
+use Rattle.medoid.proofs.Rows.{fit}
 use Rattle.medoid.specs.Centroid.{addTo, sumsFrom, centroidOf}
 use native.Mathlib.Omega.{arith}
 use borrow.Author.Needs.{needs}
@@ -23,9 +23,6 @@ nothing : (out : List Float) (vs : List (List Float)) → length out ≡ 0 → o
 unfolding centroidOf
 nothing [] vs e = sym (ap (map (λ (s : Float). div binary32 s (ofInt binary32 (pos (length vs))))) (no-sums vs))
 nothing (x ∷ out) vs e = absurd (omega arith)
-
-fit : (k d size : ℕ) → k ≤ size / d → k * d ≤ size
-fit k d size h = le-trans (mul-le-mul-right d h) (div-mul-le-self size d)
 
 returns : tie.Need-returns
 returns c = nothing (c .before .before .before .args .out .now) _ (c .if1 .taken)
