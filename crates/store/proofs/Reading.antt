@@ -85,7 +85,7 @@ module _ (D : ℕ) where
   block-length : (r : List ℕ) → length r ≤ D → length (rowBlock D r) ≡ rowSize D
   block-length r h = omega (arith, length-append r (replicate (D - length r) 0), length-replicate (D - length r) (zero))
 
-  blocks-sized : (rs : List (List ℕ)) → Short D rs → Sized (rowSize D) (map (rowBlock D) rs)
+  pub blocks-sized : (rs : List (List ℕ)) → Short D rs → Sized (rowSize D) (map (rowBlock D) rs)
   blocks-sized [] h = tt
   blocks-sized (r ∷ rs) h = (block-length r (h .0), blocks-sized rs (h .1))
 
@@ -100,7 +100,7 @@ module _ (D : ℕ) where
       ∙ ap (map entriesIn) (pieces-back (rowSize D) (map (rowBlock D) rs) rest (blocks-sized rs h))
       ∙ entries-back rs
 
-pairs-sized : (bs : List Bridge) → Sized bridgeSize (map bridgeBlock bs)
+pub pairs-sized : (bs : List Bridge) → Sized bridgeSize (map bridgeBlock bs)
 pairs-sized [] = tt
 pairs-sized (b ∷ bs) = (refl, pairs-sized bs)
 

@@ -1,0 +1,2 @@
+pub mod KeepClosest
+pub mod Beam

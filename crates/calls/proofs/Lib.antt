@@ -1,0 +1,5 @@
+pub mod Laid
+pub mod Taken
+pub mod Graph
+pub mod Views
+pub mod Examples

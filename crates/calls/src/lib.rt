@@ -1,0 +1,12 @@
+// The calls build and search (01, "Records", "Turned back", parts 7 and 8), as `build`, `search_with_ef` and
+// `search` of src/pipnn/mod.rs. Definitions and laws.
+//
+// Each is one definition of everything that the call leaves: its number, both stores or both outputs whole,
+// the counts, also where it refuses. `new` and `add` have theirs in `pipnn`.
+//
+// specs/Graph      parts 1 to 7 for an index's parameters and vectors: rows, entry node, bridges
+// specs/Build      `build`
+// specs/Search     `search_with_ef` and `search`
+// proofs/Laid      words laid over others: what stays before and behind them
+// proofs/Views     what the view gives after an accepted build
+// proofs/Examples  01's worked example, from `new` to the answers

@@ -1,0 +1,4 @@
+pub mod Order
+pub mod Made
+pub mod Promise
+pub mod Examples
