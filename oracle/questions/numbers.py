@@ -90,31 +90,6 @@ def scales():
         yield line('scale', counted([single(value(d.unit()) * 10.0 ** d.between(-12, -8)) for _ in range(d.between(1, 6))]))
 
 
-def to_sort(n):
-    """distances with few ties, many ties, or edges"""
-    pool = d.vector(d.between(1, 8), d.near) + [ZERO, MINUS_ZERO]
-    component = d.of([d.near, lambda: d.of(pool), lambda: d.of(pool), d.edge, lambda: d.of(NANS + [INFINITY, SIGN | INFINITY])])
-    return d.vector(n, component)
-
-
-def sorts():
-    for v in [[], [ZERO, MINUS_ZERO], [MINUS_ZERO, ZERO], [ONE] * 5, NANS, list(reversed(EDGES + NANS)), EDGES + NANS + EDGES]:
-        yield line('sort', counted(v))
-    for n in range(71):
-        yield line('sort', counted(to_sort(n)))
-        yield line('sort', counted(to_sort(n)))
-    for n in (1024, 2048):
-        yield line('sort', counted(d.vector(n, d.unit)))
-    yield line('sort', counted(d.vector(2048, d.whole)))
-
-
-def firsts():
-    for n in range(1, 71):
-        yield line('first', d.of([0, 1, 2, d.below(n), d.below(n), n, n + 1, 64]), counted(to_sort(n)))
-    for n, m in ((1024, 64), (2048, 1)):
-        yield line('first', m, counted(d.vector(n, d.of([d.unit, d.whole]))))
-
-
 def products():
     edges = [0, 1, 2, (1 << 32) - 1, 1 << 32, (1 << 32) + 1, (1 << 63) - 1, 1 << 63, ALL, 42, 6364136223846793005]
     for a in edges:
@@ -168,5 +143,5 @@ def centroids():
 
 
 def questions():
-    for part in (dots, distances, roots, scales, sorts, firsts, products, planes, leaders, draws, centroids):
+    for part in (dots, distances, roots, scales, products, planes, leaders, draws, centroids):
         yield from part()

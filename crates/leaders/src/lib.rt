@@ -37,9 +37,17 @@ fn floor_to(x: f64, top: u64) -> u64
     0
 }
 
-// Draws as many positions as `out` has room for, at most as many as there are. A segment's positions
-// are 0 up to the length of `left`, which holds those not drawn yet; what it holds afterwards is free.
-pub fn draw_leaders(level: u32, left: &mut [u32], out: &mut [u32])
+// Draws positions of a segment of n, or of as many as `left` has room for: as many as `out` has room
+// for, at most all. `left` holds those not drawn yet; what it holds afterwards is free.
+pub fn draw_leaders(level: u32, n: u32, left: &mut [u32], out: &mut [u32])
+    ensures { λ _. ⌜ now (out .exit) ≡ drawnInto level (min n (length (now (left .entry)))) (now (out .entry)) ⌝ }
+{
+    let room = lesser(n as usize, left.len());
+    draw_segment(level, &mut left[..room], out);
+}
+
+// The same where all of `left` is the segment.
+fn draw_segment(level: u32, left: &mut [u32], out: &mut [u32])
     requires { ⌜ length (now left) ≤ 2 ^ 32 ⌝ }
     ensures { λ _. ⌜ now (out .exit) ≡ drawnInto level (length (now (left .entry))) (now (out .entry)) ⌝ }
 {

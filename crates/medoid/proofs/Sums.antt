@@ -2,7 +2,7 @@
 -- Assumes nothing.
 use mathlib.Core.Path.{_≡_, refl, sym, ap, ap₂, _∙_}
 use mathlib.Core.List.{List, [], _∷_, _++_, append-nil}
-use Prim.Native.Nat.{ℕ, zero, suc, _+_, _-_, _≤_, _<_}
+use Prim.Native.Nat.{ℕ, suc, _+_, _-_, _≤_, _<_}
 use native.Mathlib.Nat.{le-of-lt}
 use native.Mathlib.Numerals.{add-one}
 use native.Mathlib.Omega.{arith}
@@ -56,11 +56,6 @@ module _ (sums row : List Float) (e : length row ≡ length sums) where
       ∙ append-nil (addTo binary32 sums row)
 
 -- ---- over rows
-
-pub length-pieces : {A : Type 0} (d n : ℕ) (xs : List A) → length (pieces d n xs) ≡ n
-unfolding pieces
-length-pieces d zero xs = refl
-length-pieces d (suc n) xs = ap suc (length-pieces d n (drop d xs))
 
 -- what is left to add from row i on, which starts at `at`, completes the whole
 abbrev pub Summing : List Float → ℕ → ℕ → List Float → ℕ → ℕ → List Float → Type 0

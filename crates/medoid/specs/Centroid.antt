@@ -1,9 +1,10 @@
 -- The centroid of the stored vectors (01, part 6, `compute_medoid`): components summed node by node, then divided by n as f32.
 use mathlib.Core.List.{List, [], _∷_, map}
-use Prim.Native.Nat.{ℕ}
+use Prim.Native.Nat.{ℕ, _/_, min}
 use lib.IntN.{pos}
 use lib.ListN.{length, replicate}
 use lib.Ieee.{Float, Format, add, div, ofInt}
+use Rattle.basics.specs.Lists.{pieces}
 use Rattle.basics.specs.Sum.{+zero}
 
 -- one vector added to the sums, component by component
@@ -20,3 +21,7 @@ sumsFrom f sums (v ∷ vs) = sumsFrom f (addTo f sums v) vs
 unfoldable pub centroidOf : Format → ℕ → List (List Float) → List Float
 unfolding sumsFrom
 centroidOf f dimension vs = map (λ (s : Float). div f s (ofInt f (pos (length vs)))) (sumsFrom f (replicate dimension +zero) vs)
+
+-- the first n rows of d components, or as many as stand whole in a list
+abbrev pub rowsIn : ℕ → ℕ → List Float → List (List Float)
+rowsIn d n xs = pieces d (min n (length xs / d)) xs

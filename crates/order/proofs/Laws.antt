@@ -5,12 +5,12 @@
 use mathlib.Core.Path.{_≡_, refl, sym, ap, _∙_, subst}
 use mathlib.Core.Bool.{Bool, true, false, not, cond}
 use Prim.Native.Nat.{ℕ, _+_, _-_, _*_, _^_, _≤_, _<_}
-use native.Mathlib.Nat.{le-refl, le-of-eq, le-of-lt, le-trans, lt-of-lt-of-le, lt-of-le-of-lt, zero-add}
+use native.Mathlib.Nat.{le-refl, le-of-eq, le-of-lt, lt-of-lt-of-le, zero-add}
 use native.Mathlib.Omega.{arith}
 use borrow.Author.Tests.{ltb-true, ltb-false, lt-ltb, le-ltb, le-leb, lt-leb}
 use lib.Arith.{lt-of-le-ne}
 use lib.Dec.{T, leb, ltb}
-use lib.Ieee.{Float, nan, inf, fin, Format, binary32, top, isNan, fits, toBits, ofBits}
+use lib.Ieee.{Float, nan, inf, fin, Format, binary32, top, isNan, fits, ofBits}
 use lib.Ieee.Bits.{ofBits-toBits, is-false}
 use Rattle.basics.specs.Choice.{pick, pick-true, pick-false}
 use Rattle.order.specs.Order.{ahead, before, keyOf}

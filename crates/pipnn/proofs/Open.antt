@@ -37,7 +37,8 @@ module _ (d : ℕ) (p : PipnnParams) (c : ℕ) (w : List ℕ) (f : List Float) (
       let k : ℕ = c + i * rowSize (p .«max_degree») in
       let zeros : List ℕ = replicate (size - headerSize) 0 in
       let at : rowAt c (p .«max_degree») i ≡ length (emptyHeader d p c) + k = omega (arith, sixteen-words d p c) in
-      let most : (i + 1) * rowSize (p .«max_degree») ≤ c * rowSize (p .«max_degree») = product-le (i + 1) (rowSize (p .«max_degree»)) c (rowSize (p .«max_degree»)) (omega arith) (omega arith) in
+      let row : ℕ = rowSize (p .«max_degree») in
+      let most : (i + 1) * row ≤ c * row = product-le (i + 1) row c row (omega arith) (omega arith) in
       let inside : k < size - headerSize = omega arith in
       let within : k < length zeros = omega (arith, length-replicate (size - headerSize) (zero)) in
       ap (λ (j : ℕ). getD (emptyHeader d p c ++ (zeros ++ drop size w)) j 0) at

@@ -1,15 +1,17 @@
 // The dot product that distances use (01, part 1), as `fallback::dot` of the Rust's simd.rs.
 //
 // Products are added from the first component on, each step rounded once, starting at +0. Such a sum
-// waits for each of its additions, so `dot4` runs the sums of four rows side by side, each in its own
-// order: the bits are those of four single sums. Both are equal to `dotOf` of specs/Dot for slices
-// of any length and floats of any kind; where two lengths differ, the sum ends with the shorter slice.
+// waits for each of its additions, so eight rows' sums run side by side, each in its own order: the bits
+// are those of eight single sums. `dot8` takes eight rows where they stand; `dot_block` takes a block in
+// which each component's eight numbers stand together, and so loads and multiplies whole vectors.
+// All are equal to `dotOf` of specs/Dot for slices of any length and floats of any kind; where two
+// lengths differ, the sum ends with the shorter one.
 ghost use mathlib.Core.Path.{_≡_};
-ghost use Prim.Native.Nat.{_≤_};
+ghost use Prim.Native.Nat.{_/_, _≤_};
 ghost use lib.ListN.{length};
 ghost use lib.Ieee.{binary32};
 ghost use Rattle.simd.specs.Dot.{dotOf};
-ghost use Rattle.simd.specs.Four.{dotsOf};
+ghost use Rattle.simd.specs.Eight.{dotsOf, blockDotsOf};
 
 pub fn dot(a: &[f32], b: &[f32]) -> f32
     ensures { λ r. ⌜ r ≡ dotOf binary32 (now (a .entry)) (now (b .entry)) ⌝ }
@@ -35,39 +37,79 @@ fn dot_within(a: &[f32], b: &[f32]) -> f32
     sum
 }
 
-// One number for each of four rows.
-pub struct Four {
+// One number for each of eight rows.
+pub struct Eight {
     pub a: f32,
     pub b: f32,
     pub c: f32,
     pub d: f32,
+    pub e: f32,
+    pub f: f32,
+    pub g: f32,
+    pub h: f32,
 }
 
-// The dots of one query with four rows.
-pub fn dot4(q: &[f32], a: &[f32], b: &[f32], c: &[f32], d: &[f32]) -> Four
-    ensures { λ r. ⌜ r ≡ dotsOf (now (q .entry)) (now (a .entry)) (now (b .entry)) (now (c .entry)) (now (d .entry)) ⌝ }
+// The dots of one query with eight rows.
+pub fn dot8(
+    q: &[f32],
+    a: &[f32],
+    b: &[f32],
+    c: &[f32],
+    d: &[f32],
+    e: &[f32],
+    f: &[f32],
+    g: &[f32],
+    h: &[f32],
+) -> Eight
+    ensures { λ r. ⌜ r ≡ dotsOf (now (q .entry)) (now (a .entry)) (now (b .entry)) (now (c .entry)) (now (d .entry)) (now (e .entry)) (now (f .entry)) (now (g .entry)) (now (h .entry)) ⌝ }
 {
     let n = q.len();
-    if (n <= a.len()) & (n <= b.len()) & (n <= c.len()) & (n <= d.len()) {
-        return dot4_within(q, a, b, c, d);
+    if (n <= a.len())
+        & (n <= b.len())
+        & (n <= c.len())
+        & (n <= d.len())
+        & (n <= e.len())
+        & (n <= f.len())
+        & (n <= g.len())
+        & (n <= h.len())
+    {
+        return dot8_within(q, a, b, c, d, e, f, g, h);
     }
-    Four {
+    Eight {
         a: dot(q, a),
         b: dot(q, b),
         c: dot(q, c),
         d: dot(q, d),
+        e: dot(q, e),
+        f: dot(q, f),
+        g: dot(q, g),
+        h: dot(q, h),
     }
 }
 
-// Four sums that do not wait for each other.
-fn dot4_within(q: &[f32], a: &[f32], b: &[f32], c: &[f32], d: &[f32]) -> Four
-    requires { ⌜ (length (now q) ≤ length (now a)) × (length (now q) ≤ length (now b)) × (length (now q) ≤ length (now c)) × (length (now q) ≤ length (now d)) ⌝ }
-    ensures { λ r. ⌜ r ≡ dotsOf (now (q .entry)) (now (a .entry)) (now (b .entry)) (now (c .entry)) (now (d .entry)) ⌝ }
+// Eight sums that do not wait for each other.
+fn dot8_within(
+    q: &[f32],
+    a: &[f32],
+    b: &[f32],
+    c: &[f32],
+    d: &[f32],
+    e: &[f32],
+    f: &[f32],
+    g: &[f32],
+    h: &[f32],
+) -> Eight
+    requires { ⌜ (length (now q) ≤ length (now a)) × (length (now q) ≤ length (now b)) × (length (now q) ≤ length (now c)) × (length (now q) ≤ length (now d)) × (length (now q) ≤ length (now e)) × (length (now q) ≤ length (now f)) × (length (now q) ≤ length (now g)) × (length (now q) ≤ length (now h)) ⌝ }
+    ensures { λ r. ⌜ r ≡ dotsOf (now (q .entry)) (now (a .entry)) (now (b .entry)) (now (c .entry)) (now (d .entry)) (now (e .entry)) (now (f .entry)) (now (g .entry)) (now (h .entry)) ⌝ }
 {
     let mut sum_a: f32 = 0.0;
     let mut sum_b: f32 = 0.0;
     let mut sum_c: f32 = 0.0;
     let mut sum_d: f32 = 0.0;
+    let mut sum_e: f32 = 0.0;
+    let mut sum_f: f32 = 0.0;
+    let mut sum_g: f32 = 0.0;
+    let mut sum_h: f32 = 0.0;
     let mut i: usize = 0;
     while i < q.len() {
         let x = q[i];
@@ -75,12 +117,70 @@ fn dot4_within(q: &[f32], a: &[f32], b: &[f32], c: &[f32], d: &[f32]) -> Four
         sum_b = sum_b + x * b[i];
         sum_c = sum_c + x * c[i];
         sum_d = sum_d + x * d[i];
+        sum_e = sum_e + x * e[i];
+        sum_f = sum_f + x * f[i];
+        sum_g = sum_g + x * g[i];
+        sum_h = sum_h + x * h[i];
         i += 1;
     }
-    Four {
+    Eight {
         a: sum_a,
         b: sum_b,
         c: sum_c,
         d: sum_d,
+        e: sum_e,
+        f: sum_f,
+        g: sum_g,
+        h: sum_h,
+    }
+}
+
+// The dots of one query with the eight rows of a block: component i of row j stands at 8 · i + j.
+pub fn dot_block(q: &[f32], block: &[f32]) -> Eight
+    ensures { λ r. ⌜ r ≡ blockDotsOf (now (q .entry)) (now (block .entry)) ⌝ }
+{
+    let n = block.len() / 8;
+    if q.len() <= n {
+        return dot_block_within(q, block);
+    }
+    dot_block_within(&q[..n], block)
+}
+
+fn dot_block_within(q: &[f32], block: &[f32]) -> Eight
+    requires { ⌜ length (now q) ≤ length (now block) / 8 ⌝ }
+    ensures { λ r. ⌜ r ≡ blockDotsOf (now (q .entry)) (now (block .entry)) ⌝ }
+{
+    let mut sum_a: f32 = 0.0;
+    let mut sum_b: f32 = 0.0;
+    let mut sum_c: f32 = 0.0;
+    let mut sum_d: f32 = 0.0;
+    let mut sum_e: f32 = 0.0;
+    let mut sum_f: f32 = 0.0;
+    let mut sum_g: f32 = 0.0;
+    let mut sum_h: f32 = 0.0;
+    let mut at: usize = 0;
+    let mut i: usize = 0;
+    while i < q.len() {
+        let x = q[i];
+        sum_a = sum_a + x * block[at];
+        sum_b = sum_b + x * block[at + 1];
+        sum_c = sum_c + x * block[at + 2];
+        sum_d = sum_d + x * block[at + 3];
+        sum_e = sum_e + x * block[at + 4];
+        sum_f = sum_f + x * block[at + 5];
+        sum_g = sum_g + x * block[at + 6];
+        sum_h = sum_h + x * block[at + 7];
+        at += 8;
+        i += 1;
+    }
+    Eight {
+        a: sum_a,
+        b: sum_b,
+        c: sum_c,
+        d: sum_d,
+        e: sum_e,
+        f: sum_f,
+        g: sum_g,
+        h: sum_h,
     }
 }

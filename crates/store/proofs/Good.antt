@@ -84,7 +84,9 @@ module _ (w : List ℕ) (f : List Float) (ok : restOk w f ≡ true) where
   unfolding view bridgeWords
   bridge-good j h =
       let pair : List ℕ = getD (bridgeWords w) j [] in
-      let t = both-true _ _ (every-at (bridgeOk n) (bridgeWords w) [] j (both-true (every (rowOk D n) (rowWords w)) (every (bridgeOk n) (bridgeWords w)) (parts .0) .1) (omega (arith, length-pieces bridgeSize (word w bridgeCountAt) (drop (bridgesAt C D) w)))) in
+      let all : every (bridgeOk n) (bridgeWords w) ≡ true = both-true (every (rowOk D n) (rowWords w)) (every (bridgeOk n) (bridgeWords w)) (parts .0) .1 in
+      let inside : j < length (bridgeWords w) = omega (arith, length-pieces bridgeSize (word w bridgeCountAt) (drop (bridgesAt C D) w)) in
+      let t = both-true _ _ (every-at (bridgeOk n) (bridgeWords w) [] j all inside) in
       let ends = both-true _ _ (t .0) in
       subst BridgeGood (sym (List·getD-map bridgeIn (bridgeWords w) j []))
       (record { near-node = ltb-true _ _ (ends .0); far-node = ltb-true _ _ (ends .1); different = eqb-false _ _ (not-true _ (t .1)) })

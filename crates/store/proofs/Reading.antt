@@ -10,7 +10,7 @@ use lib.Ieee.{Float}
 use Rattle.basics.specs.Lists.{pieces}
 use Rattle.basics.specs.Graph.{Bridge}
 use Rattle.basics.proofs.Pieces.{drop-take, length-pieces, nth-piece, Sized, pieces-back}
-use Rattle.store.specs.Layout.{word, dimensionAt, nodesAt, degreeAt, bridgeCountAt, capacityAt, docsAt, rowsAt, rowSize, rowAt, bridgesAt, bridgeSize}
+use Rattle.store.specs.Layout.{word, dimensionAt, nodesAt, degreeAt, bridgeCountAt, capacityAt, docsAt, rowsAt, rowSize, rowAt, bridgesAt, bridgeSize, bridgeAt}
 use Rattle.store.specs.View.{rowWords, bridgeWords, entriesIn, bridgeIn, rowBlock, bridgeBlock, view}
 
 -- ---- reading
@@ -53,15 +53,15 @@ module _ (w : List ℕ) (f : List Float) where
 
   -- bridge j
   pub bridge-read : (j : ℕ) → j < word w bridgeCountAt
-      → getD (view w f .bridges) j (bridgeIn []) ≡ record { near = word w (bridgesAt C D + j * bridgeSize); far = word w (bridgesAt C D + j * bridgeSize + 1) }
+      → getD (view w f .bridges) j (bridgeIn []) ≡ record { near = word w (bridgeAt C D j); far = word w (bridgeAt C D j + 1) }
   unfolding view bridgeWords
   bridge-read j h =
-      let l : List ℕ = drop (bridgesAt C D + j * bridgeSize) w in
+      let l : List ℕ = drop (bridgeAt C D j) w in
       let at : drop (j * bridgeSize) (drop (bridgesAt C D) w) ≡ l = drop-drop (j * bridgeSize) (bridgesAt C D) w in
-      let near : getD (take bridgeSize l) 0 0 ≡ word w (bridgesAt C D + j * bridgeSize) =
-      getD-take bridgeSize l 0 0 (omega arith) ∙ getD-drop (bridgesAt C D + j * bridgeSize) w 0 0 ∙ ap (λ (k : ℕ). word w k) (omega arith) in
-      let far : getD (take bridgeSize l) 1 0 ≡ word w (bridgesAt C D + j * bridgeSize + 1) =
-      getD-take bridgeSize l 1 0 (omega arith) ∙ getD-drop (bridgesAt C D + j * bridgeSize) w 1 0 in
+      let near : getD (take bridgeSize l) 0 0 ≡ word w (bridgeAt C D j) =
+      getD-take bridgeSize l 0 0 (omega arith) ∙ getD-drop (bridgeAt C D j) w 0 0 ∙ ap (λ (k : ℕ). word w k) (omega arith) in
+      let far : getD (take bridgeSize l) 1 0 ≡ word w (bridgeAt C D j + 1) =
+      getD-take bridgeSize l 1 0 (omega arith) ∙ getD-drop (bridgeAt C D j) w 1 0 in
       List·getD-map bridgeIn (bridgeWords w) j []
       ∙ ap bridgeIn (nth-piece bridgeSize (word w bridgeCountAt) (drop (bridgesAt C D) w) j h ∙ ap (take bridgeSize) at)
       ∙ (λ i. record { near = near i; far = far i })

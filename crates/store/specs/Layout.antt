@@ -88,6 +88,9 @@ bridgesAt C D = rowsAt C + C * rowSize D
 abbrev pub bridgeSize : ℕ
 bridgeSize = 2
 
+abbrev pub bridgeAt : ℕ → ℕ → ℕ → ℕ
+bridgeAt C D j = bridgesAt C D + j * bridgeSize
+
 abbrev pub wordsSize : ℕ → ℕ → ℕ
 wordsSize C D = headerSize + C * (4 + D)
 

@@ -25,6 +25,7 @@ ghost use Rattle.store.specs.Layout.{
   rowAt,
   bridgesAt,
   bridgeSize,
+  bridgeAt,
   wordsSize,
   floatsSize,
   scratchWords,
@@ -134,6 +135,13 @@ pub fn bridges_at(capacity: u32, degree: u16) -> usize
     ensures { λ r. ⌜ r ≡ bridgesAt capacity degree ⌝ }
 {
     rows_at(capacity) + capacity as usize * row_size(degree)
+}
+
+// Where bridge j starts.
+pub fn bridge_at(capacity: u32, degree: u16, j: u32) -> usize
+    ensures { λ r. ⌜ r ≡ bridgeAt capacity degree j ⌝ }
+{
+    bridges_at(capacity, degree) + j as usize * BRIDGE_SIZE
 }
 
 // The word store's size.

@@ -1,30 +1,25 @@
--- After `count_up` those left are all positions, and the start does not reach 2^64 from a level of 32 bits. Assumes nothing.
+-- The part that is lent is as long as the lesser of n and the room. Assumes nothing.
+use mathlib.Core.Path.{sym, ap, _∙_}
+use Prim.Native.Nat.{ℕ}
+use lib.ListN.{length-take}
+use lib.Seq.{length-take-le}
+use Rattle.leaders.specs.Leaders.{drawnInto}
 use native.Mathlib.Omega.{arith}
-use mathlib.Core.Path.{_≡_, refl, sym, ap, _∙_}
-use mathlib.Core.List.{List, _++_}
-use Prim.Native.Nat.{ℕ, _+_, _*_, _^_, _<_, min}
-use native.Mathlib.Nat.{mod-eq-of-lt}
-use lib.ListN.{length, drop}
-use Rattle.leaders.specs.Leaders.{drawStart, drawn, drawnInto, upTo}
-use Rattle.leaders.proofs.Draws.{length-upTo}
 use borrow.Author.Needs.{needs}
 use Rattle.leaders.proofs.draw_leaders.Statement.{statement}
 use Rattle.leaders.proofs.draw_leaders.Tie as tie
 
-count-up-requires : tie.Need-count-up-requires
-count-up-requires c κs = search needs
-
 lesser-requires : tie.Need-lesser-requires
 lesser-requires c κs = search needs
 
-mul-draw : tie.Need-mul-draw
-mul-draw c = search needs
+slice-relend-prefix-draw-segment : tie.Need-slice-relend-prefix-draw-segment
+slice-relend-prefix-draw-segment c = search needs
 
-add-draw : tie.Need-add-draw
-add-draw c = search needs
+slice-aggregate-draw-segment : tie.Need-slice-aggregate-draw-segment
+slice-aggregate-draw-segment c = sym (length-take-le _ _ (omega (arith, c .before .lesser .ensures)))
 
-draw-requires : tie.Need-draw-requires
-draw-requires c κs = search needs
+draw-segment-requires : tie.Need-draw-segment-requires
+draw-segment-requires c κs = simp length-take (omega (arith, c .before .before .lesser .ensures))
 
 same-length : tie.Need-same-length
 same-length c = search needs
@@ -32,38 +27,21 @@ same-length c = search needs
 same-length-2 : tie.Need-same-length-2
 same-length-2 c = search needs
 
--- what the draws leave, with each number as the definition has it
-joined : (level n count start : ℕ) (left out : List ℕ) → level < 2 ^ 32 → left ≡ upTo n → count ≡ min (length out) (length left) → start ≡ level * 2654435761 + 42
-    → drawn count start left ++ drop count out ≡ drawnInto level n out
-unfolding drawnInto
-joined level n count start left out h e k s =
-    let c : count ≡ min (length out) n = k ∙ ap (λ (l : List ℕ). min (length out) (length l)) e ∙ ap (min (length out)) (length-upTo n) in
-    let t : start ≡ drawStart level = s ∙ sym (mod-eq-of-lt (small level h)) in
-    ap (λ (j : ℕ). drawn j start left ++ drop j out) c
-    ∙ ap (λ (r : ℕ). drawn (min (length out) n) r left ++ drop (min (length out) n) out) t
-    ∙ ap (λ (l : List ℕ). drawn (min (length out) n) (drawStart level) l ++ drop (min (length out) n) out) e
-  where
-    small : (level : ℕ) → level < 2 ^ 32 → level * 2654435761 + 42 < 2 ^ 64
-    small level h = omega arith
-
 returns : tie.Need-returns
 returns c =
-    let draw = c .before .before .before .before .draw in
-    let lesser = c .before .before .before .before .before .before .before .lesser in
-    let up = c .before .before .before .before .before .before .before .before .before .before .count-up in
-    let start = c .before .before .before .before .before .before .before .before .before .before .before .before .before .before in
-    let x = start .args in
-    draw .ensures ∙ joined (x .level) (length (x .left .now)) (lesser .result) _ _ (x .out .now) (start .fits .level .fits) (up .ensures) (lesser .ensures) refl
+    let x = c .before .before .before .before .before .before .before .before .before .before .args in
+    let room = c .before .before .before .before .before .before .before .lesser in
+    let long = length-take-le (room .result) (x .left .now) (omega (arith, room .ensures)) in
+    c .before .before .before .before .draw-segment .ensures ∙ ap (λ (n : ℕ). drawnInto (x .level) n (x .out .now)) (long ∙ room .ensures)
 
 pub draw-leaders-spec : {M : Type 1} → statement M
 draw-leaders-spec =
     tie.close
     (tie.spec
-    count-up-requires
     lesser-requires
-    mul-draw
-    add-draw
-    draw-requires
+    slice-relend-prefix-draw-segment
+    slice-aggregate-draw-segment
+    draw-segment-requires
     same-length
     same-length-2
     returns)

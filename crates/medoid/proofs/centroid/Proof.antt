@@ -1,68 +1,53 @@
--- Zeros, the rows added, the sums divided: each step is the definition's, on a slice whose length stays. Assumes nothing.
-use mathlib.Core.Path.{_≡_, sym, ap, subst, _∙_}
-use mathlib.Core.List.{List, map}
-use Prim.Native.Nat.{ℕ, _*_, _^_, _≤_}
-use lib.Dec.{le→leb}
+-- Without components there is nothing to sum; otherwise the rows taken stand whole in the slice. Assumes nothing.
+use mathlib.Core.Path.{_≡_, refl, sym, ap, _∙_}
+use mathlib.Core.List.{List, [], _∷_, map}
+use Prim.Native.Nat.{ℕ}
 use lib.IntN.{pos}
-use lib.ListN.{length, replicate, length-replicate}
-use lib.Ieee.{Float, binary32, div, ofInt, inFloat}
+use lib.ListN.{length}
+use lib.Ieee.{Float, binary32, div, ofInt}
 use Rattle.basics.specs.Lists.{pieces}
-use Rattle.basics.specs.Sum.{+zero}
-use Rattle.medoid.specs.Centroid.{sumsFrom, centroidOf}
-use Rattle.medoid.proofs.Sums.{length-pieces}
+use Rattle.medoid.proofs.Rows.{fit}
+use Rattle.medoid.specs.Centroid.{addTo, sumsFrom, centroidOf}
+use native.Mathlib.Omega.{arith}
 use borrow.Author.Needs.{needs}
 use Rattle.medoid.proofs.centroid.Statement.{statement}
 use Rattle.medoid.proofs.centroid.Tie as tie
 
-clear-requires : tie.Need-clear-requires
-clear-requires c κs = search needs
+-- where there are no components there is no sum
+no-sums : (vs : List (List Float)) → sumsFrom binary32 [] vs ≡ []
+unfolding sumsFrom addTo
+no-sums [] = refl
+no-sums (v ∷ vs) = no-sums vs
 
-sum-rows-requires : tie.Need-sum-rows-requires
-sum-rows-requires c κs =
-    let start = c .before .before .before .before .before .before .before in
-    subst (λ (d : ℕ). start .args .n * d ≤ length (start .args .vectors .now))
-    (sym (ap length (c .before .before .before .clear .ensures) ∙ length-replicate (length (start .args .out .now)) +zero)) (start .pre .0)
+nothing : (out : List Float) (vs : List (List Float)) → length out ≡ 0 → out ≡ centroidOf binary32 (length out) vs
+unfolding centroidOf
+nothing [] vs e = sym (ap (map (λ (s : Float). div binary32 s (ofInt binary32 (pos (length vs))))) (no-sums vs))
+nothing (x ∷ out) vs e = absurd (omega arith)
 
-int-to-float-divide : tie.Need-int-to-float-divide
-unfolding inFloat
-int-to-float-divide c =
-    let start = c .before .before .before .before .before .before .before .before .before .before .before .before in
-    le→leb (start .args .n) (2 ^ 24) (start .pre .1)
+returns : tie.Need-returns
+returns c = nothing (c .before .before .before .args .out .now) _ (c .if1 .taken)
 
-divide-requires : tie.Need-divide-requires
-divide-requires c κs = search needs
+div-lesser : tie.Need-div-lesser
+div-lesser c = search needs
+
+lesser-requires : tie.Need-lesser-requires
+lesser-requires c κs = search needs
+
+mean-requires : tie.Need-mean-requires
+mean-requires c κs =
+    let x = c .before .before .before .before .before .args in
+    let rows = c .before .lesser in
+    (fit (rows .result) (length (x .out .now)) (length (x .vectors .now)) (omega (arith, rows .ensures)), omega (arith, rows .ensures))
 
 same-length : tie.Need-same-length
 same-length c = search needs
 
--- the three steps, one after the other
-joined : (vectors out cleared summed divided : List Float) (n : ℕ) → cleared ≡ replicate (length out) +zero
-    → summed ≡ sumsFrom binary32 cleared (pieces (length cleared) n vectors)
-    → divided ≡ map (λ (x : Float). div binary32 x (ofInt binary32 (pos n))) summed → divided ≡ centroidOf binary32 (length out) (pieces (length out) n vectors)
-unfolding centroidOf
-joined vectors out cleared summed divided n a b c =
-    let d : length cleared ≡ length out = ap length a ∙ length-replicate (length out) +zero in
-    c
-    ∙ ap (map (λ (x : Float). div binary32 x (ofInt binary32 (pos n)))) (b ∙ ap (λ (k : ℕ). sumsFrom binary32 cleared (pieces k n vectors)) d
-    ∙ ap (λ (l : List Float). sumsFrom binary32 l (pieces (length out) n vectors)) a)
-    ∙ ap (λ (k : ℕ). map (λ (x : Float). div binary32 x (ofInt binary32 (pos k))) (sumsFrom binary32 (replicate (length out) +zero) (pieces (length out) n vectors)))
-    (sym (length-pieces (length out) n vectors))
-
-returns : tie.Need-returns
-returns c =
-    let x = c .before .before .before .before .before .before .before .before .before .before .before .before .before .before .before .args in
-    joined (x .vectors .now) (x .out .now) _ _ _ (x .n)
-    (c .before .before .before .before .before .before .before .before .before .before .before .clear .ensures)
-    (c .before .before .before .before .before .before .before .sum-rows .ensures)
-    (c .before .before .divide .ensures)
+returns-2 : tie.Need-returns-2
+returns-2 c =
+    let x = c .before .before .before .before .before .before .before .before .args in
+    c .before .before .mean .ensures
+    ∙ ap (λ (n : ℕ). centroidOf binary32 (length (x .out .now)) (pieces (length (x .out .now)) n (x .vectors .now))) (c .before .before .before .before .lesser .ensures)
 
 pub centroid-spec : {M : Type 1} → statement M
 centroid-spec =
-    tie.close
-    (tie.spec
-    clear-requires
-    sum-rows-requires
-    int-to-float-divide
-    divide-requires
-    same-length
-    returns)
+    tie.close (tie.spec returns div-lesser lesser-requires mean-requires same-length returns-2)

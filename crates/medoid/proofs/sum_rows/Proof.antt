@@ -3,30 +3,14 @@
 use borrow.Author.Needs.{needs}
 use native.Mathlib.Omega.{arith}
 use mathlib.Core.Path.{_≡_, refl, sym, ap, subst, _∙_}
-use mathlib.Core.List.{List}
-use Prim.Native.Nat.{ℕ, _+_, _-_, _*_, _≤_, _<_}
-use native.Mathlib.Nat.{mul-le-mul-right, suc-mul}
-use lib.ListN.{length, take, drop, length-drop}
-use lib.Seq.{length-take-le}
-use lib.Ieee.{Float, binary32}
+use Prim.Native.Nat.{ℕ, _+_, _-_, _*_, _≤_}
+use lib.ListN.{length, take, drop}
+use lib.Ieee.{binary32}
 use Rattle.medoid.specs.Centroid.{addTo}
+use Rattle.medoid.proofs.Rows.{row-end, next-at, part-is, part-length}
 use Rattle.medoid.proofs.Sums.{length-addTo, Summing, summing-none, summing-more, summing-done}
 use Rattle.medoid.proofs.sum_rows.Statement.{statement}
 use Rattle.medoid.proofs.sum_rows.Tie as tie
-
--- row i, which starts at `at`, ends within the rows
-row-end : (n d size i at : ℕ) → n * d ≤ size → i < n → at ≡ i * d → at + d ≤ size
-row-end n d size i at h l e = omega (arith, mul-le-mul-right d l, suc-mul i d)
-
-next-at : (i d at : ℕ) → at ≡ i * d → at + d ≡ (i + 1) * d
-next-at i d at e = omega (arith, suc-mul i d)
-
--- the part of a row
-part-is : (xs : List Float) (at d : ℕ) → take (at + d - at) (drop at xs) ≡ take d (drop at xs)
-part-is xs at d = let e : at + d - at ≡ d = omega arith in ap (λ (k : ℕ). take k (drop at xs)) e
-
-part-length : (xs : List Float) (at d : ℕ) → at + d ≤ length xs → length (take (at + d - at) (drop at xs)) ≡ d
-part-length xs at d h = ap length (part-is xs at d) ∙ length-take-le d (drop at xs) (omega (arith, length-drop at xs))
 
 abbrev Inv-loop : tie.InvT-loop
 Inv-loop vectors n sums₀ dimension at₀ i₀ sums at i = (i ≤ n) × (at ≡ i * dimension) × (length sums ≡ length sums₀) × Summing vectors dimension n sums₀ at i sums

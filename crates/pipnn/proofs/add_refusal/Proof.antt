@@ -27,7 +27,9 @@ refusal s = firstRefusal (addChecks (s .args .words .now) (s .args .floats .now)
 -- past the checks that every call begins with, its own count
 own : (c : tie.Else1) → firstRefusal (Own (c .before .before .before .before .before)) ≡ refusal (c .before .before .before .before .before)
 unfolding addChecks
-own c = sym (then-second (First (c .before .before .before .before .before)) (Own (c .before .before .before .before .before)) (opening-numbered Nothing (c .before .before .before .before .before .args .words .now) (c .before .before .before .before .before .args .floats .now)) (sym (c .before .opening-refusal .ensures) ∙ c .if1 .left))
+own c =
+    let s = c .before .before .before .before .before in
+    sym (then-second (First s) (Own s) (opening-numbered Nothing (s .args .words .now) (s .args .floats .now)) (sym (c .before .opening-refusal .ensures) ∙ c .if1 .left))
 
 -- what has passed at each place
 passed-1 : (c : tie.Else2) → Pass (take 1 (Own (c .before .before .before .before .before .before .before)))
@@ -70,7 +72,8 @@ cast-if3 c = search needs
 returns-3 : tie.Need-returns-3
 unfolding ownChecks
 returns-3 c =
-    turned-at 1 (Own (c .before .before .before .before .before .before .before .before .before)) (passed-1 (c .before .before)) (ap not (ne-eqb _ _ (λ e. c .if3 .taken (e ∙ sym (c .before .word-at2 .ensures)))))
+    turned-at 1 (Own (c .before .before .before .before .before .before .before .before .before)) (passed-1 (c .before .before))
+    (ap not (ne-eqb _ _ (λ e. c .if3 .taken (e ∙ sym (c .before .word-at2 .ensures)))))
     ∙ own (c .before .before .before .before)
 
 all-finite-requires : tie.Need-all-finite-requires
@@ -79,7 +82,8 @@ all-finite-requires c κs = search needs
 returns-4 : tie.Need-returns-4
 unfolding ownChecks
 returns-4 c =
-    turned-at 2 (Own (c .before .before .before .before .before .before .before .before .before .before .before)) (passed-2 (c .before .before)) (ap not (sym (c .before .all-finite .ensures) ∙ not-true _ (c .if4 .taken)))
+    turned-at 2 (Own (c .before .before .before .before .before .before .before .before .before .before .before)) (passed-2 (c .before .before))
+    (ap not (sym (c .before .all-finite .ensures) ∙ not-true _ (c .if4 .taken)))
     ∙ own (c .before .before .before .before .before .before)
 
 word-at-requires-3 : tie.Need-word-at-requires-3

@@ -19,7 +19,10 @@ refusal s = firstRefusal (addChecks (s .args .words .now) (s .args .floats .now)
 zero : (c : tie.Else1) → refusal (c .before .before .before .before .before .before .before) ≡ 0
 zero c = sym (c .before .add-refusal .ensures) ∙ c .if1 .left
 
-taken : (c : tie.Else1) → AddTaken (c .before .before .before .before .before .before .before .args .words .now) (c .before .before .before .before .before .before .before .args .floats .now) (c .before .before .before .before .before .before .before .args .vector .now)
+abbrev Taken : tie.Start → Type 0
+Taken s = AddTaken (s .args .words .now) (s .args .floats .now) (s .args .vector .now)
+
+taken : (c : tie.Else1) → Taken (c .before .before .before .before .before .before .before)
 taken c = add-taken _ _ _ (zero c)
 
 add-refusal-requires : tie.Need-add-refusal-requires

@@ -65,10 +65,14 @@ clear-words-requires : tie.Need-clear-words-requires
 clear-words-requires c κs = search needs
 
 slice-relend-prefix-clear-floats : tie.Need-slice-relend-prefix-clear-floats
-slice-relend-prefix-clear-floats c = let t = taken (c .before .before .before .before .before .before .before .before .before .before .before) in rw (c .before .before .before .before .before .before .before .before .floats-size .ensures) (t .floats)
+slice-relend-prefix-clear-floats c =
+    let t = taken (c .before .before .before .before .before .before .before .before .before .before .before) in
+    rw (c .before .before .before .before .before .before .before .before .floats-size .ensures) (t .floats)
 
 slice-aggregate-clear-floats : tie.Need-slice-aggregate-clear-floats
-slice-aggregate-clear-floats c = let t = taken (c .before .before .before .before .before .before .before .before .before .before .before .before) in sym (length-take-le _ _ (rw (c .before .before .before .before .before .before .before .before .before .floats-size .ensures) (t .floats)))
+slice-aggregate-clear-floats c =
+    let t = taken (c .before .before .before .before .before .before .before .before .before .before .before .before) in
+    sym (length-take-le _ _ (rw (c .before .before .before .before .before .before .before .before .before .floats-size .ensures) (t .floats)))
 
 clear-floats-requires : tie.Need-clear-floats-requires
 clear-floats-requires c κs = search needs

@@ -29,7 +29,8 @@ second : (c : tie.After-capacity-within)
     ≡ (withinLimits (c .before .before .before .before .before .before .args .p) && capacityWithin (c .before .before .before .before .before .before .args .capacity))
 second c = λ i. c .before .within-limits .ensures i && c .capacity-within .ensures i
 
-taken : (c : tie.Else2) → (withinLimits (c .before .before .before .before .before .before .before .args .p) && capacityWithin (c .before .before .before .before .before .before .before .args .capacity)) ≡ true
+taken : (c : tie.Else2)
+    → (withinLimits (c .before .before .before .before .before .before .before .args .p) && capacityWithin (c .before .before .before .before .before .before .before .args .capacity)) ≡ true
 taken c = sym (second (c .before)) ∙ not-false _ (c .if2 .left)
 
 passed-2 : (c : tie.Else2) → Pass (take 2 (K (c .before .before .before .before .before .before .before)))

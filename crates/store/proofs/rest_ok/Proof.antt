@@ -41,17 +41,31 @@ rows-at-requires : tie.Need-rows-at-requires
 rows-at-requires c κs = search needs
 
 rows-ok-requires : tie.Need-rows-ok-requires
-rows-ok-requires c κs = rw (c .rows-at .ensures, c .before .before .before .before .word-at3 .ensures, c .before .before .before .before .before .word-at2 .ensures, c .before .before .before .before .before .before .word-at .ensures) (within (c .before .before .before .before .before .before .before .before .before) .rows)
+rows-ok-requires c κs =
+    let s = c .before .before .before .before .before .before .before .before .before in
+    let n = c .before .before .before .before .before .before .word-at in
+    let capacity = c .before .before .before .before .before .word-at2 in
+    let degree = c .before .before .before .before .word-at3 in
+    rw (c .rows-at .ensures, degree .ensures, capacity .ensures, n .ensures) (within s .rows)
 
 bridges-at-requires : tie.Need-bridges-at-requires
 bridges-at-requires c κs = search needs
 
 bridges-ok-requires : tie.Need-bridges-ok-requires
-bridges-ok-requires c κs = rw (c .bridges-at .ensures, c .before .before .before .before .before .before .word-at3 .ensures, c .before .before .before .before .before .before .before .word-at2 .ensures, c .before .before .before .before .before .word-at4 .ensures) (within (c .before .before .before .before .before .before .before .before .before .before .before) .bridges)
+bridges-ok-requires c κs =
+    let s = c .before .before .before .before .before .before .before .before .before .before .before in
+    let capacity = c .before .before .before .before .before .before .before .word-at2 in
+    let degree = c .before .before .before .before .before .before .word-at3 in
+    let bridges = c .before .before .before .before .before .word-at4 in
+    rw (c .bridges-at .ensures, degree .ensures, capacity .ensures, bridges .ensures) (within s .bridges)
 
 slice-aggregate-all-finite : tie.Need-slice-aggregate-all-finite
 slice-aggregate-all-finite c =
-    sym (length-take-le _ _ (rw (c .before .before .before .before .before .floats-size .ensures, c .before .before .before .before .before .before .word-at5 .ensures, c .before .before .before .before .before .before .before .before .before .before .word-at .ensures) (within (c .before .before .before .before .before .before .before .before .before .before .before .before .before) .vectors)))
+    let s = c .before .before .before .before .before .before .before .before .before .before .before .before .before in
+    let n = c .before .before .before .before .before .before .before .before .before .before .word-at in
+    let dimension = c .before .before .before .before .before .before .word-at5 in
+    let end = c .before .before .before .before .before .floats-size in
+    sym (length-take-le _ _ (rw (end .ensures, dimension .ensures, n .ensures) (within s .vectors)))
 
 all-finite-requires : tie.Need-all-finite-requires
 all-finite-requires c κs = search needs

@@ -1,0 +1,88 @@
+-- Of rows as long as the query each number is 1 − its dot; otherwise eight single distances are the definition itself. Assumes nothing.
+use mathlib.Core.Path.{ap}
+use lib.Ieee.{binary32, ofBits}
+use Rattle.basics.proofs.Tests.{both-true}
+use Rattle.simd.specs.declared.Eight.{Eight}
+use Rattle.distance.proofs.Laws.{from-dot}
+use borrow.Author.Needs.{needs}
+use Rattle.distance.proofs.cosine_distance_normalized8.Statement.{statement}
+use Rattle.distance.proofs.cosine_distance_normalized8.Tie as tie
+
+dot8-requires : tie.Need-dot8-requires
+dot8-requires c κs = search needs
+
+returns : tie.Need-returns
+unfolding ofBits
+returns c =
+    let x = c .before .before .before .before .before .before .before .before .before .before .before .before .before .before .before .before .before .before .before .args in
+    let dots = c .before .before .before .before .before .before .before .before .dot8 in
+    let upto-h = both-true _ _ (c .before .before .before .before .before .before .before .before .before .if1 .taken) in
+    let upto-g = both-true _ _ (upto-h .0) in
+    let upto-f = both-true _ _ (upto-g .0) in
+    let upto-e = both-true _ _ (upto-f .0) in
+    let upto-d = both-true _ _ (upto-e .0) in
+    let upto-c = both-true _ _ (upto-d .0) in
+    let upto-b = both-true _ _ (upto-c .0) in
+    λ i. record {
+      a = from-dot binary32 (x .q .now) (x .a .now) (dots .result .a) (ap (λ (r : Eight). r .a) (dots .ensures)) (upto-b .0) i;
+      b = from-dot binary32 (x .q .now) (x .b .now) (dots .result .b) (ap (λ (r : Eight). r .b) (dots .ensures)) (upto-b .1) i;
+      c = from-dot binary32 (x .q .now) (x .c .now) (dots .result .c) (ap (λ (r : Eight). r .c) (dots .ensures)) (upto-c .1) i;
+      d = from-dot binary32 (x .q .now) (x .d .now) (dots .result .d) (ap (λ (r : Eight). r .d) (dots .ensures)) (upto-d .1) i;
+      e = from-dot binary32 (x .q .now) (x .e .now) (dots .result .e) (ap (λ (r : Eight). r .e) (dots .ensures)) (upto-e .1) i;
+      f = from-dot binary32 (x .q .now) (x .f .now) (dots .result .f) (ap (λ (r : Eight). r .f) (dots .ensures)) (upto-f .1) i;
+      g = from-dot binary32 (x .q .now) (x .g .now) (dots .result .g) (ap (λ (r : Eight). r .g) (dots .ensures)) (upto-g .1) i;
+      h = from-dot binary32 (x .q .now) (x .h .now) (dots .result .h) (ap (λ (r : Eight). r .h) (dots .ensures)) (upto-h .1) i;
+    }
+
+cosine-distance-normalized-requires : tie.Need-cosine-distance-normalized-requires
+cosine-distance-normalized-requires c κs = search needs
+
+cosine-distance-normalized-requires-2 : tie.Need-cosine-distance-normalized-requires-2
+cosine-distance-normalized-requires-2 c κs = search needs
+
+cosine-distance-normalized-requires-3 : tie.Need-cosine-distance-normalized-requires-3
+cosine-distance-normalized-requires-3 c κs = search needs
+
+cosine-distance-normalized-requires-4 : tie.Need-cosine-distance-normalized-requires-4
+cosine-distance-normalized-requires-4 c κs = search needs
+
+cosine-distance-normalized-requires-5 : tie.Need-cosine-distance-normalized-requires-5
+cosine-distance-normalized-requires-5 c κs = search needs
+
+cosine-distance-normalized-requires-6 : tie.Need-cosine-distance-normalized-requires-6
+cosine-distance-normalized-requires-6 c κs = search needs
+
+cosine-distance-normalized-requires-7 : tie.Need-cosine-distance-normalized-requires-7
+cosine-distance-normalized-requires-7 c κs = search needs
+
+cosine-distance-normalized-requires-8 : tie.Need-cosine-distance-normalized-requires-8
+cosine-distance-normalized-requires-8 c κs = search needs
+
+returns-2 : tie.Need-returns-2
+returns-2 c =
+    λ i. record {
+      a = c .before .before .before .before .before .before .before .cosine-distance-normalized .ensures i;
+      b = c .before .before .before .before .before .before .cosine-distance-normalized2 .ensures i;
+      c = c .before .before .before .before .before .cosine-distance-normalized3 .ensures i;
+      d = c .before .before .before .before .cosine-distance-normalized4 .ensures i;
+      e = c .before .before .before .cosine-distance-normalized5 .ensures i;
+      f = c .before .before .cosine-distance-normalized6 .ensures i;
+      g = c .before .cosine-distance-normalized7 .ensures i;
+      h = c .cosine-distance-normalized8 .ensures i;
+    }
+
+pub cosine-distance-normalized8-spec : {M : Type 1} → statement M
+cosine-distance-normalized8-spec =
+    tie.close
+    (tie.spec
+    dot8-requires
+    returns
+    cosine-distance-normalized-requires
+    cosine-distance-normalized-requires-2
+    cosine-distance-normalized-requires-3
+    cosine-distance-normalized-requires-4
+    cosine-distance-normalized-requires-5
+    cosine-distance-normalized-requires-6
+    cosine-distance-normalized-requires-7
+    cosine-distance-normalized-requires-8
+    returns-2)

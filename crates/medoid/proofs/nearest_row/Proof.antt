@@ -1,0 +1,107 @@
+-- The invariant: the best so far is the nearest of the rows passed; row i starts at `at`. The measure is how many rows are left. Assumes nothing.
+use native.Mathlib.Omega.{arith}
+use mathlib.Core.Path.{_≡_, refl, ap, _∙_}
+use Prim.Native.Nat.{ℕ, _-_, _*_, _≤_}
+use lib.ListN.{length}
+use lib.Ieee.{binary32, ofBits, nanBits}
+use Rattle.basics.specs.Lists.{pieces}
+use Rattle.distance.specs.Distance.{distanceOf}
+use Rattle.medoid.specs.Medoid.{nearestTo}
+use Rattle.medoid.proofs.Rows.{row-end, next-at, part-row, Held, held-more}
+use borrow.Author.Needs.{needs}
+use Rattle.medoid.proofs.nearest_row.Statement.{statement}
+use Rattle.medoid.proofs.nearest_row.Tie as tie
+
+abbrev Inv-loop : tie.InvT-loop
+Inv-loop vectors n centroid best₀ at₀ i₀ best at i = (i ≤ n) × (at ≡ i * length centroid) × Held centroid (pieces (length centroid) n vectors) i (best .node) (best .distance)
+
+abbrev μ-loop : tie.MeasureT-loop
+μ-loop vectors n centroid best₀ at₀ i₀ best at i = n - i
+
+float-from-bits-t9 : tie.Need-float-from-bits-t9 Inv-loop μ-loop
+unfolding nanBits
+float-from-bits-t9 c = tt
+
+loop-holds : tie.Need-loop-holds Inv-loop μ-loop
+unfolding ofBits nearestTo
+loop-holds c = (omega arith, omega arith, record { node-is = refl; distance-is = refl })
+
+add-end : tie.Need-add-end Inv-loop μ-loop
+add-end c =
+    let l = c .before .loop in
+    let start = c .before .before .before .before in
+    let h = row-end (start .args .n) (length (start .args .centroid .now)) (length (start .args .vectors .now)) (l .i) (l .at) (start .pre) (c .loop-test .taken) (l .inv .1) in
+    omega arith
+
+mul-cosine-distance-normalized : tie.Need-mul-cosine-distance-normalized Inv-loop μ-loop
+mul-cosine-distance-normalized c =
+    let l = c .before .loop in
+    let start = c .before .before .before .before in
+    let h = row-end (start .args .n) (length (start .args .centroid .now)) (length (start .args .vectors .now)) (l .i) (l .at) (start .pre) (c .loop-test .taken) (l .inv .1) in
+    search needs
+
+sub-cosine-distance-normalized : tie.Need-sub-cosine-distance-normalized Inv-loop μ-loop
+sub-cosine-distance-normalized c = search needs
+
+part-cosine-distance-normalized-start :
+    tie.Need-part-cosine-distance-normalized-start Inv-loop μ-loop
+part-cosine-distance-normalized-start c = search needs
+
+part-cosine-distance-normalized-end : tie.Need-part-cosine-distance-normalized-end Inv-loop μ-loop
+part-cosine-distance-normalized-end c =
+    let l = c .before .loop in
+    let start = c .before .before .before .before in
+    let h = row-end (start .args .n) (length (start .args .centroid .now)) (length (start .args .vectors .now)) (l .i) (l .at) (start .pre) (c .loop-test .taken) (l .inv .1) in
+    h
+
+cosine-distance-normalized-requires : tie.Need-cosine-distance-normalized-requires Inv-loop μ-loop
+cosine-distance-normalized-requires c κs = search needs
+
+nearer-requires : tie.Need-nearer-requires Inv-loop μ-loop
+nearer-requires c κs = search needs
+
+add-i : tie.Need-add-i Inv-loop μ-loop
+add-i c = search needs
+
+loop-less : tie.Need-loop-less Inv-loop μ-loop
+loop-less c = search needs
+
+loop-again : tie.Need-loop-again Inv-loop μ-loop
+loop-again c =
+    let l = c .before .before .before .before .loop in
+    let x = c .before .before .before .before .before .before .before .args in
+    let d : ℕ = length (x .centroid .now) in
+    let far = c .before .cosine-distance-normalized in
+    let row = ap (distanceOf binary32 (x .centroid .now)) (part-row (x .vectors .now) (x .n) d (l .i) (l .at) (c .before .before .before .loop-test .taken) (l .inv .1)) in (
+      omega arith,
+      next-at (l .i) d (l .at) (l .inv .1),
+      held-more (x .centroid .now) (pieces d (x .n) (x .vectors .now)) (l .i) (l .best .node) (l .best .distance) (far .result) _ _ (l .inv .2) (far .ensures ∙ row)
+          (c .nearer .ensures .0) (c .nearer .ensures .1),
+    )
+
+returns : tie.Need-returns Inv-loop μ-loop
+returns c =
+    let l = c .before .loop in
+    let x = c .before .before .before .before .args in
+    let e : l .i ≡ x .n = omega arith in
+    l .inv .2 .node-is ∙ ap (λ (k : ℕ). nearestTo (x .centroid .now) (pieces (length (x .centroid .now)) (x .n) (x .vectors .now)) k .node) e
+
+pub nearest-row-spec : {M : Type 1} → statement M
+nearest-row-spec =
+    tie.close
+    (tie.spec
+    Inv-loop
+    μ-loop
+    float-from-bits-t9
+    loop-holds
+    add-end
+    mul-cosine-distance-normalized
+    sub-cosine-distance-normalized
+    part-cosine-distance-normalized-start
+    part-cosine-distance-normalized-end
+    cosine-distance-normalized-requires
+    nearer-requires
+    add-i
+    loop-less
+    loop-again
+    returns)

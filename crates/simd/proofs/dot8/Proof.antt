@@ -1,0 +1,73 @@
+-- The joined test says that no row is shorter than the query; otherwise eight single sums are the definition itself. Assumes nothing.
+use borrow.Author.Tests.{leb-true}
+use Rattle.basics.proofs.Tests.{both-true}
+use borrow.Author.Needs.{needs}
+use Rattle.simd.proofs.dot8.Statement.{statement}
+use Rattle.simd.proofs.dot8.Tie as tie
+
+dot8-within-requires : tie.Need-dot8-within-requires
+dot8-within-requires c κs =
+    let upto-h = both-true _ _ (c .if1 .taken) in
+    let upto-g = both-true _ _ (upto-h .0) in
+    let upto-f = both-true _ _ (upto-g .0) in
+    let upto-e = both-true _ _ (upto-f .0) in
+    let upto-d = both-true _ _ (upto-e .0) in
+    let upto-c = both-true _ _ (upto-d .0) in
+    let upto-b = both-true _ _ (upto-c .0) in
+    (leb-true _ _ (upto-b .0), leb-true _ _ (upto-b .1), leb-true _ _ (upto-c .1), leb-true _ _ (upto-d .1), leb-true _ _ (upto-e .1), leb-true _ _ (upto-f .1), leb-true _ _ (upto-g .1), leb-true _ _ (upto-h .1))
+
+returns : tie.Need-returns
+returns c = search needs
+
+dot-requires : tie.Need-dot-requires
+dot-requires c κs = search needs
+
+dot-requires-2 : tie.Need-dot-requires-2
+dot-requires-2 c κs = search needs
+
+dot-requires-3 : tie.Need-dot-requires-3
+dot-requires-3 c κs = search needs
+
+dot-requires-4 : tie.Need-dot-requires-4
+dot-requires-4 c κs = search needs
+
+dot-requires-5 : tie.Need-dot-requires-5
+dot-requires-5 c κs = search needs
+
+dot-requires-6 : tie.Need-dot-requires-6
+dot-requires-6 c κs = search needs
+
+dot-requires-7 : tie.Need-dot-requires-7
+dot-requires-7 c κs = search needs
+
+dot-requires-8 : tie.Need-dot-requires-8
+dot-requires-8 c κs = search needs
+
+returns-2 : tie.Need-returns-2
+returns-2 c =
+    λ i. record {
+      a = c .before .before .before .before .before .before .before .dot .ensures i;
+      b = c .before .before .before .before .before .before .dot2 .ensures i;
+      c = c .before .before .before .before .before .dot3 .ensures i;
+      d = c .before .before .before .before .dot4 .ensures i;
+      e = c .before .before .before .dot5 .ensures i;
+      f = c .before .before .dot6 .ensures i;
+      g = c .before .dot7 .ensures i;
+      h = c .dot8 .ensures i;
+    }
+
+pub dot8-spec : {M : Type 1} → statement M
+dot8-spec =
+    tie.close
+    (tie.spec
+    dot8-within-requires
+    returns
+    dot-requires
+    dot-requires-2
+    dot-requires-3
+    dot-requires-4
+    dot-requires-5
+    dot-requires-6
+    dot-requires-7
+    dot-requires-8
+    returns-2)
