@@ -2,4 +2,3 @@ pub mod Laid
 pub mod Taken
 pub mod Graph
 pub mod Views
-pub mod Examples

@@ -1,14 +1,18 @@
--- The starred values of 01, "Checked values": one statement over the definitions. Those of the numbers; the example's lists and finds join them
--- with the search.
+-- The starred values of 01, "Checked values": one statement over the definitions.
 use mathlib.Core.Path.{_≡_}
 use mathlib.Core.Bool.{false}
+use mathlib.Core.List.{List, [], _∷_}
 use Prim.Native.Nat.{ℕ, _%_}
 use lib.IntN.{pos, negsuc}
+use lib.ListN.{replicate}
 use lib.Ieee.{Float, fin, binary32}
+use Rattle.basics.specs.Sum.{+zero, +one}
 use Rattle.lcg.specs.Lcg.{nextOf, high, drawAddend}
 use Rattle.root.specs.Root.{rootOf}
 use Rattle.hyperplanes.specs.Hyperplanes.{stream, planeNumber}
 use Rattle.leaders.specs.Leaders.{drawStart}
+use Rattle.calls.specs.Search.{refused}
+use Rattle.checked_values.specs.Example.{minusOne, lists, asked, told}
 
 pub record Starred : Type 0 where
   -- root of 25 is 5; of 2 is 11863283/2^23
@@ -19,3 +23,13 @@ pub record Starred : Type 0 where
   pub first-plane : planeNumber binary32 0 ≡ fin false 9157719 (negsuc 25)
   -- first draw, level 0, three ids: position 2
   pub first-draw : _≡_ {A = ℕ} (high (nextOf drawAddend (drawStart 0)) % 3) 2
+  -- lists here: 0:[1], 1:[0,2], 2:[1,1]
+  pub worked-lists : lists ≡ (1 ∷ []) ∷ (0 ∷ 2 ∷ []) ∷ (1 ∷ 1 ∷ []) ∷ []
+  -- this find: three ranks, and nothing written past them
+  pub worked-find : told (asked 3 3 (+one ∷ +zero ∷ [])) ≡ (0, 3, 3, 10 ∷ 20 ∷ 30 ∷ 7 ∷ [], 0x0000_0000 ∷ 0x3f80_0000 ∷ 0x4000_0000 ∷ 0xbf80_0000 ∷ [])
+  -- k 1, ef 1: doc 10, scored 3
+  pub worked-one : told (asked 1 1 (+one ∷ +zero ∷ [])) ≡ (0, 1, 3, 10 ∷ 7 ∷ 7 ∷ 7 ∷ [], 0x0000_0000 ∷ 0xbf80_0000 ∷ 0xbf80_0000 ∷ 0xbf80_0000 ∷ [])
+  -- k 0, ef 0: none, scored 3
+  pub worked-none : told (asked 0 0 (+one ∷ +zero ∷ [])) ≡ (0, 0, 3, replicate 4 7, replicate 4 0xbf80_0000)
+  -- three components: 6
+  pub three-components : asked 3 3 (+one ∷ +zero ∷ +zero ∷ []) ≡ refused 6 (replicate 4 7) (replicate 4 minusOne)

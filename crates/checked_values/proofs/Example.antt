@@ -1,0 +1,57 @@
+-- More of 01's worked example: every word that build leaves, a query that is scaled, and refusals in their order. Assumes nothing.
+use mathlib.Core.Path.{_≡_, refl}
+use mathlib.Core.List.{List, [], _∷_, _++_}
+use Prim.Native.Nat.{ℕ}
+use lib.IntN.{pos}
+use lib.ListN.{replicate}
+use lib.Ieee.{fin, ofBits, toBits, add, sub, mul, div, lt, le, eq, isNan, ofInt, toUnsigned, round}
+use mathlib.Core.Bool.{false}
+use Rattle.basics.specs.Sum.{+zero, +one}
+use Rattle.pipnn.specs.New.{newSpec}
+use Rattle.pipnn.specs.Add.{addSpec}
+use Rattle.calls.specs.Build.{buildSpec}
+use Rattle.calls.specs.Search.{refused, searchWithEfSpec, searchSpec}
+use Rattle.checked_values.specs.Example.{minusOne, opened, added, built, asked, told}
+
+-- ---- build: entry 1, one bridge, from 1 to 2; its rows and bridge are written, words 0, 9 and 10, and nothing else
+
+abbrev pub workedWords : List ℕ
+workedWords =
+    1 ∷ 2 ∷ 3 ∷ 256 ∷ 0 ∷ 1 ∷ 0 ∷ 1 ∷ 3 ∷ 1 ∷ 1 ∷ 8 ∷ 0x3fe0_0000 ∷ 0 ∷ 0x3f99_999a ∷ 0
+    ∷ 10 ∷ 20 ∷ 30 ∷ 0 ∷ 0 ∷ 0 ∷ 0 ∷ 0
+    ∷ 1 ∷ 1 ∷ 1 ∷ 0 ∷ 1 ∷ 1 ∷ (replicate 10 0 ++ (1 ∷ 2 ∷ replicate 14 0))
+
+pub worked-words : built .1 ≡ workedWords
+unfolding newSpec addSpec buildSpec ofBits toBits add sub mul div lt le eq isNan ofInt toUnsigned round
+worked-words = refl
+
+-- a second build is success, and leaves all as it is
+worked-again : buildSpec 512 384 workedWords (replicate 16 +one) ≡ (0, workedWords, replicate 16 +one)
+unfolding buildSpec ofBits lt le eq
+worked-again = refl
+
+-- ---- search
+
+-- a query of twice that length is scaled
+scaled-find : told (asked 3 3 (fin false 1 (pos 1) ∷ +zero ∷ []))
+    ≡ (0, 3, 3, 10 ∷ 20 ∷ 30 ∷ 7 ∷ [], 0x0000_0000 ∷ 0x3f80_0000 ∷ 0x4000_0000 ∷ 0xbf80_0000 ∷ [])
+unfolding searchWithEfSpec newSpec addSpec buildSpec ofBits toBits add sub mul div lt le eq isNan ofInt toUnsigned round
+scaled-find = refl
+
+-- `search` is the same, with ef_search, 3
+worked-search : searchSpec 512 384 (built .1) (built .2) (+one ∷ +zero ∷ []) 3 (replicate 4 7) (replicate 4 minusOne) ≡ asked 3 3 (+one ∷ +zero ∷ [])
+unfolding searchSpec searchWithEfSpec newSpec addSpec buildSpec ofBits toBits add sub mul div lt le eq isNan ofInt toUnsigned round
+worked-search = refl
+
+open-refused : searchWithEfSpec 512 384 (added .1) (added .2) (+one ∷ []) 1025 3 [] [] ≡ refused 10 [] []
+unfolding searchWithEfSpec newSpec addSpec ofBits toBits add sub mul div lt le eq isNan round
+open-refused = refl
+
+-- a build of no nodes; and with scratch a word short, which comes first
+empty-refused : buildSpec 512 384 (opened .1) (opened .2) ≡ (9, opened .1, opened .2)
+unfolding newSpec buildSpec ofBits toBits lt le eq isNan
+empty-refused = refl
+
+scratch-refused : buildSpec 511 384 (opened .1) (opened .2) ≡ (3, opened .1, opened .2)
+unfolding newSpec buildSpec ofBits toBits lt le eq isNan
+scratch-refused = refl

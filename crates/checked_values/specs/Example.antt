@@ -1,0 +1,57 @@
+-- 01's worked example ("The program probe"): three phones in an index of two features, from `new` to the answers.
+use mathlib.Core.Bool.{true}
+use mathlib.Core.List.{List, [], _∷_, map}
+use Prim.Native.Nat.{ℕ}
+use lib.IntN.{pos}
+use lib.ListN.{replicate}
+use lib.Ieee.{Float, fin, binary32, binary64, ofBits, toBits}
+use Rattle.basics.specs.Sum.{+zero, +one}
+use Rattle.params.specs.declared.PipnnParams.{PipnnParams}
+use Rattle.store.specs.View.{view, listIn}
+use Rattle.pipnn.specs.Answer.{Answer}
+use Rattle.pipnn.specs.New.{newSpec}
+use Rattle.pipnn.specs.Add.{addSpec}
+use Rattle.calls.specs.Build.{buildSpec}
+use Rattle.calls.specs.Search.{Reply, searchWithEfSpec}
+
+abbrev pub minusOne : Float
+minusOne = fin true 1 (pos 0)
+
+abbrev pub params : PipnnParams
+params = record {
+  «max_leaf_size» = 256;
+  «min_leaf_size» = 0;
+  «leader_fraction» = ofBits binary64 0x3fe0_0000_0000_0000;
+  «max_degree» = 1;
+  «num_hash_bits» = 0;
+  «final_prune» = true;
+  alpha = ofBits binary32 0x3f99_999a;
+  «ef_search» = 3;
+}
+
+-- after cap, on stores that held something else; after the three adds; after build, with as much scratch as it needs
+abbrev pub opened : Answer
+opened = newSpec 2 params 8 (replicate 56 7) (replicate 16 minusOne)
+
+abbrev pub added : Answer
+added =
+    let one : Answer = addSpec (opened .1) (opened .2) 10 (+one ∷ +zero ∷ []) in
+    let two : Answer = addSpec (one .1) (one .2) 20 (+zero ∷ +one ∷ []) in
+    addSpec (two .1) (two .2) 30 (minusOne ∷ +zero ∷ [])
+
+abbrev pub built : Answer
+built = buildSpec 512 384 (added .1) (added .2)
+
+abbrev pub lists : List (List ℕ)
+lists = map (listIn (view (built .1) (built .2))) (0 ∷ 1 ∷ 2 ∷ [])
+
+-- a find, into outputs of four places each
+abbrev pub asked : ℕ → ℕ → List Float → Reply
+asked k ef query = searchWithEfSpec 512 384 (built .1) (built .2) query k ef (replicate 4 7) (replicate 4 minusOne)
+
+-- what it tells: number, count, scored, the doc ids, the distances' bits
+abbrev pub Told : Type 0
+Told = ℕ × ℕ × ℕ × List ℕ × List ℕ
+
+abbrev pub told : Reply → Told
+told r = (r .number, r .count, r .scored, r .docs, map (toBits binary32) (r .distances))
