@@ -6,7 +6,7 @@
 // `household_count` equals `householdOf` of specs/Household, for lists of any length; that this is the
 // number of different doc ids is `counts-each-once` of proofs/Laws.
 ghost use mathlib.Core.Path.{_≡_};
-ghost use Prim.Native.Nat.{_<_, _≤_};
+ghost use Prim.Native.Nat.{_≤_};
 ghost use lib.ListN.{length, take};
 ghost use Rattle.basics.specs.Nodes.{has};
 ghost use Rattle.household.specs.Day.{dayOf};

@@ -5,7 +5,7 @@
 // every f32; that definition is over values and knows no format. `decide` is the answer for the nearest
 // node's doc id and distance. Leans on what `root` shows of patterns, and on the toolchain's IEEE 754.
 ghost use mathlib.Core.Path.{_≡_};
-ghost use Prim.Native.Nat.{_<_, _≤_};
+ghost use Prim.Native.Nat.{_<_};
 ghost use lib.Ieee.{binary32, ofBits};
 ghost use Rattle.score.specs.Score.{scoreOf};
 ghost use Rattle.score.specs.Recognised.{recognisedAs};
