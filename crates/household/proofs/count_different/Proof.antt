@@ -1,0 +1,87 @@
+-- The invariant: the count, and what the numbers from i on add to it, are the whole. The measure is what is left of the list. Assumes nothing.
+use borrow.Author.Needs.{needs}
+use native.Mathlib.Omega.{arith}
+use mathlib.Core.Path.{_≡_}
+use mathlib.Core.Bool.{not}
+use Prim.Native.Nat.{_+_, _-_, _≤_}
+use lib.ListN.{length, drop}
+use Rattle.household.specs.Household.{different}
+use Rattle.household.proofs.Steps.{at-most-one, count-step, count-end}
+use Rattle.household.proofs.count_different.Statement.{statement}
+use Rattle.household.proofs.count_different.Tie as tie
+
+abbrev Inv-loop : tie.InvT-loop
+Inv-loop docs count₀ i₀ count i = (count + length (different (drop i docs)) ≡ length (different docs)) × (count ≤ i) × (i ≤ length docs)
+
+abbrev μ-loop : tie.MeasureT-loop
+μ-loop docs count₀ i₀ count i = length docs - i
+
+loop-holds : tie.Need-loop-holds Inv-loop μ-loop
+loop-holds c = (omega arith, omega arith, omega arith)
+
+mul-doc : tie.Need-mul-doc Inv-loop μ-loop
+mul-doc c = search needs
+
+shared-slice-read-doc : tie.Need-shared-slice-read-doc Inv-loop μ-loop
+shared-slice-read-doc c = search needs
+
+add-i : tie.Need-add-i Inv-loop μ-loop
+add-i c = search needs
+
+mul-occurs : tie.Need-mul-occurs Inv-loop μ-loop
+mul-occurs c = search needs
+
+sub-occurs : tie.Need-sub-occurs Inv-loop μ-loop
+sub-occurs c = search needs
+
+part-occurs-start : tie.Need-part-occurs-start Inv-loop μ-loop
+part-occurs-start c = search needs
+
+part-occurs-end : tie.Need-part-occurs-end Inv-loop μ-loop
+part-occurs-end c = search needs
+
+occurs-requires : tie.Need-occurs-requires Inv-loop μ-loop
+occurs-requires c κs = search needs
+
+cast-count : tie.Need-cast-count Inv-loop μ-loop
+cast-count c = search needs
+
+add-count : tie.Need-add-count Inv-loop μ-loop
+add-count c = omega (arith, at-most-one (not (c .occurs .result)))
+
+loop-less : tie.Need-loop-less Inv-loop μ-loop
+loop-less c = search needs
+
+loop-again : tie.Need-loop-again Inv-loop μ-loop
+loop-again c =
+    let l = c .before .before .before .before .loop in
+    let docs = c .before .before .before .before .before .before .args .docs .now in
+    let b = at-most-one (not (c .occurs .result)) in
+    let e = count-step docs (l .i) (c .occurs .result) (omega arith) (c .occurs .ensures) in
+    (omega (arith, l .inv .0), omega arith, omega arith)
+
+returns : tie.Need-returns Inv-loop μ-loop
+returns c =
+    let l = c .before .loop in
+    omega (arith, l .inv .0, count-end (c .before .before .before .args .docs .now) (l .i) (omega arith))
+
+pub count-different-spec : {M : Type 1} → statement M
+count-different-spec =
+    tie.close
+    (tie.spec
+    Inv-loop
+    μ-loop
+    loop-holds
+    mul-doc
+    shared-slice-read-doc
+    add-i
+    mul-occurs
+    sub-occurs
+    part-occurs-start
+    part-occurs-end
+    occurs-requires
+    cast-count
+    add-count
+    loop-less
+    loop-again
+    returns)

@@ -1,0 +1,93 @@
+-- The invariant: what is gathered, then the doc ids of the sightings from i on, are those of the day; no more is gathered than was looked at. The
+-- measure is what is left of the sightings. Assumes nothing.
+use borrow.Author.Needs.{needs}
+use native.Mathlib.Omega.{arith}
+use mathlib.Core.Path.{_≡_, refl}
+use mathlib.Core.List.{_++_}
+use Prim.Native.Nat.{_+_, _-_, _≤_}
+use lib.Dec.{eqb}
+use lib.ListN.{length, take, drop, length-set}
+use Rattle.household.specs.Household.{docsOn}
+use Rattle.household.proofs.Steps.{at-most-one, gather-step, gather-end}
+use Rattle.household.proofs.gather.Statement.{statement}
+use Rattle.household.proofs.gather.Tie as tie
+
+abbrev Inv-loop : tie.InvT-loop
+Inv-loop day seconds docs today₀ sighted₀ i₀ today sighted i = (take sighted today ++ docsOn day (drop i seconds) (drop i docs) ≡ docsOn day seconds docs) × (sighted ≤ i) × (i ≤ length docs) × (length today ≡ length today₀)
+
+abbrev μ-loop : tie.MeasureT-loop
+μ-loop day seconds docs today₀ sighted₀ i₀ today sighted i = length docs - i
+
+loop-holds : tie.Need-loop-holds Inv-loop μ-loop
+loop-holds c = (refl, omega arith, omega arith, refl)
+
+mul-today : tie.Need-mul-today Inv-loop μ-loop
+mul-today c = search needs
+
+shared-slice-read-today : tie.Need-shared-slice-read-today Inv-loop μ-loop
+shared-slice-read-today c = search needs
+
+mul-today-2 : tie.Need-mul-today-2 Inv-loop μ-loop
+mul-today-2 c = search needs
+
+slice-write-today : tie.Need-slice-write-today Inv-loop μ-loop
+slice-write-today c = search needs
+
+mul-day-of : tie.Need-mul-day-of Inv-loop μ-loop
+mul-day-of c = search needs
+
+shared-slice-read-day-of : tie.Need-shared-slice-read-day-of Inv-loop μ-loop
+shared-slice-read-day-of c = search needs
+
+day-of-requires : tie.Need-day-of-requires Inv-loop μ-loop
+day-of-requires c κs = search needs
+
+cast-sighted : tie.Need-cast-sighted Inv-loop μ-loop
+cast-sighted c = search needs
+
+add-sighted : tie.Need-add-sighted Inv-loop μ-loop
+add-sighted c = omega (arith, at-most-one (eqb (c .day-of .result) (c .before .before .before .before .before .before .before .before .args .day)))
+
+add-i : tie.Need-add-i Inv-loop μ-loop
+add-i c = search needs
+
+loop-less : tie.Need-loop-less Inv-loop μ-loop
+loop-less c = search needs
+
+loop-again : tie.Need-loop-again Inv-loop μ-loop
+loop-again c =
+    let l = c .before .before .before .before .loop in
+    let a = c .before .before .before .before .before .before .before .before .args in
+    let b = at-most-one (eqb (c .day-of .result) (a .day)) in
+    (gather-step (a .day) (a .seconds .now) (a .docs .now) (l .today) _ (l .sighted) (l .i) (c .day-of .result) (omega arith) (omega arith) (omega arith) (c .day-of .ensures) (l .inv .0), omega arith, omega arith, simp length-set (l .inv .3))
+
+same-length : tie.Need-same-length Inv-loop μ-loop
+same-length c = search needs
+
+returns : tie.Need-returns Inv-loop μ-loop
+returns c =
+    let l = c .before .loop in
+    let a = c .before .before .before .before .before .args in
+    (gather-end (a .day) (a .seconds .now) (a .docs .now) (take (l .sighted) (l .today)) _ (l .i) (omega arith) (l .inv .0), omega arith, l .inv .3)
+
+pub gather-spec : {M : Type 1} → statement M
+gather-spec =
+    tie.close
+    (tie.spec
+    Inv-loop
+    μ-loop
+    loop-holds
+    mul-today
+    shared-slice-read-today
+    mul-today-2
+    slice-write-today
+    mul-day-of
+    shared-slice-read-day-of
+    day-of-requires
+    cast-sighted
+    add-sighted
+    add-i
+    loop-less
+    loop-again
+    same-length
+    returns)

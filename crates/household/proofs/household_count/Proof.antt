@@ -1,0 +1,71 @@
+-- What is not turned back has at most 512 sightings, so the day's doc ids fit the local array; `gather` says which they are and `count_different` how
+-- many different ones, which is the definition's count. Assumes nothing.
+use native.Mathlib.Omega.{arith}
+use borrow.Author.Needs.{needs}
+use mathlib.Core.Path.{sym, ap, _∙_}
+use mathlib.Core.List.{List}
+use Prim.Native.Nat.{ℕ}
+use lib.ListN.{length, take}
+use lib.Seq.{length-take-le}
+use Rattle.basics.specs.Choice.{pick-true, pick-false}
+use Rattle.household.specs.declared.Household.the-variants.{Phones}
+use Rattle.household.specs.Household.{different, householdOf}
+use Rattle.household.proofs.Laws.{accepted, different-short}
+use Rattle.household.proofs.household_count.Statement.{statement}
+use Rattle.household.proofs.household_count.Tie as tie
+
+returns : tie.Need-returns
+unfolding householdOf
+returns c = sym (pick-true _ _ (c .if1 .taken))
+
+slice-aggregate-gather : tie.Need-slice-aggregate-gather
+slice-aggregate-gather c = search needs
+
+gather-requires : tie.Need-gather-requires
+gather-requires c κs =
+    let a = c .before .before .before .before .args in
+    accepted (a .seconds .now) (a .docs .now) (c .before .if1 .left)
+
+array-share-prefix-today : tie.Need-array-share-prefix-today
+array-share-prefix-today c =
+    let a = c .before .before .before .before .before .before .args in
+    let h = accepted (a .seconds .now) (a .docs .now) (c .before .before .before .if1 .left) in
+    omega (arith, c .before .gather .ensures .1, c .before .gather .ensures .2)
+
+slice-aggregate-count-different : tie.Need-slice-aggregate-count-different
+slice-aggregate-count-different c =
+    let a = c .before .before .before .before .before .before .before .args in
+    let h = accepted (a .seconds .now) (a .docs .now) (c .before .before .before .before .if1 .left) in
+    let g = c .before .before .gather .ensures in
+    sym (length-take-le _ _ (omega (arith, g .1, g .2)))
+
+count-different-requires : tie.Need-count-different-requires
+count-different-requires c κs = search needs
+
+cast-t16 : tie.Need-cast-t16
+cast-t16 c =
+    let a = c .before .before .before .before .before .before .before .before .args in
+    let h = accepted (a .seconds .now) (a .docs .now) (c .before .before .before .before .before .if1 .left) in
+    let g = c .before .before .before .gather .ensures in
+    let few = different-short (take (c .before .before .before .gather .result) (c .before .before .before .gather .last .1 .1 .1 .0)) in
+    let long = lib.Seq.length-take-le (c .before .before .before .gather .result) (c .before .before .before .gather .last .1 .1 .1 .0) (omega (arith, g .1, g .2)) in
+    omega (arith, c .count-different .ensures, g .1)
+
+returns-2 : tie.Need-returns-2
+unfolding householdOf
+returns-2 c =
+    ap (λ (n : ℕ). Phones n) (c .count-different .ensures ∙ ap (λ (l : List ℕ). length (different l)) (c .before .before .before .gather .ensures .0))
+    ∙ sym (pick-false _ _ (c .before .before .before .before .before .if1 .left))
+
+pub household-count-spec : {M : Type 1} → statement M
+household-count-spec =
+    tie.close
+    (tie.spec
+    returns
+    slice-aggregate-gather
+    gather-requires
+    array-share-prefix-today
+    slice-aggregate-count-different
+    count-different-requires
+    cast-t16
+    returns-2)

@@ -1,0 +1,52 @@
+-- The invariant: found so far, or from i on, is found at all. The measure is what is left of the list. Assumes nothing.
+use borrow.Author.Needs.{needs}
+use native.Mathlib.Omega.{arith}
+use mathlib.Core.Path.{_≡_, refl}
+use mathlib.Core.Bool.{_||_}
+use Prim.Native.Nat.{_-_, _≤_}
+use lib.ListN.{length, drop}
+use Rattle.basics.specs.Nodes.{has}
+use Rattle.household.proofs.Steps.{look-step, look-end}
+use Rattle.household.proofs.occurs.Statement.{statement}
+use Rattle.household.proofs.occurs.Tie as tie
+
+abbrev Inv-loop : tie.InvT-loop
+Inv-loop doc docs found₀ i₀ found i = ((found || has doc (drop i docs)) ≡ has doc docs) × (i ≤ length docs)
+
+abbrev μ-loop : tie.MeasureT-loop
+μ-loop doc docs found₀ i₀ found i = length docs - i
+
+loop-holds : tie.Need-loop-holds Inv-loop μ-loop
+loop-holds c = (refl, omega arith)
+
+mul-found : tie.Need-mul-found Inv-loop μ-loop
+mul-found c = search needs
+
+shared-slice-read-found : tie.Need-shared-slice-read-found Inv-loop μ-loop
+shared-slice-read-found c = search needs
+
+add-i : tie.Need-add-i Inv-loop μ-loop
+add-i c = search needs
+
+loop-less : tie.Need-loop-less Inv-loop μ-loop
+loop-less c = search needs
+
+loop-again : tie.Need-loop-again Inv-loop μ-loop
+loop-again c = let l = c .before .before .loop in (look-step _ _ (l .i) (l .found) _ (omega arith) (l .inv .0), omega arith)
+
+returns : tie.Need-returns Inv-loop μ-loop
+returns c = let l = c .before .loop in look-end _ _ (l .i) (l .found) _ (omega arith) (l .inv .0)
+
+pub occurs-spec : {M : Type 1} → statement M
+occurs-spec =
+    tie.close
+    (tie.spec
+    Inv-loop
+    μ-loop
+    loop-holds
+    mul-found
+    shared-slice-read-found
+    add-i
+    loop-less
+    loop-again
+    returns)
