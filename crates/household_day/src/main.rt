@@ -183,20 +183,34 @@ fn tell_day(day: u64, seconds: &[u64], docs: &[u32], sightings: usize) {
     write_count(household::household_count(day, &seconds[..sightings], &docs[..sightings]));
 }
 
-// The i-th argument, if it is a number.
+// The i-th argument, if it is a number as a whole.
 fn asked(i: usize) -> Number {
     let mut word = io::buffer();
     let n = os::arg(i, &mut word);
-    number_at(&word[..n], 0)
+    let Number::Read(day, end) = number_at(&word[..n], 0) else {
+        return Number::Missing;
+    };
+    if end != n {
+        return Number::Missing;
+    }
+    Number::Read(day, end)
+}
+
+fn tell_asked(i: usize, seconds: &[u64], docs: &[u32], sightings: usize) {
+    let Number::Read(day, _) = asked(i) else {
+        write(b"argument ");
+        write_number(i as u64);
+        write(b" is no day number\n");
+        return;
+    };
+    tell_day(day, seconds, docs, sightings);
 }
 
 fn tell_days(seconds: &[u64], docs: &[u32], sightings: usize) {
     let days = os::arg_count();
     let mut i: usize = 1;
     while i < days {
-        if let Number::Read(day, _) = asked(i) {
-            tell_day(day, seconds, docs, sightings);
-        }
+        tell_asked(i, seconds, docs, sightings);
         i += 1;
     }
 }

@@ -1,4 +1,4 @@
--- The invariant: the place is at most one past the arguments, which are the measure too. Assumes nothing.
+-- The invariant: the place is at most one past the arguments. The measure is how many of them are left. Assumes nothing.
 use Prim.Native.Nat.{_+_, _-_, _≤_}
 use borrow.Author.Needs.{needs}
 use Rattle.household_day.proofs.tell_days.Statement.{statement}
@@ -16,17 +16,8 @@ arg-count-requires c κs = search needs
 loop-holds : tie.Need-loop-holds Inv-loop μ-loop
 loop-holds c = search needs
 
-asked-requires : tie.Need-asked-requires Inv-loop μ-loop
-asked-requires c κs = search needs
-
-enum-known-day : tie.Need-enum-known-day Inv-loop μ-loop
-enum-known-day c = search needs
-
-tell-day-requires : tie.Need-tell-day-requires Inv-loop μ-loop
-tell-day-requires c κs = search needs
-
-enum-told : tie.Need-enum-told Inv-loop μ-loop
-enum-told c = search needs
+tell-asked-requires : tie.Need-tell-asked-requires Inv-loop μ-loop
+tell-asked-requires c κs = search needs
 
 add-i : tie.Need-add-i Inv-loop μ-loop
 add-i c = search needs
@@ -48,10 +39,7 @@ tell-days-spec =
     μ-loop
     arg-count-requires
     loop-holds
-    asked-requires
-    enum-known-day
-    tell-day-requires
-    enum-told
+    tell-asked-requires
     add-i
     loop-less
     loop-again
