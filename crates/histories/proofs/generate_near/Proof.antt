@@ -3,8 +3,8 @@ use Prim.Native.Nat.{_-_, _≤_}
 use lib.ListN.{length}
 use mathlib.Core.Path.{_≡_}
 use borrow.Author.Needs.{needs}
-use Rattle.replay_store.proofs.generate_near.Statement.{statement}
-use Rattle.replay_store.proofs.generate_near.Tie as tie
+use Rattle.histories.proofs.generate_near.Statement.{statement}
+use Rattle.histories.proofs.generate_near.Tie as tie
 
 abbrev Inv-loop : tie.InvT-loop
 Inv-loop vector₀ centre noise r₀ s₀ i₀ vector r s i =

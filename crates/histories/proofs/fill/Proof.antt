@@ -3,8 +3,8 @@ use mathlib.Core.Path.{sym}
 use lib.Seq.{length-take-le}
 use native.Mathlib.Omega.{arith}
 use borrow.Author.Needs.{needs}
-use Rattle.replay_store.proofs.fill.Statement.{statement}
-use Rattle.replay_store.proofs.fill.Tie as tie
+use Rattle.histories.proofs.fill.Statement.{statement}
+use Rattle.histories.proofs.fill.Tie as tie
 
 token-requires : tie.Need-token-requires
 token-requires c κs = search needs

@@ -1,26 +1,29 @@
--- The invariant: the place is within the words. Assumes nothing.
+-- The invariant: the place is within the floats. Assumes nothing.
 use Prim.Native.Nat.{_-_, _≤_}
 use lib.ListN.{length}
 use borrow.Author.Needs.{needs}
-use Rattle.replay_store.proofs.sum_words.Statement.{statement}
-use Rattle.replay_store.proofs.sum_words.Tie as tie
+use Rattle.histories.proofs.sum_floats.Statement.{statement}
+use Rattle.histories.proofs.sum_floats.Tie as tie
 
 abbrev Inv-loop : tie.InvT-loop
-Inv-loop words sum₀ i₀ sum i =
-    i ≤ length words
+Inv-loop floats h sum₀ i₀ sum i =
+    i ≤ length floats
 
 abbrev μ-loop : tie.MeasureT-loop
-μ-loop words sum₀ i₀ sum i =
-    length words - i
+μ-loop floats h sum₀ i₀ sum i =
+    length floats - i
 
 loop-holds : tie.Need-loop-holds Inv-loop μ-loop
 loop-holds c = search needs
 
-mul-sum-on : tie.Need-mul-sum-on Inv-loop μ-loop
-mul-sum-on c = search needs
+mul-pattern : tie.Need-mul-pattern Inv-loop μ-loop
+mul-pattern c = search needs
 
-shared-slice-read-sum-on : tie.Need-shared-slice-read-sum-on Inv-loop μ-loop
-shared-slice-read-sum-on c = search needs
+shared-slice-read-pattern : tie.Need-shared-slice-read-pattern Inv-loop μ-loop
+shared-slice-read-pattern c = search needs
+
+pattern-requires : tie.Need-pattern-requires Inv-loop μ-loop
+pattern-requires c κs = search needs
 
 sum-on-requires : tie.Need-sum-on-requires Inv-loop μ-loop
 sum-on-requires c κs = search needs
@@ -37,15 +40,16 @@ loop-again c = search needs
 returns : tie.Need-returns Inv-loop μ-loop
 returns c = search needs
 
-pub sum-words-spec : {M : Type 1} → statement M
-sum-words-spec =
+pub sum-floats-spec : {M : Type 1} → statement M
+sum-floats-spec =
     tie.close
     (tie.spec
     Inv-loop
     μ-loop
     loop-holds
-    mul-sum-on
-    shared-slice-read-sum-on
+    mul-pattern
+    shared-slice-read-pattern
+    pattern-requires
     sum-on-requires
     add-i
     loop-less

@@ -3,8 +3,8 @@ use mathlib.Core.Path.{sym}
 use lib.Seq.{length-take-le}
 use native.Mathlib.Omega.{arith}
 use borrow.Author.Needs.{needs}
-use Rattle.replay_store.proofs.adds_is_same.Statement.{statement}
-use Rattle.replay_store.proofs.adds_is_same.Tie as tie
+use Rattle.histories.proofs.adds_is_same.Statement.{statement}
+use Rattle.histories.proofs.adds_is_same.Tie as tie
 
 generated-dimension-requires : tie.Need-generated-dimension-requires
 generated-dimension-requires c κs = search needs

@@ -3,8 +3,8 @@ use Prim.Native.Nat.{_-_, _≤_}
 use lib.ListN.{length}
 use mathlib.Core.Path.{_≡_}
 use borrow.Author.Needs.{needs}
-use Rattle.replay_store.proofs.scatter_words.Statement.{statement}
-use Rattle.replay_store.proofs.scatter_words.Tie as tie
+use Rattle.histories.proofs.scatter_words.Statement.{statement}
+use Rattle.histories.proofs.scatter_words.Tie as tie
 
 abbrev Inv-loop : tie.InvT-loop
 Inv-loop words₀ seed x₀ i₀ words x i =

@@ -3,8 +3,8 @@ use mathlib.Core.Path.{sym}
 use lib.Seq.{length-take-le}
 use native.Mathlib.Omega.{arith}
 use borrow.Author.Needs.{needs}
-use Rattle.replay_store.proofs.new_is_same.Statement.{statement}
-use Rattle.replay_store.proofs.new_is_same.Tie as tie
+use Rattle.histories.proofs.new_is_same.Statement.{statement}
+use Rattle.histories.proofs.new_is_same.Tie as tie
 
 lesser-requires : tie.Need-lesser-requires
 lesser-requires c κs = search needs

@@ -3,8 +3,8 @@ use Prim.Native.Nat.{_-_, _≤_}
 use lib.ListN.{length}
 use mathlib.Core.Path.{_≡_}
 use borrow.Author.Needs.{needs}
-use Rattle.replay_store.proofs.add_generated.Statement.{statement}
-use Rattle.replay_store.proofs.add_generated.Tie as tie
+use Rattle.histories.proofs.add_generated.Statement.{statement}
+use Rattle.histories.proofs.add_generated.Tie as tie
 
 abbrev Inv-loop : tie.InvT-loop
 Inv-loop words₀ floats₀ vector₀ h count seed style number₀ doc₀ r₀ i₀ words floats vector number doc r i =

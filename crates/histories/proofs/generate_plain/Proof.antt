@@ -3,8 +3,8 @@ use Prim.Native.Nat.{_-_, _≤_}
 use lib.ListN.{length}
 use mathlib.Core.Path.{_≡_}
 use borrow.Author.Needs.{needs}
-use Rattle.replay_store.proofs.generate_plain.Statement.{statement}
-use Rattle.replay_store.proofs.generate_plain.Tie as tie
+use Rattle.histories.proofs.generate_plain.Statement.{statement}
+use Rattle.histories.proofs.generate_plain.Tie as tie
 
 abbrev Inv-loop : tie.InvT-loop
 Inv-loop vector₀ ties r s₀ i₀ vector s i =
