@@ -5,9 +5,10 @@ mod order;
 mod simd;
 #[path = "../oracle/target/src/distance.rs"]
 mod distance;
+mod timing;
 
 use std::hint::black_box;
-use std::time::Instant;
+use timing::{medians, numbers};
 
 extern "C" {
     fn measured_one(q: *const f32, qn: usize, rows: *const f32, rn: usize, out: *mut f32, on: usize) -> usize;
@@ -19,7 +20,6 @@ extern "C" {
 type Scan = unsafe extern "C" fn(*const f32, usize, *const f32, usize, *mut f32, usize) -> usize;
 
 const ROWS: usize = 1024;
-const ROUNDS: usize = 401;
 
 fn rust_rows(q: &[f32], rows: &[f32], out: &mut [f32]) {
     for (i, row) in rows.chunks_exact(q.len()).enumerate() {
@@ -30,36 +30,6 @@ fn rust_rows(q: &[f32], rows: &[f32], out: &mut [f32]) {
 fn our_rows(scan: Scan, q: &[f32], rows: &[f32], out: &mut [f32]) {
     let n = unsafe { scan(q.as_ptr(), q.len(), rows.as_ptr(), rows.len(), out.as_mut_ptr(), out.len()) };
     assert_eq!(n, out.len());
-}
-
-/// Numbers from -1 up to 1, by the generator of recorded/README.md.
-fn numbers(seed: u64, n: usize) -> Vec<f32> {
-    let mut r = seed;
-    (0..n)
-        .map(|_| {
-            r = r.wrapping_mul(6364136223846793005).wrapping_add(1442695040888963407);
-            (r >> 40) as f32 / 8388608.0 - 1.0
-        })
-        .collect()
-}
-
-/// The median time of a round, in nanoseconds, of several candidates that take turns.
-fn medians(candidates: &mut [&mut dyn FnMut()]) -> Vec<f64> {
-    let mut times = vec![Vec::with_capacity(ROUNDS); candidates.len()];
-    for _ in 0..ROUNDS {
-        for (candidate, times) in candidates.iter_mut().zip(&mut times) {
-            let start = Instant::now();
-            candidate();
-            times.push(start.elapsed().as_nanos() as f64);
-        }
-    }
-    times
-        .iter_mut()
-        .map(|times| {
-            times.sort_by(f64::total_cmp);
-            times[ROUNDS / 2]
-        })
-        .collect()
 }
 
 fn same_bits(a: &[f32], b: &[f32]) {

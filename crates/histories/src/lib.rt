@@ -1,0 +1,344 @@
+// The recorded histories of calls (recorded/README.md): two stores are kept from line to line, some lines set
+// them or say how much of them is lent, and the others ask for a call's number or for what the stores hold.
+//
+// Each function below is for one kind of line, which stands above it; those whose names end in `_is_same`
+// work out the answer by this project's calls and say whether it is the recorded one. All are proved safe on
+// lines and stores of any content, and nothing more.
+ghost use Prim.Native.Nat.{_≤_};
+use ids::DocId;
+use params::PipnnParams;
+
+// What a history has come to, besides the content of its stores: how many words and floats they have, how
+// many of them are lent, and whether a build that is not replayed closed them. A float keeps no pattern of a NaN, so the last one
+// that a line set is kept here, with its place.
+pub struct History {
+    pub words: usize,
+    pub floats: usize,
+    pub lent_words: usize,
+    pub lent_floats: usize,
+    pub nan_at: usize,
+    pub nan_bits: u32,
+    pub closed: bool,
+}
+
+pub fn start() -> History {
+    History {
+        words: 0,
+        floats: 0,
+        lent_words: 0,
+        lent_floats: 0,
+        nan_at: 0,
+        nan_bits: 0,
+        closed: false,
+    }
+}
+
+fn scatter_words(words: &mut [u32], seed: u64) {
+    let mut x = seed;
+    let mut i: usize = 0;
+    while i < words.len() {
+        words[i] = (x % 0x1_0000_0000) as u32;
+        x = std::num::wrapping_add_u64(x, 2654435761);
+        i += 1;
+    }
+}
+
+fn scatter_floats(floats: &mut [f32], seed: u64) {
+    let mut x = seed;
+    let mut i: usize = 0;
+    while i < floats.len() {
+        floats[i] = bits::f32_from((x % 0x4000_0000) as u32);
+        x = std::num::wrapping_add_u64(x, 2654435761);
+        i += 1;
+    }
+}
+
+// fill W F seed
+pub fn fill(tokens: &[u64], words: &mut [u32], floats: &mut [f32]) -> History {
+    let seed = replay::token(tokens, 0, 2);
+    let w = replay::lesser(replay::size(tokens, 0, 0), words.len());
+    let f = replay::lesser(replay::size(tokens, 0, 1), floats.len());
+    scatter_words(&mut words[..w], seed);
+    scatter_floats(&mut floats[..f], seed);
+    History {
+        words: w,
+        floats: f,
+        lent_words: w,
+        lent_floats: f,
+        nan_at: 0,
+        nan_bits: 0,
+        closed: false,
+    }
+}
+
+// lend W F
+pub fn lend(tokens: &[u64], h: History) -> History {
+    History {
+        words: h.words,
+        floats: h.floats,
+        lent_words: replay::size(tokens, 0, 0),
+        lent_floats: replay::size(tokens, 0, 1),
+        nan_at: h.nan_at,
+        nan_bits: h.nan_bits,
+        closed: h.closed,
+    }
+}
+
+// word I X
+pub fn set_word(tokens: &[u64], words: &mut [u32]) {
+    let i = replay::size(tokens, 0, 0);
+    if i < words.len() {
+        words[i] = replay::word(tokens, 0, 1);
+    }
+}
+
+fn put_float(floats: &mut [f32], i: usize, x: f32) {
+    if i < floats.len() {
+        floats[i] = x;
+    }
+}
+
+// float I X
+pub fn set_float(tokens: &[u64], floats: &mut [f32], h: History) -> History {
+    let i = replay::size(tokens, 0, 0);
+    let x = replay::float(tokens, 0, 1);
+    put_float(floats, i, x);
+    if x == x {
+        return h;
+    }
+    History {
+        words: h.words,
+        floats: h.floats,
+        lent_words: h.lent_words,
+        lent_floats: h.lent_floats,
+        nan_at: i,
+        nan_bits: replay::word(tokens, 0, 1),
+        closed: h.closed,
+    }
+}
+
+fn params_asked(tokens: &[u64]) -> PipnnParams {
+    PipnnParams {
+        max_leaf_size: replay::word(tokens, 0, 1),
+        min_leaf_size: replay::word(tokens, 0, 2),
+        leader_fraction: bits::f64_from(replay::token(tokens, 0, 3)),
+        max_degree: replay::word(tokens, 0, 4),
+        num_hash_bits: replay::word(tokens, 0, 5),
+        final_prune: replay::token(tokens, 0, 6) == 1,
+        alpha: replay::float(tokens, 0, 7),
+        ef_search: replay::word(tokens, 0, 8),
+    }
+}
+
+// new DIM LEAF MIN FRACTION DEGREE BITS FINAL ALPHA EF CAP = number
+pub fn new_is_same(
+    tokens: &[u64],
+    asked: usize,
+    words: &mut [u32],
+    floats: &mut [f32],
+    h: History,
+) -> bool {
+    let w = replay::lesser(h.lent_words, words.len());
+    let f = replay::lesser(h.lent_floats, floats.len());
+    let dimension = replay::word(tokens, 0, 0);
+    let capacity = replay::word(tokens, 0, 9);
+    let p = params_asked(tokens);
+    let number = pipnn::new(&mut words[..w], &mut floats[..f], dimension, p, capacity);
+    number == replay::word(tokens, asked, 0)
+}
+
+// An add to what is lent.
+fn add(words: &mut [u32], floats: &mut [f32], h: History, doc: u32, vector: &[f32]) -> u32 {
+    let w = replay::lesser(h.lent_words, words.len());
+    let f = replay::lesser(h.lent_floats, floats.len());
+    pipnn::add_slice(&mut words[..w], &mut floats[..f], DocId(doc), vector)
+}
+
+// add DOC N v.. = number
+pub fn add_is_same(
+    tokens: &[u64],
+    asked: usize,
+    words: &mut [u32],
+    floats: &mut [f32],
+    vector: &mut [f32],
+    h: History,
+) -> bool {
+    let n = replay::floats(tokens, 2, replay::size(tokens, 0, 1), vector);
+    let doc = replay::word(tokens, 0, 0);
+    let number = add(words, floats, h, doc, replay::front(vector, n));
+    number == replay::word(tokens, asked, 0)
+}
+
+// A whole number that an f32 holds.
+fn float_of(x: u64) -> f32
+    requires { ⌜ x ≤ 16777216 ⌝ }
+{
+    x as f32
+}
+
+// The number from -1 up to 1 that a state of the generator stands for.
+fn number_of(r: u64) -> f32 {
+    float_of(r / 0x100_0000_0000) / 8388608.0 - 1.0
+}
+
+// The same with many ties: -1, 0 or 1.
+fn tie_of(r: u64) -> f32 {
+    float_of(r / 0x100_0000_0000 % 3) - 1.0
+}
+
+// A vector whose states come after r. Answers the last of them.
+fn generate_plain(vector: &mut [f32], ties: bool, r: u64) -> u64 {
+    let mut s = r;
+    let mut i: usize = 0;
+    while i < vector.len() {
+        s = lcg::next_plane(s);
+        vector[i] = if ties { tie_of(s) } else { number_of(s) };
+        i += 1;
+    }
+    s
+}
+
+// A vector near a centre.
+fn generate_near(vector: &mut [f32], centre: u64, noise: u64) {
+    let mut r = centre;
+    let mut s = noise;
+    let mut i: usize = 0;
+    while i < vector.len() {
+        r = lcg::next_plane(r);
+        s = lcg::next_plane(s);
+        vector[i] = number_of(r) + 0.05 * number_of(s);
+        i += 1;
+    }
+}
+
+// Vector i of those that a seed and a style give, where r is the state that the last one left. Answers the
+// state that it leaves.
+fn generate(vector: &mut [f32], seed: u64, style: u64, i: u64, r: u64) -> u64 {
+    if style == 2 {
+        generate_plain(vector, false, std::num::wrapping_add_u64(seed, i % 7));
+        return r;
+    }
+    if style == 3 {
+        let noise = std::num::wrapping_add_u64(lcg::wrapping_mul(seed, 31), 1000);
+        generate_near(
+            vector,
+            std::num::wrapping_add_u64(seed, i % 16),
+            std::num::wrapping_add_u64(noise, i),
+        );
+        return r;
+    }
+    generate_plain(vector, style == 1, r)
+}
+
+// Adds generated vectors, up to the first refusal. Answers the last number.
+fn add_generated(
+    words: &mut [u32],
+    floats: &mut [f32],
+    vector: &mut [f32],
+    h: History,
+    count: u64,
+    seed: u64,
+    style: u64,
+) -> u32 {
+    let mut number: u32 = 0;
+    let mut doc: u32 = 1;
+    let mut r = seed;
+    let mut i: u64 = 0;
+    while i < count {
+        r = generate(vector, seed, style, i, r);
+        number = add(words, floats, h, doc, vector);
+        if number != 0 {
+            return number;
+        }
+        doc = std::num::wrapping_add_u32(doc, 7);
+        i += 1;
+    }
+    number
+}
+
+// The dimension of generated vectors: word 1, or 0 if it is not lent or above the limit.
+fn generated_dimension(words: &[u32], h: History) -> usize {
+    let lent = replay::front_words(words, h.lent_words);
+    let dimension = store::word_at(lent, store::DIMENSION);
+    if dimension > params::MOST_DIMENSION {
+        return 0;
+    }
+    dimension as usize
+}
+
+// adds COUNT SEED STYLE = number
+pub fn adds_is_same(
+    tokens: &[u64],
+    asked: usize,
+    words: &mut [u32],
+    floats: &mut [f32],
+    vector: &mut [f32],
+    h: History,
+) -> bool {
+    let d = replay::lesser(generated_dimension(words, h), vector.len());
+    let count = replay::token(tokens, 0, 0);
+    let seed = replay::token(tokens, 0, 1);
+    let style = replay::token(tokens, 0, 2);
+    let number = add_generated(words, floats, &mut vector[..d], h, count, seed, style);
+    number == replay::word(tokens, asked, 0)
+}
+
+// A checksum with one more pattern.
+fn sum_on(sum: u64, x: u32) -> u64 {
+    lcg::next(x as u64 + 1, sum)
+}
+
+fn sum_words(words: &[u32]) -> u64 {
+    let mut sum: u64 = 0;
+    let mut i: usize = 0;
+    while i < words.len() {
+        sum = sum_on(sum, words[i]);
+        i += 1;
+    }
+    sum
+}
+
+// The pattern of a float of the store.
+fn pattern(x: f32, i: usize, h: History) -> u32 {
+    if (x != x) & (i == h.nan_at) {
+        return h.nan_bits;
+    }
+    bits::bits_of(x)
+}
+
+fn sum_floats(floats: &[f32], h: History) -> u64 {
+    let mut sum: u64 = 0;
+    let mut i: usize = 0;
+    while i < floats.len() {
+        sum = sum_on(sum, pattern(floats[i], i, h));
+        i += 1;
+    }
+    sum
+}
+
+// sum = words floats
+pub fn sum_is_same(
+    tokens: &[u64],
+    asked: usize,
+    words: &[u32],
+    floats: &[f32],
+    h: History,
+) -> bool {
+    let of_words = sum_words(replay::front_words(words, h.words));
+    let of_floats = sum_floats(replay::front(floats, h.floats), h);
+    (of_words == replay::token(tokens, asked, 0)) & (of_floats == replay::token(tokens, asked, 1))
+}
+
+// words I N = w..
+pub fn words_is_same(tokens: &[u64], asked: usize, words: &[u32]) -> bool {
+    let from = replay::size(tokens, 0, 0);
+    let n = replay::size(tokens, 0, 1);
+    if words.len() < from {
+        return false;
+    }
+    let rest = &words[from..];
+    if rest.len() < n {
+        return false;
+    }
+    replay::same_words(tokens, asked, replay::front_words(rest, n))
+}
