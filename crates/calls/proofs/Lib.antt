@@ -2,3 +2,4 @@ pub mod Laid
 pub mod Taken
 pub mod Graph
 pub mod Views
+pub mod Examples

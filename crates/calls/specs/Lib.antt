@@ -1,3 +1,4 @@
 pub mod Graph
 pub mod Build
 pub mod Search
+pub mod Example

@@ -12,7 +12,7 @@ use Rattle.root.specs.Root.{rootOf}
 use Rattle.hyperplanes.specs.Hyperplanes.{stream, planeNumber}
 use Rattle.leaders.specs.Leaders.{drawStart}
 use Rattle.calls.specs.Search.{refused}
-use Rattle.checked_values.specs.Example.{minusOne, lists, asked, told}
+use Rattle.calls.specs.Example.{minusOne, lists, asked, told}
 
 pub record Starred : Type 0 where
   -- root of 25 is 5; of 2 is 11863283/2^23

@@ -1,17 +1,20 @@
--- More of 01's worked example: every word that build leaves, a query that is scaled, and refusals in their order. Assumes nothing.
-use mathlib.Core.Path.{_≡_, refl}
-use mathlib.Core.List.{List, [], _∷_, _++_}
+-- 01's worked example, computed from `new` on by the definitions of the calls: every word that build leaves, the lists, the finds, a query that is scaled, and
+-- refusals in their order. Assumes nothing.
+use mathlib.Core.Path.{_≡_, refl, ap}
+use mathlib.Core.List.{List, [], _∷_, _++_, map}
 use Prim.Native.Nat.{ℕ}
 use lib.IntN.{pos}
 use lib.ListN.{replicate}
 use lib.Ieee.{fin, ofBits, toBits, add, sub, mul, div, lt, le, eq, isNan, ofInt, toUnsigned, round}
 use mathlib.Core.Bool.{false}
 use Rattle.basics.specs.Sum.{+zero, +one}
+use Rattle.basics.specs.Graph.{listOf}
+use Rattle.store.specs.View.{view, listIn}
 use Rattle.pipnn.specs.New.{newSpec}
 use Rattle.pipnn.specs.Add.{addSpec}
 use Rattle.calls.specs.Build.{buildSpec}
 use Rattle.calls.specs.Search.{refused, searchWithEfSpec, searchSpec}
-use Rattle.checked_values.specs.Example.{minusOne, opened, added, built, asked, told}
+use Rattle.calls.specs.Example.{minusOne, opened, added, built, lists, asked, told}
 
 -- ---- build: entry 1, one bridge, from 1 to 2; its rows and bridge are written, words 0, 9 and 10, and nothing else
 
@@ -31,6 +34,27 @@ unfolding buildSpec ofBits lt le eq
 worked-again = refl
 
 -- ---- search
+
+pub worked-find : told (asked 3 3 (+one ∷ +zero ∷ [])) ≡ (0, 3, 3, 10 ∷ 20 ∷ 30 ∷ 7 ∷ [], 0x0000_0000 ∷ 0x3f80_0000 ∷ 0x4000_0000 ∷ 0xbf80_0000 ∷ [])
+unfolding searchWithEfSpec newSpec addSpec buildSpec ofBits toBits add sub mul div lt le eq isNan ofInt toUnsigned round
+worked-find = refl
+
+pub worked-one : told (asked 1 1 (+one ∷ +zero ∷ [])) ≡ (0, 1, 3, 10 ∷ 7 ∷ 7 ∷ 7 ∷ [], 0x0000_0000 ∷ 0xbf80_0000 ∷ 0xbf80_0000 ∷ 0xbf80_0000 ∷ [])
+unfolding searchWithEfSpec newSpec addSpec buildSpec ofBits toBits add sub mul div lt le eq isNan ofInt toUnsigned round
+worked-one = refl
+
+pub worked-none : told (asked 0 0 (+one ∷ +zero ∷ [])) ≡ (0, 0, 3, replicate 4 7, replicate 4 0xbf80_0000)
+unfolding searchWithEfSpec newSpec addSpec buildSpec ofBits toBits add sub mul div lt le eq isNan ofInt toUnsigned round
+worked-none = refl
+
+pub three-components : asked 3 3 (+one ∷ +zero ∷ +zero ∷ []) ≡ refused 6 (replicate 4 7) (replicate 4 minusOne)
+unfolding searchWithEfSpec newSpec addSpec buildSpec ofBits toBits add sub mul div lt le eq isNan ofInt toUnsigned round
+three-components = refl
+
+-- from the words that build leaves
+pub worked-lists : lists ≡ (1 ∷ []) ∷ (0 ∷ 2 ∷ []) ∷ (1 ∷ 1 ∷ []) ∷ []
+unfolding view listOf
+worked-lists = ap (λ (w : List ℕ). map (listIn (view w (built .2))) (0 ∷ 1 ∷ 2 ∷ [])) worked-words
 
 -- a query of twice that length is scaled
 scaled-find : told (asked 3 3 (fin false 1 (pos 1) ∷ +zero ∷ []))
