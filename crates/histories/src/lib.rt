@@ -9,8 +9,8 @@ use ids::DocId;
 use params::PipnnParams;
 
 // What a history has come to, besides the content of its stores: how many words and floats they have, how
-// many of them are lent, and whether a build that is not replayed closed them. A float keeps no pattern of a NaN, so the last one
-// that a line set is kept here, with its place.
+// many of them are lent, and whether a build that is not replayed closed them. A float keeps no pattern of a
+// NaN, so the last one that a line set is kept here, with its place.
 pub struct History {
     pub words: usize,
     pub floats: usize,
@@ -21,6 +21,7 @@ pub struct History {
     pub closed: bool,
 }
 
+// Before the first `fill`.
 pub fn start() -> History {
     History {
         words: 0,
@@ -33,6 +34,7 @@ pub fn start() -> History {
     }
 }
 
+// What `fill` puts into the words, and into the floats.
 fn scatter_words(words: &mut [u32], seed: u64) {
     let mut x = seed;
     let mut i: usize = 0;
