@@ -7,13 +7,13 @@
 // Every function is total and equal to its definition for slices of any length and floats of any kind.
 ghost use mathlib.Core.Path.{_≡_};
 ghost use mathlib.Core.List.{_++_};
-ghost use Prim.Native.Nat.{_+_, _/_, _≤_, min};
+ghost use Prim.Native.Nat.{_+_, _*_, _/_, _%_, _^_, _≤_, min};
 ghost use lib.ListN.{length, take, drop};
 ghost use lib.Ieee.{binary32, le};
 ghost use Rattle.basics.specs.Choice.{pick};
 ghost use Rattle.basics.specs.Sum.{+zero};
 ghost use Rattle.leaf.specs.Simhash.{residual};
-ghost use Rattle.simhash.specs.Blocks.{blockHash};
+ghost use Rattle.simhash.specs.Blocks.{blockHash, blocksHash, blockNumber, planeBlocks};
 
 // The residual c − p at the front of `out`, as far as there is room.
 pub fn residual_into(c: &[f32], p: &[f32], out: &mut [f32])
@@ -85,4 +85,67 @@ fn eight_bits(a: f32, b: f32, c: f32, d: f32, e: f32, f: f32, g: f32, h: f32) ->
         + weighed(f, 32)
         + weighed(g, 64)
         + weighed(h, 128)
+}
+
+// The hash of a residual, of 16 bits at most, by one or two blocks of planes as long as the residual.
+// This is `simhash_residual`, whose planes stand one after the other.
+pub fn simhash_residual(r: &[f32], blocks: &[f32], bits: u32) -> u32
+    ensures { λ h. ⌜ h ≡ blocksHash (now (r .entry)) (now (blocks .entry)) (min bits 16) ⌝ }
+{
+    let low = hash_block(r, blocks);
+    if bits <= 8 {
+        return low_bits(low, bits);
+    }
+    let from = second_block(r.len(), blocks.len());
+    low_bits(low + 256 * hash_block(r, &blocks[from..]), bits)
+}
+
+fn second_block(dimension: usize, room: usize) -> usize
+    ensures { λ r. ⌜ r ≡ min (8 * dimension) room ⌝ }
+{
+    if dimension <= room / 8 {
+        8 * dimension
+    } else {
+        room
+    }
+}
+
+fn low_bits(hash: u32, bits: u32) -> u32
+    ensures { λ r. ⌜ r ≡ hash % 2 ^ min bits 16 ⌝ }
+{
+    if bits < 16 {
+        return hash % (1u32 << bits);
+    }
+    hash % 65536
+}
+
+// Planes that stand one after the other, in blocks of eight. Past the last plane `out` is filled up with
+// zeros. Done once a build.
+pub fn plane_blocks_into(planes: &[f32], dimension: u32, bits: u32, out: &mut [f32])
+    ensures { λ _. ⌜ now (out .exit) ≡ planeBlocks (now (planes .entry)) dimension bits (length (now (out .entry))) ⌝ }
+{
+    let mut k: usize = 0;
+    while k < out.len() {
+        out[k] = block_number(planes, dimension, bits, k);
+        k += 1;
+    }
+}
+
+// The number at place k of the blocks.
+fn block_number(planes: &[f32], dimension: u32, bits: u32, k: usize) -> f32
+    ensures { λ r. ⌜ r ≡ blockNumber (now (planes .entry)) dimension bits k ⌝ }
+{
+    if dimension == 0 {
+        return 0.0;
+    }
+    let d = dimension as usize;
+    let plane = 8 * (k / 8 / d) + k % 8;
+    if plane >= bits as usize {
+        return 0.0;
+    }
+    let at = plane * d + k / 8 % d;
+    if at >= planes.len() {
+        return 0.0;
+    }
+    planes[at]
 }

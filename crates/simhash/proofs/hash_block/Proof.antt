@@ -3,7 +3,11 @@ use native.Mathlib.Omega.{arith}
 use mathlib.Core.Path.{sym, _∙_}
 use lib.ListN.{length-take}
 use lib.Seq.{length-take-le}
-use Rattle.simhash.proofs.Sums.{cut-bits}
+use Rattle.simhash.proofs.Sums.{cut-side}
+use Rattle.simhash.specs.Blocks.{sideOf}
+use Rattle.simhash.proofs.Bits.{bits-same}
+use lib.ListN.{length, take}
+use Prim.Native.Nat.{_/_}
 use borrow.Author.Needs.{needs}
 use Rattle.simhash.proofs.hash_block.Statement.{statement}
 use Rattle.simhash.proofs.hash_block.Tie as tie
@@ -23,7 +27,9 @@ hash-block-within-requires-2 c κs = simp length-take (omega arith)
 returns-2 : tie.Need-returns-2
 returns-2 c =
     let a = c .before .before .before .before .before .args in
-    c .hash-block-within2 .ensures ∙ cut-bits (a .r .now) (a .block .now) 8
+    let r = a .r .now in
+    let b = a .block .now in
+    c .hash-block-within2 .ensures ∙ bits-same (sideOf (take (length b / 8) r) b) (sideOf r b) 8 (λ j h. cut-side r b j)
 
 pub hash-block-spec : {M : Type 1} → statement M
 hash-block-spec =
