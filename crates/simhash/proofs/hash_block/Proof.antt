@@ -1,0 +1,42 @@
+-- Where the residual is longer than the block's planes its part of their length is lent, and what is cut off plays no part. Assumes nothing.
+use native.Mathlib.Omega.{arith}
+use mathlib.Core.Path.{sym, _∙_}
+use lib.ListN.{length-take}
+use lib.Seq.{length-take-le}
+use Rattle.simhash.proofs.Sums.{cut-side}
+use Rattle.simhash.specs.Blocks.{sideOf}
+use Rattle.simhash.proofs.Bits.{bits-same}
+use lib.ListN.{length, take}
+use Prim.Native.Nat.{_/_}
+use borrow.Author.Needs.{needs}
+use Rattle.simhash.proofs.hash_block.Statement.{statement}
+use Rattle.simhash.proofs.hash_block.Tie as tie
+
+hash-block-within-requires : tie.Need-hash-block-within-requires
+hash-block-within-requires c κs = search needs
+
+returns : tie.Need-returns
+returns c = search needs
+
+slice-aggregate-hash-block-within : tie.Need-slice-aggregate-hash-block-within
+slice-aggregate-hash-block-within c = sym (length-take-le _ _ (omega arith))
+
+hash-block-within-requires-2 : tie.Need-hash-block-within-requires-2
+hash-block-within-requires-2 c κs = simp length-take (omega arith)
+
+returns-2 : tie.Need-returns-2
+returns-2 c =
+    let a = c .before .before .before .before .before .args in
+    let r = a .r .now in
+    let b = a .block .now in
+    c .hash-block-within2 .ensures ∙ bits-same (sideOf (take (length b / 8) r) b) (sideOf r b) 8 (λ j h. cut-side r b j)
+
+pub hash-block-spec : {M : Type 1} → statement M
+hash-block-spec =
+    tie.close
+    (tie.spec
+    hash-block-within-requires
+    returns
+    slice-aggregate-hash-block-within
+    hash-block-within-requires-2
+    returns-2)

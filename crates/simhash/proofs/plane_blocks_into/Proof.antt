@@ -1,0 +1,73 @@
+-- The invariant: the first k numbers of the blocks stand at the front, what was there follows. The measure is what is left of `out`. Assumes nothing.
+use borrow.Author.Needs.{needs}
+use native.Mathlib.Omega.{arith}
+use mathlib.Core.Path.{_≡_, refl, ap, _∙_}
+use mathlib.Core.List.{_++_, append-nil}
+use Prim.Native.Nat.{ℕ, _-_, _≤_}
+use lib.ListN.{length, drop, length-set}
+use lib.Seq.{drop-length}
+use Rattle.simhash.specs.Blocks.{planeBlocks}
+use Rattle.simhash.proofs.Blocks.{blocks-set}
+use Rattle.simhash.proofs.plane_blocks_into.Statement.{statement}
+use Rattle.simhash.proofs.plane_blocks_into.Tie as tie
+
+abbrev Inv-loop : tie.InvT-loop
+Inv-loop planes dimension bits out₀ k₀ out k = (k ≤ length out₀) × (length out ≡ length out₀) × (out ≡ planeBlocks planes dimension bits k ++ drop k out₀)
+
+abbrev μ-loop : tie.MeasureT-loop
+μ-loop planes dimension bits out₀ k₀ out k = length out₀ - k
+
+loop-holds : tie.Need-loop-holds Inv-loop μ-loop
+unfolding planeBlocks
+loop-holds c = (omega arith, refl, refl)
+
+block-number-requires : tie.Need-block-number-requires Inv-loop μ-loop
+block-number-requires c κs = search needs
+
+mul-out : tie.Need-mul-out Inv-loop μ-loop
+mul-out c = search needs
+
+slice-write-out : tie.Need-slice-write-out Inv-loop μ-loop
+slice-write-out c = search needs
+
+add-k : tie.Need-add-k Inv-loop μ-loop
+add-k c = search needs
+
+loop-less : tie.Need-loop-less Inv-loop μ-loop
+loop-less c = search needs
+
+loop-again : tie.Need-loop-again Inv-loop μ-loop
+loop-again c =
+    let l = c .before .before .loop in
+    let a = c .before .before .before .before .before .args in
+    let v = c .block-number .result in (
+      omega arith,
+      length-set (l .out) (l .k) v ∙ l .inv .1,
+      blocks-set (a .planes .now) (a .dimension) (a .bits) (a .out .now) (l .out) (l .k) v (l .inv .2) (omega arith) (c .block-number .ensures),
+    )
+
+same-length : tie.Need-same-length Inv-loop μ-loop
+same-length c = c .before .loop .inv .1
+
+returns : tie.Need-returns Inv-loop μ-loop
+returns c =
+    let l = c .before .loop in
+    let a = c .before .before .before .before .args in
+    let whole : l .k ≡ length (a .out .now) = omega arith in
+    l .inv .2 ∙ rw (whole, drop-length (a .out .now)) (append-nil (planeBlocks (a .planes .now) (a .dimension) (a .bits) (length (a .out .now))))
+
+pub plane-blocks-into-spec : {M : Type 1} → statement M
+plane-blocks-into-spec =
+    tie.close
+    (tie.spec
+    Inv-loop
+    μ-loop
+    loop-holds
+    block-number-requires
+    mul-out
+    slice-write-out
+    add-k
+    loop-less
+    loop-again
+    same-length
+    returns)

@@ -1,0 +1,84 @@
+-- The one or two bytes of the blocks are the first 8 or 16 bits, and of these the low ones are the remainder. Assumes nothing.
+use borrow.Author.Needs.{needs}
+use mathlib.Core.Path.{_≡_, ap, _∙_}
+use Prim.Native.Nat.{ℕ, _%_, _^_, min}
+use native.Mathlib.Omega.{arith}
+use Rattle.simhash.specs.Blocks.{bitIn}
+use Rattle.simhash.proofs.Bits.{bits-cut}
+use Rattle.simhash.proofs.Bytes.{one-byte, low-byte, two-bytes}
+use Rattle.simhash.proofs.simhash_residual.Statement.{statement}
+use Rattle.simhash.proofs.simhash_residual.Tie as tie
+
+hash-block-requires : tie.Need-hash-block-requires
+hash-block-requires c κs = search needs
+
+low-bits-requires : tie.Need-low-bits-requires
+low-bits-requires c κs = search needs
+
+returns : tie.Need-returns
+returns c =
+    let a = c .before .before .before .before .before .args in
+    let r = a .r .now in
+    let l = a .blocks .now in
+    c .low-bits .ensures
+    ∙ ap (λ (h : ℕ). h % 2 ^ min (a .bits) 16) (c .before .before .hash-block .ensures ∙ low-byte r l)
+    ∙ bits-cut (bitIn r l) (min (a .bits) 16) 8 (omega arith)
+
+second-block-requires : tie.Need-second-block-requires
+second-block-requires c κs = search needs
+
+mul-hash-block : tie.Need-mul-hash-block
+mul-hash-block c = search needs
+
+sub-hash-block : tie.Need-sub-hash-block
+sub-hash-block c = search needs
+
+part-hash-block-start : tie.Need-part-hash-block-start
+part-hash-block-start c = search needs
+
+part-hash-block-end : tie.Need-part-hash-block-end
+part-hash-block-end c = search needs
+
+hash-block-requires-2 : tie.Need-hash-block-requires-2
+hash-block-requires-2 c κs = search needs
+
+mul-low-bits : tie.Need-mul-low-bits
+mul-low-bits c = let h = one-byte _ _ (c .hash-block2 .ensures) in omega arith
+
+add-low-bits : tie.Need-add-low-bits
+add-low-bits c =
+    let h = one-byte _ _ (c .hash-block2 .ensures) in
+    let l = one-byte _ _ (c .before .before .before .before .hash-block .ensures) in
+    omega arith
+
+low-bits-requires-2 : tie.Need-low-bits-requires-2
+low-bits-requires-2 c κs = search needs
+
+returns-2 : tie.Need-returns-2
+returns-2 c =
+    let e = c .before .before .before .before .before in
+    let a = e .before .before .before .args in
+    let r = a .r .now in
+    let l = a .blocks .now in
+    c .low-bits2 .ensures
+    ∙ ap (λ (h : ℕ). h % 2 ^ min (a .bits) 16)
+    (two-bytes r l _ _ _ (e .hash-block .ensures) (c .before .before .before .second-block .ensures) (c .before .hash-block2 .ensures))
+    ∙ bits-cut (bitIn r l) (min (a .bits) 16) 16 (omega arith)
+
+pub simhash-residual-spec : {M : Type 1} → statement M
+simhash-residual-spec =
+    tie.close
+    (tie.spec
+    hash-block-requires
+    low-bits-requires
+    returns
+    second-block-requires
+    mul-hash-block
+    sub-hash-block
+    part-hash-block-start
+    part-hash-block-end
+    hash-block-requires-2
+    mul-low-bits
+    add-low-bits
+    low-bits-requires-2
+    returns-2)
