@@ -11,7 +11,7 @@ use lib.Dec.{ltb}
 use lib.ListN.{length, getD, drop, set, length-append, List·getD-append}
 use lib.Seq.{getD-at}
 use lib.Ieee.{Float, nan}
-use Rattle.basics.specs.Choice.{pick, pick-ind, pick-true, pick-false}
+use Rattle.basics.specs.Choice.{pick-ind, pick-true, pick-false}
 use Rattle.basics.specs.Sum.{+zero}
 use Rattle.basics.proofs.Loops.{front-set}
 use Rattle.simhash.specs.Blocks.{planeAt, componentAt, blockNumber, planeBlocks}

@@ -1,8 +1,8 @@
 -- The hash by two blocks: the first block's bits are the low byte, and the second's, which starts behind it, the high one. Assumes nothing.
-use mathlib.Core.Path.{_≡_, refl, sym, ap, ap₂, _∙_}
+use mathlib.Core.Path.{_≡_, sym, ap, ap₂, _∙_}
 use mathlib.Core.Bool.{Bool}
 use mathlib.Core.List.{List}
-use Prim.Native.Nat.{ℕ, _+_, _-_, _*_, _/_, _%_, _^_, _≤_, _<_, min}
+use Prim.Native.Nat.{ℕ, _+_, _-_, _*_, _/_, _%_, _≤_, _<_, min}
 use native.Mathlib.Nat.{zero-mul, one-mul}
 use native.Mathlib.Omega.{arith}
 use native.Mathlib.Decide.{decLt}

@@ -1,6 +1,6 @@
 -- A loop over components holds `s` after i of them where what is left of the sum from `s` on is the whole sum with a plane. What each step keeps
 -- of that, what it says at the end, and how eight sums make a block's hash. Assumes nothing.
-use mathlib.Core.Path.{_≡_, refl, sym, ap, subst, _∙_}
+use mathlib.Core.Path.{_≡_, sym, ap, subst, _∙_}
 use mathlib.Core.List.{List}
 use Prim.Native.Nat.{ℕ, _+_, _*_, _/_, _≤_, _<_}
 use native.Mathlib.Omega.{arith}

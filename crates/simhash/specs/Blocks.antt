@@ -6,8 +6,8 @@ use lib.Dec.{ltb}
 use lib.ListN.{length, getD, drop}
 use lib.Ieee.{Float, binary32, le}
 use Rattle.basics.specs.Choice.{pick}
-use Rattle.basics.specs.Sum.{+zero, sumFrom, sumOf, products}
-use Rattle.simd.specs.Eight.{laneOf, rowIn}
+use Rattle.basics.specs.Sum.{+zero, sumOf, products}
+use Rattle.simd.specs.Eight.{rowIn}
 
 -- bits 0 to n − 1, each at its weight
 unfoldable pub bitsOf : (ℕ → Bool) → ℕ → ℕ

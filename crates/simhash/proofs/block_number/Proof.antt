@@ -1,12 +1,12 @@
 -- Each return is a case of the definition. A plane below `bits` times a dimension, both of 32 bits, does not wrap, nor with a component added.
 -- Assumes nothing.
 use borrow.Author.Needs.{needs}
-use mathlib.Core.Path.{_≡_, sym}
-use Prim.Native.Nat.{ℕ, _+_, _*_, _/_, _%_, _^_, _≤_, _<_}
+use mathlib.Core.Path.{sym}
+use Prim.Native.Nat.{ℕ, _*_, _/_, _^_, _≤_, _<_}
 use native.Mathlib.Nat.{div-le-self, mod-lt, mul-le-mul}
 use native.Mathlib.Omega.{arith}
 use lib.Ieee.{ofBits}
-use Rattle.simhash.specs.Blocks.{planeAt, componentAt}
+use Rattle.simhash.specs.Blocks.{planeAt}
 use Rattle.simhash.proofs.Blocks.{no-dimension, past-planes, past-numbers, within-planes}
 use Rattle.simhash.proofs.block_number.Statement.{statement}
 use Rattle.simhash.proofs.block_number.Tie as tie

@@ -1,9 +1,9 @@
 -- The invariant: the first k numbers of the blocks stand at the front, what was there follows. The measure is what is left of `out`. Assumes nothing.
 use borrow.Author.Needs.{needs}
 use native.Mathlib.Omega.{arith}
-use mathlib.Core.Path.{_≡_, refl, ap, _∙_}
+use mathlib.Core.Path.{_≡_, refl, _∙_}
 use mathlib.Core.List.{_++_, append-nil}
-use Prim.Native.Nat.{ℕ, _-_, _≤_}
+use Prim.Native.Nat.{_-_, _≤_}
 use lib.ListN.{length, drop, length-set}
 use lib.Seq.{drop-length}
 use Rattle.simhash.specs.Blocks.{planeBlocks}

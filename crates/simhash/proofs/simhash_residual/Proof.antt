@@ -1,6 +1,6 @@
 -- The one or two bytes of the blocks are the first 8 or 16 bits, and of these the low ones are the remainder. Assumes nothing.
 use borrow.Author.Needs.{needs}
-use mathlib.Core.Path.{_≡_, ap, _∙_}
+use mathlib.Core.Path.{ap, _∙_}
 use Prim.Native.Nat.{ℕ, _%_, _^_, min}
 use native.Mathlib.Omega.{arith}
 use Rattle.simhash.specs.Blocks.{bitIn}
