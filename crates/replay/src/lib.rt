@@ -8,6 +8,7 @@ ghost use mathlib.Core.Path.{_≡_};
 ghost use lib.ListN.{length, take};
 ghost use Rattle.replay.specs.Bounds.{Advanced};
 use libc::STDIN_FILENO;
+use libc::STDOUT_FILENO;
 
 // A line that was read: how many tokens it has, of which the first `asked` are the question, whether its
 // end was seen, and where the next line starts.
@@ -241,4 +242,13 @@ pub fn same_words(tokens: &[u64], from: usize, xs: &[u32]) -> bool {
         i += 1;
     }
     same
+}
+
+// Ends a line that names a kind: how many cases there were, and how many differ.
+pub fn write_tally(cases: u64, differ: u64) {
+    io::write_all(STDOUT_FILENO, b": ");
+    io::print_decimal(STDOUT_FILENO, cases);
+    io::write_all(STDOUT_FILENO, b" cases, ");
+    io::print_decimal(STDOUT_FILENO, differ);
+    io::write_all(STDOUT_FILENO, b" differ\n");
 }

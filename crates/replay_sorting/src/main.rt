@@ -172,11 +172,7 @@ fn write_tallies(tallies: &[u64]) {
     let mut kind: usize = 0;
     while kind < KINDS {
         write_kind(kind);
-        io::write_all(STDOUT_FILENO, b": ");
-        io::print_decimal(STDOUT_FILENO, tallies[kind]);
-        io::write_all(STDOUT_FILENO, b" cases, ");
-        io::print_decimal(STDOUT_FILENO, tallies[KINDS + kind]);
-        io::write_all(STDOUT_FILENO, b" differ\n");
+        replay::write_tally(tallies[kind], tallies[KINDS + kind]);
         kind += 1;
     }
 }

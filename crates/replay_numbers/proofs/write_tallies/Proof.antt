@@ -6,11 +6,11 @@ use Rattle.replay_numbers.proofs.write_tallies.Statement.{statement}
 use Rattle.replay_numbers.proofs.write_tallies.Tie as tie
 
 abbrev Inv-loop : tie.InvT-loop
-Inv-loop tallies kind₀ t3 t4 t5 kind =
+Inv-loop tallies kind₀ kind =
     (kind ≤ 10) × (20 ≤ length tallies)
 
 abbrev μ-loop : tie.MeasureT-loop
-μ-loop tallies kind₀ t3 t4 t5 kind =
+μ-loop tallies kind₀ kind =
     10 - kind
 
 mul-if1 : tie.Need-mul-if1 Inv-loop μ-loop
@@ -25,44 +25,23 @@ loop-holds c = search needs
 write-kind-requires : tie.Need-write-kind-requires Inv-loop μ-loop
 write-kind-requires c κs = search needs
 
-slice-aggregate-write-all : tie.Need-slice-aggregate-write-all Inv-loop μ-loop
-slice-aggregate-write-all c = search needs
+mul-write-tally : tie.Need-mul-write-tally Inv-loop μ-loop
+mul-write-tally c = search needs
 
-write-all-requires : tie.Need-write-all-requires Inv-loop μ-loop
-write-all-requires c κs = search needs
+shared-slice-read-write-tally : tie.Need-shared-slice-read-write-tally Inv-loop μ-loop
+shared-slice-read-write-tally c = search needs
 
-mul-print-decimal : tie.Need-mul-print-decimal Inv-loop μ-loop
-mul-print-decimal c = search needs
+add-write-tally : tie.Need-add-write-tally Inv-loop μ-loop
+add-write-tally c = search needs
 
-shared-slice-read-print-decimal : tie.Need-shared-slice-read-print-decimal Inv-loop μ-loop
-shared-slice-read-print-decimal c = search needs
+mul-write-tally-2 : tie.Need-mul-write-tally-2 Inv-loop μ-loop
+mul-write-tally-2 c = search needs
 
-print-decimal-requires : tie.Need-print-decimal-requires Inv-loop μ-loop
-print-decimal-requires c κs = search needs
+shared-slice-read-write-tally-2 : tie.Need-shared-slice-read-write-tally-2 Inv-loop μ-loop
+shared-slice-read-write-tally-2 c = search needs
 
-slice-aggregate-write-all-2 : tie.Need-slice-aggregate-write-all-2 Inv-loop μ-loop
-slice-aggregate-write-all-2 c = search needs
-
-write-all-requires-2 : tie.Need-write-all-requires-2 Inv-loop μ-loop
-write-all-requires-2 c κs = search needs
-
-add-print-decimal : tie.Need-add-print-decimal Inv-loop μ-loop
-add-print-decimal c = search needs
-
-mul-print-decimal-2 : tie.Need-mul-print-decimal-2 Inv-loop μ-loop
-mul-print-decimal-2 c = search needs
-
-shared-slice-read-print-decimal-2 : tie.Need-shared-slice-read-print-decimal-2 Inv-loop μ-loop
-shared-slice-read-print-decimal-2 c = search needs
-
-print-decimal-requires-2 : tie.Need-print-decimal-requires-2 Inv-loop μ-loop
-print-decimal-requires-2 c κs = search needs
-
-slice-aggregate-write-all-3 : tie.Need-slice-aggregate-write-all-3 Inv-loop μ-loop
-slice-aggregate-write-all-3 c = search needs
-
-write-all-requires-3 : tie.Need-write-all-requires-3 Inv-loop μ-loop
-write-all-requires-3 c κs = search needs
+write-tally-requires : tie.Need-write-tally-requires Inv-loop μ-loop
+write-tally-requires c κs = search needs
 
 add-kind : tie.Need-add-kind Inv-loop μ-loop
 add-kind c = search needs
@@ -86,19 +65,12 @@ write-tallies-spec =
     returns
     loop-holds
     write-kind-requires
-    slice-aggregate-write-all
-    write-all-requires
-    mul-print-decimal
-    shared-slice-read-print-decimal
-    print-decimal-requires
-    slice-aggregate-write-all-2
-    write-all-requires-2
-    add-print-decimal
-    mul-print-decimal-2
-    shared-slice-read-print-decimal-2
-    print-decimal-requires-2
-    slice-aggregate-write-all-3
-    write-all-requires-3
+    mul-write-tally
+    shared-slice-read-write-tally
+    add-write-tally
+    mul-write-tally-2
+    shared-slice-read-write-tally-2
+    write-tally-requires
     add-kind
     loop-less
     loop-again
