@@ -38,21 +38,23 @@ fn same_bits(a: &[f32], b: &[f32]) {
     }
 }
 
-/// Blocks of eight rows, in which a component's eight numbers stand together.
-fn blocks(rows: &[f32], features: usize) -> Vec<f32> {
-    let mut out = Vec::with_capacity(rows.len());
-    for eight in rows.chunks_exact(8 * features) {
-        for i in 0..features {
-            out.extend((0..8).map(|j| eight[j * features + i]));
+/// Turns rows into blocks of eight, in which a component's eight numbers stand together.
+fn turn(rows: &[f32], features: usize, blocks: &mut [f32]) {
+    for (eight, block) in rows.chunks_exact(8 * features).zip(blocks.chunks_exact_mut(8 * features)) {
+        for (i, together) in block.chunks_exact_mut(8).enumerate() {
+            for (j, x) in together.iter_mut().enumerate() {
+                *x = eight[j * features + i];
+            }
         }
     }
-    out
 }
 
 fn distances(features: usize) {
     let q = numbers(7, features);
     let rows = numbers(8, ROWS * features);
-    let turned = blocks(&rows, features);
+    let mut turned = vec![0.0; rows.len()];
+    turn(&rows, features, &mut turned);
+    let mut again = vec![0.0; rows.len()];
     let (mut rust, mut one) = (vec![0.0; ROWS], vec![0.0; ROWS]);
     let (mut eight, mut block) = (vec![0.0; ROWS], vec![0.0; ROWS]);
     let times = medians(&mut [
@@ -60,16 +62,19 @@ fn distances(features: usize) {
         &mut || our_rows(measured_one, black_box(&q), black_box(&rows), &mut one),
         &mut || our_rows(measured_eight, black_box(&q), black_box(&rows), &mut eight),
         &mut || our_rows(measured_block, black_box(&q), black_box(&turned), &mut block),
+        &mut || turn(black_box(&rows), features, black_box(&mut again)),
     ]);
     same_bits(&rust, &one);
     same_bits(&rust, &eight);
     same_bits(&rust, &block);
+    same_bits(&turned, &again);
     println!(
-        "distance, {features} features: Rust {:.1} ns a row; one row {:.2} of that, eight rows side by side {:.2}, as a block {:.2}",
+        "distance, {features} features: Rust {:.1} ns a row; one row {:.2} of that, eight rows side by side {:.2}, as a block {:.2}, to turn rows into blocks {:.2}",
         times[0] / ROWS as f64,
         times[1] / times[0],
         times[2] / times[0],
-        times[3] / times[0]
+        times[3] / times[0],
+        times[4] / times[0]
     );
 }
 
