@@ -1,8 +1,9 @@
 -- Eight rows at once: each number is the single row's.
 use mathlib.Core.List.{List, [], _∷_, _++_}
 use Prim.Native.Nat.{ℕ, zero, suc, _+_, _*_, _/_}
-use lib.ListN.{length, getD}
-use lib.Ieee.{Float, binary32, nan}
+use lib.ListN.{length, getD, drop}
+use lib.Ieee.{Float, binary32, nan, add, mul}
+use Rattle.basics.specs.Sum.{sumFrom, products}
 use Rattle.simd.specs.Dot.{dotOf}
 use Rattle.simd.specs.declared.Eight.{Eight}
 
@@ -16,6 +17,25 @@ dotsOf q a b c d e f g h = record {
   f = dotOf binary32 q f;
   g = dotOf binary32 q g;
   h = dotOf binary32 q h;
+}
+
+-- four products added to a sum, one after the other
+abbrev pub fourFrom : Float → Float → Float → Float → Float → List Float → ℕ → Float
+fourFrom sum x y z w row i =
+    add binary32 (add binary32 (add binary32 (add binary32 sum (mul binary32 x (getD row i nan))) (mul binary32 y (getD row (i + 1) nan))) (mul binary32 z (getD row (i + 2) nan)))
+    (mul binary32 w (getD row (i + 3) nan))
+
+-- eight sums, to which the products from component i on are added
+abbrev pub sumsFrom : ℕ → Eight → List Float → List Float → List Float → List Float → List Float → List Float → List Float → List Float → List Float → Eight
+sumsFrom i sums q a b c d e f g h = record {
+  a = sumFrom binary32 (sums .a) (products binary32 (drop i q) (drop i a));
+  b = sumFrom binary32 (sums .b) (products binary32 (drop i q) (drop i b));
+  c = sumFrom binary32 (sums .c) (products binary32 (drop i q) (drop i c));
+  d = sumFrom binary32 (sums .d) (products binary32 (drop i q) (drop i d));
+  e = sumFrom binary32 (sums .e) (products binary32 (drop i q) (drop i e));
+  f = sumFrom binary32 (sums .f) (products binary32 (drop i q) (drop i f));
+  g = sumFrom binary32 (sums .g) (products binary32 (drop i q) (drop i g));
+  h = sumFrom binary32 (sums .h) (products binary32 (drop i q) (drop i h));
 }
 
 -- the first n components of row j of a block, in which component i of row j stands at 8 · i + j

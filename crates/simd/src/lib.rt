@@ -7,11 +7,11 @@
 // All are equal to `dotOf` of specs/Dot for slices of any length and floats of any kind; where two
 // lengths differ, the sum ends with the shorter one.
 ghost use mathlib.Core.Path.{_≡_};
-ghost use Prim.Native.Nat.{_/_, _≤_};
+ghost use Prim.Native.Nat.{_+_, _/_, _≤_};
 ghost use lib.ListN.{length};
 ghost use lib.Ieee.{binary32};
 ghost use Rattle.simd.specs.Dot.{dotOf};
-ghost use Rattle.simd.specs.Eight.{dotsOf, blockDotsOf};
+ghost use Rattle.simd.specs.Eight.{dotsOf, fourFrom, sumsFrom, blockDotsOf};
 
 pub fn dot(a: &[f32], b: &[f32]) -> f32
     ensures { λ r. ⌜ r ≡ dotOf binary32 (now (a .entry)) (now (b .entry)) ⌝ }
@@ -87,7 +87,8 @@ pub fn dot8(
     }
 }
 
-// Eight sums that do not wait for each other.
+// Eight sums that do not wait for each other. Four components are taken in a turn: the compiler loads and
+// multiplies four numbers of a row at once, and turns them so that four rows are added at once.
 fn dot8_within(
     q: &[f32],
     a: &[f32],
@@ -111,6 +112,70 @@ fn dot8_within(
     let mut sum_g: f32 = 0.0;
     let mut sum_h: f32 = 0.0;
     let mut i: usize = 0;
+    while q.len() - i >= 4 {
+        let next = i + 4;
+        let x = q[i];
+        let y = q[i + 1];
+        let z = q[i + 2];
+        let w = q[i + 3];
+        sum_a = add_four(sum_a, x, y, z, w, a, i);
+        sum_b = add_four(sum_b, x, y, z, w, b, i);
+        sum_c = add_four(sum_c, x, y, z, w, c, i);
+        sum_d = add_four(sum_d, x, y, z, w, d, i);
+        sum_e = add_four(sum_e, x, y, z, w, e, i);
+        sum_f = add_four(sum_f, x, y, z, w, f, i);
+        sum_g = add_four(sum_g, x, y, z, w, g, i);
+        sum_h = add_four(sum_h, x, y, z, w, h, i);
+        i = next;
+    }
+    let sums = Eight {
+        a: sum_a,
+        b: sum_b,
+        c: sum_c,
+        d: sum_d,
+        e: sum_e,
+        f: sum_f,
+        g: sum_g,
+        h: sum_h,
+    };
+    dot8_rest(q, a, b, c, d, e, f, g, h, i, sums)
+}
+
+// Four products added to a sum, one after the other: those of a row's components from i on.
+fn add_four(sum: f32, x: f32, y: f32, z: f32, w: f32, row: &[f32], i: usize) -> f32
+    requires { ⌜ i + 4 ≤ length (now row) ⌝ }
+    ensures { λ r. ⌜ r ≡ fourFrom sum x y z w (now (row .entry)) i ⌝ }
+{
+    sum + x * row[i] + y * row[i + 1] + z * row[i + 2] + w * row[i + 3]
+}
+
+// The components from `from` on, added to what the sums are before.
+fn dot8_rest(
+    q: &[f32],
+    a: &[f32],
+    b: &[f32],
+    c: &[f32],
+    d: &[f32],
+    e: &[f32],
+    f: &[f32],
+    g: &[f32],
+    h: &[f32],
+    from: usize,
+    sums: Eight,
+) -> Eight
+    requires { ⌜ (length (now q) ≤ length (now a)) × (length (now q) ≤ length (now b)) × (length (now q) ≤ length (now c)) × (length (now q) ≤ length (now d)) × (length (now q) ≤ length (now e)) × (length (now q) ≤ length (now f)) × (length (now q) ≤ length (now g)) × (length (now q) ≤ length (now h)) ⌝ }
+    requires { ⌜ from ≤ length (now q) ⌝ }
+    ensures { λ r. ⌜ r ≡ sumsFrom from sums (now (q .entry)) (now (a .entry)) (now (b .entry)) (now (c .entry)) (now (d .entry)) (now (e .entry)) (now (f .entry)) (now (g .entry)) (now (h .entry)) ⌝ }
+{
+    let mut sum_a = sums.a;
+    let mut sum_b = sums.b;
+    let mut sum_c = sums.c;
+    let mut sum_d = sums.d;
+    let mut sum_e = sums.e;
+    let mut sum_f = sums.f;
+    let mut sum_g = sums.g;
+    let mut sum_h = sums.h;
+    let mut i = from;
     while i < q.len() {
         let x = q[i];
         sum_a = sum_a + x * a[i];

@@ -1,10 +1,11 @@
 -- The invariant: of each of the eight sums, what is left from it on is the whole dot. The measure is what is left of the query. Assumes nothing.
 use borrow.Author.Needs.{needs}
 use native.Mathlib.Omega.{arith}
-use Prim.Native.Nat.{_-_, _≤_, _<_}
+use mathlib.Core.Path.{_≡_, _∙_, sym, subst}
+use Prim.Native.Nat.{_+_, _-_, _≤_, _<_}
 use lib.ListN.{length}
-use lib.Ieee.{ofBits}
-use Rattle.simd.proofs.Left.{Left, left-start, left-step, left-end}
+use lib.Ieee.{Float, ofBits}
+use Rattle.simd.proofs.Left.{Left, left-start, left-four}
 use Rattle.simd.proofs.dot8_within.Statement.{statement}
 use Rattle.simd.proofs.dot8_within.Tie as tie
 
@@ -13,13 +14,24 @@ Inv-loop q a b c d e f g h sum-a₀ sum-b₀ sum-c₀ sum-d₀ sum-e₀ sum-f₀
     (i ≤ length q) × Left q a sum-a i × Left q b sum-b i × Left q c sum-c i × Left q d sum-d i × Left q e sum-e i × Left q f sum-f i × Left q g sum-g i × Left q h sum-h i
 
 abbrev μ-loop : tie.MeasureT-loop
-μ-loop q a b c d e f g h sum-a₀ sum-b₀ sum-c₀ sum-d₀ sum-e₀ sum-f₀ sum-g₀ sum-h₀ i₀ sum-a sum-b sum-c sum-d sum-e sum-f sum-g sum-h i = length q - i
+μ-loop q a b c d e f g h sum-a₀ sum-b₀ sum-c₀ sum-d₀ sum-e₀ sum-f₀ sum-g₀ sum-h₀ i₀ sum-a sum-b sum-c sum-d sum-e sum-f sum-g sum-h i =
+    length q - i
+
+-- there are four components more
+more : (c : tie.In-loop Inv-loop μ-loop) → c .before .loop .i + 4 ≤ length (c .before .before .before .before .before .before .before .before .before .before .before .args .q .now)
+more c = omega (arith, c .loop-test .taken, c .before .loop .inv .0)
 
 loop-holds : tie.Need-loop-holds Inv-loop μ-loop
 unfolding ofBits
 loop-holds c =
-    let x = c .args in
-    (search needs, left-start (x .q .now) (x .a .now), left-start (x .q .now) (x .b .now), left-start (x .q .now) (x .c .now), left-start (x .q .now) (x .d .now), left-start (x .q .now) (x .e .now), left-start (x .q .now) (x .f .now), left-start (x .q .now) (x .g .now), left-start (x .q .now) (x .h .now))
+    let x = c .before .before .before .before .before .before .before .before .before .args in
+    (omega arith, left-start (x .q .now) (x .a .now), left-start (x .q .now) (x .b .now), left-start (x .q .now) (x .c .now), left-start (x .q .now) (x .d .now), left-start (x .q .now) (x .e .now), left-start (x .q .now) (x .f .now), left-start (x .q .now) (x .g .now), left-start (x .q .now) (x .h .now))
+
+sub-loop : tie.Need-sub-loop Inv-loop μ-loop
+sub-loop c = search needs
+
+add-next : tie.Need-add-next Inv-loop μ-loop
+add-next c = search needs
 
 mul-x : tie.Need-mul-x Inv-loop μ-loop
 mul-x c = search needs
@@ -27,92 +39,94 @@ mul-x c = search needs
 shared-slice-read-x : tie.Need-shared-slice-read-x Inv-loop μ-loop
 shared-slice-read-x c = search needs
 
-mul-sum-a : tie.Need-mul-sum-a Inv-loop μ-loop
-mul-sum-a c = search needs
+add-y : tie.Need-add-y Inv-loop μ-loop
+add-y c = search needs
 
-shared-slice-read-sum-a : tie.Need-shared-slice-read-sum-a Inv-loop μ-loop
-shared-slice-read-sum-a c = search needs
+mul-y : tie.Need-mul-y Inv-loop μ-loop
+mul-y c = search needs
 
-mul-sum-b : tie.Need-mul-sum-b Inv-loop μ-loop
-mul-sum-b c = search needs
+shared-slice-read-y : tie.Need-shared-slice-read-y Inv-loop μ-loop
+shared-slice-read-y c = search needs
 
-shared-slice-read-sum-b : tie.Need-shared-slice-read-sum-b Inv-loop μ-loop
-shared-slice-read-sum-b c = search needs
+add-z : tie.Need-add-z Inv-loop μ-loop
+add-z c = search needs
 
-mul-sum-c : tie.Need-mul-sum-c Inv-loop μ-loop
-mul-sum-c c = search needs
+mul-z : tie.Need-mul-z Inv-loop μ-loop
+mul-z c = search needs
 
-shared-slice-read-sum-c : tie.Need-shared-slice-read-sum-c Inv-loop μ-loop
-shared-slice-read-sum-c c = search needs
+shared-slice-read-z : tie.Need-shared-slice-read-z Inv-loop μ-loop
+shared-slice-read-z c = search needs
 
-mul-sum-d : tie.Need-mul-sum-d Inv-loop μ-loop
-mul-sum-d c = search needs
+add-w : tie.Need-add-w Inv-loop μ-loop
+add-w c = search needs
 
-shared-slice-read-sum-d : tie.Need-shared-slice-read-sum-d Inv-loop μ-loop
-shared-slice-read-sum-d c = search needs
+mul-w : tie.Need-mul-w Inv-loop μ-loop
+mul-w c = search needs
 
-mul-sum-e : tie.Need-mul-sum-e Inv-loop μ-loop
-mul-sum-e c = search needs
+shared-slice-read-w : tie.Need-shared-slice-read-w Inv-loop μ-loop
+shared-slice-read-w c = search needs
 
-shared-slice-read-sum-e : tie.Need-shared-slice-read-sum-e Inv-loop μ-loop
-shared-slice-read-sum-e c = search needs
+add-four-requires : tie.Need-add-four-requires Inv-loop μ-loop
+add-four-requires c κs = omega (arith, more (c .before .before .before .before), c .before .before .before .before .before .before .before .before .before .before .before .before .before .before .before .pre .0)
 
-mul-sum-f : tie.Need-mul-sum-f Inv-loop μ-loop
-mul-sum-f c = search needs
+add-four-requires-2 : tie.Need-add-four-requires-2 Inv-loop μ-loop
+add-four-requires-2 c κs = omega (arith, more (c .before .before .before .before .before), c .before .before .before .before .before .before .before .before .before .before .before .before .before .before .before .before .pre .1)
 
-shared-slice-read-sum-f : tie.Need-shared-slice-read-sum-f Inv-loop μ-loop
-shared-slice-read-sum-f c = search needs
+add-four-requires-3 : tie.Need-add-four-requires-3 Inv-loop μ-loop
+add-four-requires-3 c κs = omega (arith, more (c .before .before .before .before .before .before), c .before .before .before .before .before .before .before .before .before .before .before .before .before .before .before .before .before .pre .2)
 
-mul-sum-g : tie.Need-mul-sum-g Inv-loop μ-loop
-mul-sum-g c = search needs
+add-four-requires-4 : tie.Need-add-four-requires-4 Inv-loop μ-loop
+add-four-requires-4 c κs = omega (arith, more (c .before .before .before .before .before .before .before), c .before .before .before .before .before .before .before .before .before .before .before .before .before .before .before .before .before .before .pre .3)
 
-shared-slice-read-sum-g : tie.Need-shared-slice-read-sum-g Inv-loop μ-loop
-shared-slice-read-sum-g c = search needs
+add-four-requires-5 : tie.Need-add-four-requires-5 Inv-loop μ-loop
+add-four-requires-5 c κs = omega (arith, more (c .before .before .before .before .before .before .before .before), c .before .before .before .before .before .before .before .before .before .before .before .before .before .before .before .before .before .before .before .pre .4)
 
-mul-sum-h : tie.Need-mul-sum-h Inv-loop μ-loop
-mul-sum-h c = search needs
+add-four-requires-6 : tie.Need-add-four-requires-6 Inv-loop μ-loop
+add-four-requires-6 c κs = omega (arith, more (c .before .before .before .before .before .before .before .before .before), c .before .before .before .before .before .before .before .before .before .before .before .before .before .before .before .before .before .before .before .before .pre .5)
 
-shared-slice-read-sum-h : tie.Need-shared-slice-read-sum-h Inv-loop μ-loop
-shared-slice-read-sum-h c = search needs
+add-four-requires-7 : tie.Need-add-four-requires-7 Inv-loop μ-loop
+add-four-requires-7 c κs = omega (arith, more (c .before .before .before .before .before .before .before .before .before .before), c .before .before .before .before .before .before .before .before .before .before .before .before .before .before .before .before .before .before .before .before .before .pre .6)
 
-add-i : tie.Need-add-i Inv-loop μ-loop
-add-i c = search needs
+add-four-requires-8 : tie.Need-add-four-requires-8 Inv-loop μ-loop
+add-four-requires-8 c κs = omega (arith, more (c .before .before .before .before .before .before .before .before .before .before .before), c .before .before .before .before .before .before .before .before .before .before .before .before .before .before .before .before .before .before .before .before .before .before .pre .7)
 
 loop-less : tie.Need-loop-less Inv-loop μ-loop
-loop-less c = search needs
+loop-less c = omega (arith, more (c .before .before .before .before .before .before .before .before .before .before .before .before))
 
 loop-again : tie.Need-loop-again Inv-loop μ-loop
 loop-again c =
-    let at = c .before .before .before .before .before .before .before .before .before .before in
-    let x = at .before .args in
+    let at = c .before .before .before .before .before .before .before .before .before .before .before .before .before in
+    let start = at .before .before .before .before .before .before .before .before .before .before in
+    let x = start .args in
     let l = at .loop in
-    let h : l .i < length (x .q .now) = omega arith in (
-      omega arith,
-      left-step (x .q .now) (x .a .now) (l .sum-a) (l .i) h (at .before .pre .0) (l .inv .1),
-      left-step (x .q .now) (x .b .now) (l .sum-b) (l .i) h (at .before .pre .1) (l .inv .2),
-      left-step (x .q .now) (x .c .now) (l .sum-c) (l .i) h (at .before .pre .2) (l .inv .3),
-      left-step (x .q .now) (x .d .now) (l .sum-d) (l .i) h (at .before .pre .3) (l .inv .4),
-      left-step (x .q .now) (x .e .now) (l .sum-e) (l .i) h (at .before .pre .4) (l .inv .5),
-      left-step (x .q .now) (x .f .now) (l .sum-f) (l .i) h (at .before .pre .5) (l .inv .6),
-      left-step (x .q .now) (x .g .now) (l .sum-g) (l .i) h (at .before .pre .6) (l .inv .7),
-      left-step (x .q .now) (x .h .now) (l .sum-h) (l .i) h (at .before .pre .7) (l .inv .8),
+    let h : l .i + 4 ≤ length (x .q .now) = more (c .before .before .before .before .before .before .before .before .before .before .before .before) in (
+      h,
+      subst (λ (s : Float). Left (x .q .now) (x .a .now) s (l .i + 4)) (sym (c .before .before .before .before .before .before .before .add-four .ensures)) (left-four (x .q .now) (x .a .now) (l .sum-a) (l .i) h (start .pre .0) (l .inv .1)),
+      subst (λ (s : Float). Left (x .q .now) (x .b .now) s (l .i + 4)) (sym (c .before .before .before .before .before .before .add-four2 .ensures)) (left-four (x .q .now) (x .b .now) (l .sum-b) (l .i) h (start .pre .1) (l .inv .2)),
+      subst (λ (s : Float). Left (x .q .now) (x .c .now) s (l .i + 4)) (sym (c .before .before .before .before .before .add-four3 .ensures)) (left-four (x .q .now) (x .c .now) (l .sum-c) (l .i) h (start .pre .2) (l .inv .3)),
+      subst (λ (s : Float). Left (x .q .now) (x .d .now) s (l .i + 4)) (sym (c .before .before .before .before .add-four4 .ensures)) (left-four (x .q .now) (x .d .now) (l .sum-d) (l .i) h (start .pre .3) (l .inv .4)),
+      subst (λ (s : Float). Left (x .q .now) (x .e .now) s (l .i + 4)) (sym (c .before .before .before .add-four5 .ensures)) (left-four (x .q .now) (x .e .now) (l .sum-e) (l .i) h (start .pre .4) (l .inv .5)),
+      subst (λ (s : Float). Left (x .q .now) (x .f .now) s (l .i + 4)) (sym (c .before .before .add-four6 .ensures)) (left-four (x .q .now) (x .f .now) (l .sum-f) (l .i) h (start .pre .5) (l .inv .6)),
+      subst (λ (s : Float). Left (x .q .now) (x .g .now) s (l .i + 4)) (sym (c .before .add-four7 .ensures)) (left-four (x .q .now) (x .g .now) (l .sum-g) (l .i) h (start .pre .6) (l .inv .7)),
+      subst (λ (s : Float). Left (x .q .now) (x .h .now) s (l .i + 4)) (sym (c .add-four8 .ensures)) (left-four (x .q .now) (x .h .now) (l .sum-h) (l .i) h (start .pre .7) (l .inv .8)),
     )
+
+dot8-rest-requires : tie.Need-dot8-rest-requires Inv-loop μ-loop
+dot8-rest-requires c κs = search needs
 
 returns : tie.Need-returns Inv-loop μ-loop
 returns c =
-    let x = c .before .before .args in
-    let l = c .before .loop in
-    let h : length (x .q .now) ≤ l .i = omega arith in
-    λ i. record {
-      a = left-end (x .q .now) (x .a .now) (l .sum-a) (l .i) h (l .inv .1) i;
-      b = left-end (x .q .now) (x .b .now) (l .sum-b) (l .i) h (l .inv .2) i;
-      c = left-end (x .q .now) (x .c .now) (l .sum-c) (l .i) h (l .inv .3) i;
-      d = left-end (x .q .now) (x .d .now) (l .sum-d) (l .i) h (l .inv .4) i;
-      e = left-end (x .q .now) (x .e .now) (l .sum-e) (l .i) h (l .inv .5) i;
-      f = left-end (x .q .now) (x .f .now) (l .sum-f) (l .i) h (l .inv .6) i;
-      g = left-end (x .q .now) (x .g .now) (l .sum-g) (l .i) h (l .inv .7) i;
-      h = left-end (x .q .now) (x .h .now) (l .sum-h) (l .i) h (l .inv .8) i;
-    }
+    let l = c .before .before .loop in
+    c .dot8-rest .ensures ∙ (λ i. record {
+      a = l .inv .1 i;
+      b = l .inv .2 i;
+      c = l .inv .3 i;
+      d = l .inv .4 i;
+      e = l .inv .5 i;
+      f = l .inv .6 i;
+      g = l .inv .7 i;
+      h = l .inv .8 i;
+    })
 
 pub dot8-within-spec : {M : Type 1} → statement M
 dot8-within-spec =
@@ -121,25 +135,28 @@ dot8-within-spec =
     Inv-loop
     μ-loop
     loop-holds
+    sub-loop
+    add-next
     mul-x
     shared-slice-read-x
-    mul-sum-a
-    shared-slice-read-sum-a
-    mul-sum-b
-    shared-slice-read-sum-b
-    mul-sum-c
-    shared-slice-read-sum-c
-    mul-sum-d
-    shared-slice-read-sum-d
-    mul-sum-e
-    shared-slice-read-sum-e
-    mul-sum-f
-    shared-slice-read-sum-f
-    mul-sum-g
-    shared-slice-read-sum-g
-    mul-sum-h
-    shared-slice-read-sum-h
-    add-i
+    add-y
+    mul-y
+    shared-slice-read-y
+    add-z
+    mul-z
+    shared-slice-read-z
+    add-w
+    mul-w
+    shared-slice-read-w
+    add-four-requires
+    add-four-requires-2
+    add-four-requires-3
+    add-four-requires-4
+    add-four-requires-5
+    add-four-requires-6
+    add-four-requires-7
+    add-four-requires-8
     loop-less
     loop-again
+    dot8-rest-requires
     returns)
