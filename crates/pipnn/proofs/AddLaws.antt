@@ -1,11 +1,11 @@
 -- What an add that is accepted has passed, and that what it writes is the definition's. Assumes nothing.
 use mathlib.Core.Path.{_≡_, sym, ap, _∙_}
 use mathlib.Core.Bool.{true}
-use mathlib.Core.List.{List, _++_, append-nil}
+use mathlib.Core.List.{List, _++_}
 use Prim.Native.Nat.{ℕ, _+_, _*_, _≤_, _<_}
 use native.Mathlib.Omega.{arith}
-use lib.ListN.{length, take, drop, length-take, length-drop, drop-of-length-le}
-use lib.Seq.{take-at, drop-at, drop-drop, take-length, length-take-le}
+use lib.ListN.{length, take, drop, length-take, length-drop}
+use lib.Seq.{take-at, drop-at, drop-drop, length-take-le}
 use lib.Ieee.{Float, binary32}
 use lib.Ieee.Scale.{finite}
 use borrow.Author.Tests.{eqb-true, eqb-false, not-false}
@@ -16,6 +16,7 @@ use Rattle.basics.proofs.Refusals.{passes, both-none}
 use Rattle.store.specs.declared.Lent.the-variants.{Nothing}
 use Rattle.store.specs.Layout.{word, builtState, stateAt, dimensionAt, nodesAt, capacityAt, docsAt}
 use Rattle.store.specs.Opening.{opening}
+use Rattle.slices.proofs.Laws.{copied-whole}
 use Rattle.store.proofs.Sizes.{product-le}
 use Rattle.store.proofs.Opened.{Opened, opened, opening-numbered}
 use Rattle.norm.specs.Norm.{scaledOf}
@@ -53,12 +54,6 @@ module _ (w : List ℕ) (f v : List Float) where
         doc = omega (arith, o .room .docs);
         vector = omega (arith, product-le (n + 1) d c d (omega arith) (omega arith), o .floats);
       }
-
--- a part of as many elements as v, filled from v
-pub copied-whole : (part v : List Float) → length part ≡ length v → take (length part) v ++ drop (length v) part ≡ v
-copied-whole part v e =
-    let past : length part ≤ length v = omega arith in
-    rw (e, take-length v, drop-of-length-le part past) (append-nil v)
 
 module _ (at k : ℕ) (f x : List Float) (fits : at + k ≤ length f) (full : length x ≡ k) where
   front : length (take at f) ≡ at

@@ -46,3 +46,9 @@ module _ {A : Type 0} (to from : List A) where
       let whole : i ≡ length from = omega arith in
       let past : length from ≤ length to = omega arith in
       rw (whole, take-length from, take-all (length to) from past)
+
+-- a part as long as `from` that was filled from it
+pub copied-whole : {A : Type 0} (part from : List A) → length part ≡ length from → take (length part) from ++ drop (length from) part ≡ from
+copied-whole part from e =
+    let past : length part ≤ length from = omega arith in
+    rw (e, take-length from, drop-of-length-le part past) (append-nil from)

@@ -38,3 +38,14 @@ pub fn copy_floats(to: &mut [f32], from: &[f32])
         i += 1;
     }
 }
+
+// The same for words.
+pub fn copy_words(to: &mut [u32], from: &[u32])
+    ensures { λ _. ⌜ now (to .exit) ≡ take (length (now (to .entry))) (now (from .entry)) ++ drop (length (now (from .entry))) (now (to .entry)) ⌝ }
+{
+    let mut i = 0;
+    while (i < to.len()) & (i < from.len()) {
+        to[i] = from[i];
+        i += 1;
+    }
+}

@@ -1,0 +1,4 @@
+pub mod Reading
+pub mod Flat
+pub mod Blocks
+pub mod Parts

@@ -1,0 +1,74 @@
+-- The part is the node's piece, or there is no such piece and the part is empty.
+use native.Mathlib.Omega.{arith}
+use mathlib.Core.Path.{_≡_, sym, ap, _∙_}
+use mathlib.Core.List.{List, []}
+use Prim.Native.Nat.{ℕ, _+_, _-_, _*_, _≤_}
+use native.Mathlib.Nat.{mul-le-mul}
+use lib.ListN.{take, drop}
+use Rattle.basics.proofs.Whole.{whole-piece, no-piece}
+use borrow.Author.Needs.{needs}
+use Rattle.vectors.proofs.get_vector.Statement.{statement}
+use Rattle.vectors.proofs.get_vector.Tie as tie
+use Rattle.vectors.proofs.get_vector.Reads as reads
+use Rattle.vectors.proofs.get_vector.Lts as lts
+
+small : (a b : ℕ) → a ≤ 4294967295 → b ≤ 4294967295 → a * b ≤ 4294967295 * 4294967295
+small a b h k = mul-le-mul h k
+
+mul-at : tie.Need-mul-at
+mul-at c = omega (arith, small (c .args .node) (c .args .dimension) (omega arith) (omega arith))
+
+add-end : tie.Need-add-end
+add-end c = omega (arith, small (c .args .node) (c .args .dimension) (omega arith) (omega arith))
+
+mul-result : tie.Need-mul-result
+mul-result c = search needs
+
+sub-result : tie.Need-sub-result
+sub-result c = search needs
+
+part-result-start : tie.Need-part-result-start
+part-result-start c = search needs
+
+part-result-end : tie.Need-part-result-end
+part-result-end c = search needs
+
+returns : tie.Need-returns
+returns c =
+    let a = c .before .before .args in
+    let d : ℕ = a .dimension in
+    let at : ℕ = a .node * d in
+    let size : at + d - at ≡ d = omega arith in
+    ap (λ (k : ℕ). take k (drop at (a .vectors .now))) size ∙ sym (whole-piece d (a .node) (a .vectors .now) (c .before .if1 .taken))
+
+mul-result-2 : tie.Need-mul-result-2
+mul-result-2 c = search needs
+
+sub-result-2 : tie.Need-sub-result-2
+sub-result-2 c = search needs
+
+part-result-start-2 : tie.Need-part-result-start-2
+part-result-start-2 c = search needs
+
+part-result-end-2 : tie.Need-part-result-end-2
+part-result-end-2 c = search needs
+
+returns-2 : tie.Need-returns-2
+returns-2 c = let a = c .before .before .args in sym (no-piece (a .dimension) (a .node) (a .vectors .now) (omega arith))
+
+pub get-vector-spec : {M : Type 1} → statement M
+get-vector-spec =
+    tie.close
+    (tie.spec
+    mul-at
+    add-end
+    mul-result
+    sub-result
+    part-result-start
+    part-result-end
+    returns
+    mul-result-2
+    sub-result-2
+    part-result-start-2
+    part-result-end-2
+    returns-2)
