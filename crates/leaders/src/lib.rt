@@ -46,7 +46,16 @@ pub fn draw_leaders(level: u32, n: u32, left: &mut [u32], out: &mut [u32])
     draw_segment(level, &mut left[..room], out);
 }
 
-// The same where all of `left` is the segment.
+// The positions 0, 1 and so on of a segment of n, or of as many as there is room for; what stands behind
+// them stays.
+pub fn all_positions(n: u32, left: &mut [u32])
+    ensures { λ _. ⌜ now (left .exit) ≡ upTo (min n (length (now (left .entry)))) ++ drop (min n (length (now (left .entry)))) (now (left .entry)) ⌝ }
+{
+    let room = lesser(n as usize, left.len());
+    count_up(&mut left[..room]);
+}
+
+// The draws where all of `left` is the segment.
 fn draw_segment(level: u32, left: &mut [u32], out: &mut [u32])
     requires { ⌜ length (now left) ≤ 2 ^ 32 ⌝ }
     ensures { λ _. ⌜ now (out .exit) ≡ drawnInto level (length (now (left .entry))) (now (out .entry)) ⌝ }

@@ -75,11 +75,11 @@ module _ (vs : List (List Float)) (fan : ℕ) (leaders : List ℕ) (id : ℕ) wh
   unfolding nearestLeaders
   nearest-nodup = nodup-take fan _ (sort-nodup _ (upTo (length leaders)) (nodup-upTo (length leaders)))
 
-  nearest-below : Below (length leaders) (nearestLeaders vs fan leaders id)
+  pub nearest-below : Below (length leaders) (nearestLeaders vs fan leaders id)
   unfolding nearestLeaders
   nearest-below x m = upTo-below (length leaders) x (in-sort _ (upTo (length leaders)) (in-take fan _ m))
 
-  nearest-length : length (nearestLeaders vs fan leaders id) ≡ min fan (length leaders)
+  pub nearest-length : length (nearestLeaders vs fan leaders id) ≡ min fan (length leaders)
   unfolding nearestLeaders
   nearest-length = length-take fan _ ∙ ap (min fan) (length-sort _ (upTo (length leaders)) ∙ length-upTo (length leaders))
 

@@ -19,7 +19,7 @@ module _ (w : ℕ → ℕ) where
   weighAll-append (x ∷ a) b = let r = weighAll-append a b in omega arith
 
   -- of what is placed and what has gathered
-  abbrev held : Gathered → ℕ
+  abbrev pub held : Gathered → ℕ
   held g = weighAll w (g .placed) + weigh w (g .small)
 
   one-weight : (minLeaf : ℕ) (g : Gathered) (bucket : List ℕ) → held (gatherOne minLeaf g bucket) ≡ held g + weigh w bucket
@@ -31,7 +31,7 @@ module _ (w : ℕ → ℕ) where
       pick-ind (λ (r : Gathered). held r ≡ held g + weigh w bucket) (leb minLeaf (length bucket)) (λ _. omega arith)
       (λ _. pick-ind (λ (r : Gathered). held r ≡ held g + weigh w bucket) (leb minLeaf (length (g .small ++ bucket))) (λ _. omega arith) (λ _. omega arith))
 
-  all-weight : (minLeaf : ℕ) (g : Gathered) (buckets : List (List ℕ)) → held (gatherAll minLeaf g buckets) ≡ held g + weighAll w buckets
+  pub all-weight : (minLeaf : ℕ) (g : Gathered) (buckets : List (List ℕ)) → held (gatherAll minLeaf g buckets) ≡ held g + weighAll w buckets
   unfolding gatherAll
   all-weight minLeaf g [] = omega arith
   all-weight minLeaf g (bucket ∷ buckets) =

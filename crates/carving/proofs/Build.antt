@@ -1,0 +1,31 @@
+-- What a caller of `partition` needs besides its promise: how many vectors there are, and that a build over the leaves that hold a node is the build
+-- over all leaves. Assumes nothing.
+use mathlib.Core.Path.{_≡_, refl, sym, ap, _∙_}
+use mathlib.Core.List.{List, [], _∷_}
+use Prim.Native.Nat.{ℕ, _*_, _/_, _<_}
+use native.Mathlib.Nat.{mul-div-cancel}
+use lib.ListN.{length}
+use lib.Ieee.{Float}
+use Rattle.basics.specs.Choice.{pick}
+use Rattle.basics.proofs.Pieces.{length-pieces}
+use Rattle.vectors.specs.Vectors.{vectorsIn}
+use Rattle.leaf.specs.Leaf.{buildLeaf, buildLeaves}
+use Rattle.carving.specs.Carving.{nonEmpty}
+use Rattle.carving.proofs.Leaves.{full-more}
+
+-- as many vectors as nodes, where the floats are n times the dimension
+pub whole-vectors : (n d : ℕ) (xs : List Float) → 0 < d → n * d ≡ length xs → length (vectorsIn d xs) ≡ n
+whole-vectors n d xs h e = length-pieces d (length xs / d) xs ∙ ap (λ (k : ℕ). k / d) (sym e) ∙ mul-div-cancel n h
+
+module _ (maxDegree bits dimension : ℕ) (vs : List (List Float)) where
+  empty-changes-nothing : (rows : List (List ℕ)) → buildLeaf maxDegree bits dimension vs [] rows ≡ rows
+  unfolding buildLeaf pick
+  empty-changes-nothing rows = refl
+
+  pub build-full : (leaves rows : List (List ℕ)) → buildLeaves maxDegree bits dimension vs (nonEmpty leaves) rows ≡ buildLeaves maxDegree bits dimension vs leaves rows
+  unfolding buildLeaves nonEmpty pick
+  build-full [] rows = refl
+  build-full ([] ∷ leaves) rows =
+      build-full leaves rows ∙ ap (buildLeaves maxDegree bits dimension vs leaves) (sym (empty-changes-nothing rows))
+  build-full ((x ∷ leaf) ∷ leaves) rows =
+      ap (λ (r : List (List ℕ)). buildLeaves maxDegree bits dimension vs r rows) (full-more x leaf leaves) ∙ build-full leaves (buildLeaf maxDegree bits dimension vs (x ∷ leaf) rows)

@@ -1,0 +1,212 @@
+-- One segment and its buckets, as the slices hold them, against the equations of carving. Assumes nothing.
+use mathlib.Core.Path.{_≡_, refl, sym, ap, ap₂, _∙_, subst}
+use mathlib.Core.Bool.{true}
+use mathlib.Core.List.{List, [], _∷_, _++_, map, flatten, append-nil}
+use Prim.Native.Nat.{ℕ, _+_, _-_, _*_, _≤_, _<_, min}
+use native.Mathlib.Omega.{arith}
+use lib.Dec.{leb, eqb}
+use lib.ListN.{length, take, drop, length-append, length-drop, drop-of-length-le}
+use borrow.Rule.Slice.PartMut.{putMid}
+use lib.Seq.{take-at, drop-at, take-all, take-append-le, length-take-le, drop-drop}
+use lib.Ieee.{Float}
+use borrow.Author.Tests.{eq-eqb, ne-eqb, le-leb, lt-leb}
+use Rattle.basics.specs.Choice.{pick, pick-true, pick-false, pick-ind}
+use Rattle.leaders.specs.Leaders.{upTo}
+use Rattle.leaders.proofs.Draws.{length-upTo}
+use Rattle.partition.specs.Partition.{fanout, isLeaf, bucketsOf, carveSegment, carveBuckets, leavesOf, segment-equation}
+use Rattle.dealing.specs.Marks.{run, marksOf}
+use Rattle.dealing.specs.Deal.{Fitting, Holding}
+use Rattle.dealing.proofs.Marks.{marks-one, flatten-one, length-run}
+use Rattle.carving.specs.Carving.{nonEmpty, Laid}
+use Rattle.carving.specs.Steps.{firstSize, Dealing, CarvesSegment, CarvesBuckets}
+use Rattle.carving.proofs.Leaves.{First, first-of, first-size, none-left, flatten-full}
+
+-- ---- the fanout
+
+pub fan-one : (level : ℕ) → 1 ≤ level → level ≤ 20 → fanout level ≡ 1
+unfolding fanout
+fan-one level h k = pick-false {X = ℕ} 2 _ (ne-eqb level 0 (λ e. omega arith)) ∙ pick-true {X = ℕ} 1 0 (le-leb level 20 k)
+
+pub fan-top : fanout 0 ≡ 2
+unfolding fanout
+fan-top = pick-true {X = ℕ} 2 (pick (leb 0 20) 1 0) (eq-eqb 0 0 refl)
+
+pub fan-some : (level : ℕ) → (fanout level ≡ 0 → ⊥) → level ≤ 20
+unfolding fanout
+fan-some level =
+    pick-ind (λ (k : ℕ). (k ≡ 0 → ⊥) → level ≤ 20) (eqb level 0) (λ t _. omega (arith, lib.Dec.eqb→eq level 0 t))
+    (λ _. pick-ind (λ (k : ℕ). (k ≡ 0 → ⊥) → level ≤ 20) (leb level 20) (λ t _. lib.Dec.leb→le level 20 t) (λ _ f. absurd (f refl)))
+
+-- a segment below the top fits over its own place
+pub fitting-down : (level : ℕ) (part nodes marks : List ℕ) → Dealing level nodes marks → part ≡ nodes → Fitting level part nodes marks
+fitting-down level part nodes marks d e =
+    let one = fan-one level (d .0) (d .1) in
+    let same = ap length e in
+    record {
+      deals = omega arith;
+      two = omega (arith, d .2);
+      nodes-size = omega (arith, ap (λ (k : ℕ). k * length part) one);
+      marks-size = d .4;
+      few = d .3;
+    }
+
+module _ (maxLeaf minLeaf : ℕ) (fraction : Float) (vs : List (List Float)) where
+  -- ---- a leaf, and what is none
+
+  abbrev carved : ℕ → List ℕ → List (List ℕ)
+  carved level ids = carveSegment maxLeaf minLeaf fraction vs level ids
+
+  leaf-or : (level : ℕ) (ids : List ℕ) → isLeaf maxLeaf level ids ≡ true → carved level ids ≡ ids ∷ []
+  leaf-or level ids e = segment-equation maxLeaf minLeaf fraction vs level ids ∙ pick-true _ _ e
+
+  pub leaf-small : (level : ℕ) (ids : List ℕ) → length ids ≤ maxLeaf → carved level ids ≡ ids ∷ []
+  unfolding isLeaf
+  leaf-small level ids h = leaf-or level ids (ap (λ (b : mathlib.Core.Bool.Bool). mathlib.Core.Bool._||_ b (eqb (fanout level) 0)) (le-leb (length ids) maxLeaf h))
+
+  pub leaf-deep : (level : ℕ) (ids : List ℕ) → fanout level ≡ 0 → carved level ids ≡ ids ∷ []
+  unfolding isLeaf
+  leaf-deep level ids e =
+      leaf-or level ids
+      (ap (λ (b : mathlib.Core.Bool.Bool). mathlib.Core.Bool._||_ (leb (length ids) maxLeaf) b) (eq-eqb (fanout level) 0 e) ∙ mathlib.Core.Bool.or-true (leb (length ids) maxLeaf))
+
+  pub dealt-down : (level : ℕ) (ids : List ℕ) → maxLeaf < length ids → (fanout level ≡ 0 → ⊥)
+      → carved level ids ≡ carveBuckets maxLeaf minLeaf fraction vs (level + 1) (bucketsOf minLeaf fraction vs level ids)
+  unfolding isLeaf
+  dealt-down level ids h f =
+      segment-equation maxLeaf minLeaf fraction vs level ids
+      ∙ pick-false _ _ (ap₂ mathlib.Core.Bool._||_ (lt-leb (length ids) maxLeaf h) (ne-eqb (fanout level) 0 f))
+
+  -- a leaf stays as it is
+  pub leaf-stays : (level : ℕ) (nodes marks : List ℕ) → carved level nodes ≡ nodes ∷ [] → CarvesSegment maxLeaf minLeaf fraction vs level nodes marks nodes marks
+  leaf-stays level nodes marks e m = (sym (ap flatten e ∙ flatten-one nodes), m ∙ sym (ap marksOf e))
+
+  -- ---- buckets
+
+  empty-leaf : (level : ℕ) → carved level [] ≡ [] ∷ []
+  empty-leaf level = leaf-small level [] (omega arith)
+
+  nothing : (l : List ℕ) → length l ≡ 0 → l ≡ []
+  nothing [] e = refl
+  nothing (x ∷ l) e = absurd (omega arith)
+
+  pub buckets-end : (level : ℕ) (nodes marks : List ℕ) → length nodes ≡ 0 → length marks ≡ length nodes → CarvesBuckets maxLeaf minLeaf fraction vs level nodes marks nodes marks
+  unfolding carveBuckets
+  buckets-end level nodes marks e m bs h =
+      let none = none-left bs (sym (ap length (h .0)) ∙ e) .1 (carved level) (empty-leaf level) in
+      (nothing nodes e ∙ sym (none .0), nothing marks (m ∙ e) ∙ sym (none .1))
+
+  -- the first bucket is carved, then those behind it
+  module _ (level : ℕ) (nodes marks n₁ m₁ n₂ m₂ : List ℕ) (size : ℕ) (some : 0 < length nodes) (is : size ≡ firstSize marks)
+      (first-one : CarvesSegment maxLeaf minLeaf fraction vs level (take size nodes) (take size marks) n₁ m₁)
+      (then-others : CarvesBuckets maxLeaf minLeaf fraction vs level (drop size nodes) (drop size marks) n₂ m₂) where
+    pub buckets-step : CarvesBuckets maxLeaf minLeaf fraction vs level nodes marks (n₁ ++ n₂) (m₁ ++ m₂)
+    unfolding carveBuckets
+    buckets-step bs h = (
+      ap₂ (λ (a : List ℕ) (b : List ℕ). a ++ b) (one .0) (rest .0) ∙ sym (f .each (carved level) (empty-leaf level) .0),
+      ap₂ (λ (a : List ℕ) (b : List ℕ). a ++ b) (one .1) (rest .1) ∙ sym (f .each (carved level) (empty-leaf level) .1),
+    )
+      where
+        f : First bs
+        f = first-of bs (subst (λ (l : List ℕ). 0 < length l) (h .0) some)
+
+        size-is : size ≡ length (f .bucket)
+        size-is = is ∙ ap firstSize (h .1) ∙ first-size bs f
+
+        bucket-nodes : take size nodes ≡ f .bucket
+        bucket-nodes = ap (take size) (h .0 ∙ f .nodes-are) ∙ take-at (f .bucket) (flatten (f .others)) size (sym size-is)
+
+        bucket-marks : take size marks ≡ marksOf (take size nodes ∷ [])
+        bucket-marks =
+            ap (take size) (h .1 ∙ f .marks-are) ∙ take-at (run 1 (length (f .bucket))) (marksOf (f .others)) size (length-run 1 (length (f .bucket)) ∙ sym size-is)
+            ∙ ap (λ (l : List ℕ). run 1 (length l)) (sym bucket-nodes) ∙ sym (marks-one (take size nodes))
+
+        one : Holding (carved level (f .bucket)) n₁ m₁
+        one = subst (λ (l : List ℕ). Holding (carved level l) n₁ m₁) bucket-nodes (first-one bucket-marks)
+
+        rest : Holding (carveBuckets maxLeaf minLeaf fraction vs level (f .others)) n₂ m₂
+        rest = then-others (f .others) (
+          ap (drop size) (h .0 ∙ f .nodes-are) ∙ drop-at (f .bucket) (flatten (f .others)) size (sym size-is),
+          ap (drop size) (h .1 ∙ f .marks-are) ∙ drop-at (run 1 (length (f .bucket))) (marksOf (f .others)) size (length-run 1 (length (f .bucket)) ∙ sym size-is),
+        )
+
+-- ---- a front part and the rest of a slice, lent one after the other
+
+module _ (xs front : List ℕ) (size : ℕ) (within : size ≤ length xs) (is : length front ≡ size) where
+  abbrev pub once : List ℕ
+  once = front ++ drop size xs
+
+  pub once-length : length once ≡ length xs
+  once-length = omega (arith, length-append front (drop size xs), length-drop size xs)
+
+  rest-is : drop size once ≡ drop size xs
+  rest-is = drop-at front (drop size xs) size is
+
+  pub lent-rest : take (length once - size) (drop size once) ≡ drop size xs
+  lent-rest = ap (take (length once - size)) rest-is ∙ take-all (length once - size) (drop size xs) (omega (arith, once-length, length-drop size xs))
+
+  pub both-back : (rest : List ℕ) → putMid size (length once - size) once rest ≡ front ++ rest
+  both-back rest =
+      ap₂ (λ (a : List ℕ) (b : List ℕ). a ++ (rest ++ b)) (take-at front (drop size xs) size is)
+      (drop-drop (length once - size) size once ∙ drop-of-length-le once {i = size + (length once - size)} (omega (arith, once-length)))
+      ∙ ap (λ (r : List ℕ). front ++ r) (append-nil rest)
+
+-- ---- the first segment
+
+-- all positions, where there is room for them
+pub positions-all : (n : ℕ) (to x : List ℕ) → length to ≡ n → x ≡ upTo (min n (length to)) ++ drop (min n (length to)) to → x ≡ upTo n
+positions-all n to x e p =
+    let m : min n (length to) ≡ n = omega arith in
+    p
+    ∙ ap (λ (k : ℕ). upTo k ++ drop k to) m
+    ∙ ap (λ (r : List ℕ). upTo n ++ r) (drop-of-length-le to {i = n} (omega arith))
+    ∙ append-nil (upTo n)
+
+pub positions-front : (n : ℕ) (to x : List ℕ) → n ≤ length to → x ≡ upTo (min n (length to)) ++ drop (min n (length to)) to → take n x ≡ upTo n
+positions-front n to x h p =
+    let m : min n (length to) ≡ n = omega arith in
+    ap (take n) (p ∙ ap (λ (k : ℕ). upTo k ++ drop k to) m) ∙ take-at (upTo n) (drop n to) n (length-upTo n)
+
+module _ (maxLeaf minLeaf : ℕ) (fraction : Float) (vs : List (List Float)) (n : ℕ) (many : length vs ≡ n) where
+  -- it is one leaf
+  pub top-leaf : n ≤ maxLeaf → (nodes marks : List ℕ) → nodes ≡ upTo n → marks ≡ run 1 n → Holding (leavesOf maxLeaf minLeaf fraction vs) nodes marks
+  unfolding leavesOf
+  top-leaf h nodes marks a b =
+      let one : leavesOf maxLeaf minLeaf fraction vs ≡ upTo n ∷ [] =
+      ap (λ (k : ℕ). carveSegment maxLeaf minLeaf fraction vs 0 (upTo k)) many ∙ leaf-small maxLeaf minLeaf fraction vs 0 (upTo n) (omega (arith, length-upTo n)) in
+      (a ∙ sym (ap flatten one ∙ flatten-one (upTo n)), b ∙ ap (run 1) (sym (length-upTo n)) ∙ sym (ap marksOf one ∙ marks-one (upTo n)))
+
+  -- it is dealt
+  pub top-dealt : maxLeaf < n → (part : List ℕ) → part ≡ upTo n
+      → leavesOf maxLeaf minLeaf fraction vs ≡ carveBuckets maxLeaf minLeaf fraction vs 1 (bucketsOf minLeaf fraction vs 0 part)
+  unfolding leavesOf
+  top-dealt h part e =
+      ap (λ (k : ℕ). carveSegment maxLeaf minLeaf fraction vs 0 (upTo k)) many
+      ∙ dealt-down maxLeaf minLeaf fraction vs 0 (upTo n) (omega (arith, length-upTo n)) (λ z. omega (arith, fan-top))
+      ∙ ap (λ (l : List ℕ). carveBuckets maxLeaf minLeaf fraction vs 1 (bucketsOf minLeaf fraction vs 0 l)) (sym e)
+
+-- the first segment fits twice
+pub fitting-top : (n : ℕ) (part nodes marks : List ℕ) → n ≤ 1024 → 2 ≤ n → length nodes ≡ 2 * n → length marks ≡ 2 * n → part ≡ upTo n → Fitting 0 part nodes marks
+fitting-top n part nodes marks h k a b e =
+    let top = fan-top in
+    let size : length part ≡ n = ap length e ∙ length-upTo n in
+    record {
+      deals = omega arith;
+      two = omega arith;
+      nodes-size = a ∙ ap₂ (λ (f : ℕ) (m : ℕ). f * m) (sym top) (sym size);
+      marks-size = b ∙ sym a;
+      few = omega arith;
+    }
+
+-- ---- what is left in the words
+
+pub laid : (leaves : List (List ℕ)) (nodes sizes : List ℕ) (n total count : ℕ) → length nodes ≡ 2 * n → total ≤ length nodes → take total nodes ≡ flatten leaves
+    → (count ≡ length (nonEmpty leaves)) × (take (length (nonEmpty leaves)) sizes ≡ map length (nonEmpty leaves))
+    → Laid (nonEmpty leaves) count (2 * n) (nodes ++ sizes)
+laid leaves nodes sizes n total count e h are c =
+    let all = flatten-full leaves in
+    let size : length (flatten (nonEmpty leaves)) ≡ total = ap length (all ∙ sym are) ∙ length-take-le total nodes h in
+    record {
+      counted = c .0;
+      nodes = ap (λ (k : ℕ). take k (nodes ++ sizes)) size ∙ take-append-le total nodes sizes h ∙ are ∙ sym all;
+      sizes = ap (take (length (nonEmpty leaves))) (drop-at nodes sizes (2 * n) e) ∙ c .1;
+    }

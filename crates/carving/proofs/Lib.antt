@@ -1,0 +1,3 @@
+pub mod Leaves
+pub mod Carving
+pub mod Build

@@ -1,0 +1,165 @@
+-- The invariant, for any leaves whose marks these are: the sizes of some are listed, and the marks of the others follow (`Listed`). The measure is how
+-- many marks are left. Assumes nothing.
+use mathlib.Core.Path.{_≡_, refl, ap, _∙_}
+use mathlib.Core.List.{List}
+use Prim.Native.Nat.{ℕ, _-_, _≤_}
+use lib.ListN.{length, take, drop, length-drop, length-set}
+use lib.Seq.{take-all}
+use Rattle.dealing.specs.Marks.{marksOf}
+use Rattle.carving.specs.Steps.{firstSize}
+use Rattle.carving.proofs.Leaves.{Listed, listed-none, listed-more, listed-done, first-within}
+use borrow.Author.Needs.{needs}
+use native.Mathlib.Omega.{arith}
+use Rattle.carving.proofs.sizes_of.Statement.{statement}
+use Rattle.carving.proofs.sizes_of.Tie as tie
+
+abbrev Inv-loop : tie.InvT-loop
+Inv-loop marks sizes₀ at₀ count₀ sizes at count =
+    (at ≤ length marks) × (count ≤ at) × (length sizes ≡ length sizes₀) × ((leaves : List (List ℕ)) → marks ≡ marksOf leaves → Listed leaves marks sizes at count)
+
+abbrev μ-loop : tie.MeasureT-loop
+μ-loop marks sizes₀ at₀ count₀ sizes at count = length marks - at
+
+loop-holds : tie.Need-loop-holds Inv-loop μ-loop
+loop-holds c = let x = c .before .before .args in (omega arith, omega arith, refl, λ leaves e. listed-none leaves (x .marks .now) (x .sizes .now) e)
+
+mul-first-size : tie.Need-mul-first-size Inv-loop μ-loop
+mul-first-size c = search needs
+
+sub-first-size : tie.Need-sub-first-size Inv-loop μ-loop
+sub-first-size c = search needs
+
+part-first-size-start : tie.Need-part-first-size-start Inv-loop μ-loop
+part-first-size-start c = search needs
+
+part-first-size-end : tie.Need-part-first-size-end Inv-loop μ-loop
+part-first-size-end c = search needs
+
+first-size-requires : tie.Need-first-size-requires Inv-loop μ-loop
+first-size-requires c κs = search needs
+
+cast-sizes : tie.Need-cast-sizes Inv-loop μ-loop
+cast-sizes c =
+    let l = c .before .before .before .loop in
+    let s = c .before .before .before .before .before .before in
+    let m : List ℕ = s .args .marks .now in
+    let one = c .first-size in
+    let all : take (length m - l .at) (drop (l .at) m) ≡ drop (l .at) m = take-all (length m - l .at) (drop (l .at) m) (omega (arith, length-drop (l .at) m)) in
+    let is : one .result ≡ firstSize (drop (l .at) m) = one .ensures ∙ ap firstSize all in
+    let w = first-within (drop (l .at) m) (omega (arith, length-drop (l .at) m, c .before .before .loop-test .taken)) in
+    let d = length-drop (l .at) m in
+    let k = l .inv in
+    omega (arith, s .pre .0)
+
+mul-sizes : tie.Need-mul-sizes Inv-loop μ-loop
+mul-sizes c =
+    let l = c .before .before .before .loop in
+    let s = c .before .before .before .before .before .before in
+    let m : List ℕ = s .args .marks .now in
+    let one = c .first-size in
+    let all : take (length m - l .at) (drop (l .at) m) ≡ drop (l .at) m = take-all (length m - l .at) (drop (l .at) m) (omega (arith, length-drop (l .at) m)) in
+    let is : one .result ≡ firstSize (drop (l .at) m) = one .ensures ∙ ap firstSize all in
+    let w = first-within (drop (l .at) m) (omega (arith, length-drop (l .at) m, c .before .before .loop-test .taken)) in
+    let d = length-drop (l .at) m in
+    let k = l .inv in
+    search needs
+
+slice-write-sizes : tie.Need-slice-write-sizes Inv-loop μ-loop
+slice-write-sizes c =
+    let l = c .before .before .before .loop in
+    let s = c .before .before .before .before .before .before in
+    let m : List ℕ = s .args .marks .now in
+    let one = c .first-size in
+    let all : take (length m - l .at) (drop (l .at) m) ≡ drop (l .at) m = take-all (length m - l .at) (drop (l .at) m) (omega (arith, length-drop (l .at) m)) in
+    let is : one .result ≡ firstSize (drop (l .at) m) = one .ensures ∙ ap firstSize all in
+    let w = first-within (drop (l .at) m) (omega (arith, length-drop (l .at) m, c .before .before .loop-test .taken)) in
+    let d = length-drop (l .at) m in
+    let k = l .inv in
+    omega (arith, s .pre .1)
+
+add-count : tie.Need-add-count Inv-loop μ-loop
+add-count c =
+    let l = c .before .before .before .loop in
+    let s = c .before .before .before .before .before .before in
+    let m : List ℕ = s .args .marks .now in
+    let one = c .first-size in
+    let all : take (length m - l .at) (drop (l .at) m) ≡ drop (l .at) m = take-all (length m - l .at) (drop (l .at) m) (omega (arith, length-drop (l .at) m)) in
+    let is : one .result ≡ firstSize (drop (l .at) m) = one .ensures ∙ ap firstSize all in
+    let w = first-within (drop (l .at) m) (omega (arith, length-drop (l .at) m, c .before .before .loop-test .taken)) in
+    let d = length-drop (l .at) m in
+    let k = l .inv in
+    omega arith
+
+add-at : tie.Need-add-at Inv-loop μ-loop
+add-at c =
+    let l = c .before .before .before .loop in
+    let s = c .before .before .before .before .before .before in
+    let m : List ℕ = s .args .marks .now in
+    let one = c .first-size in
+    let all : take (length m - l .at) (drop (l .at) m) ≡ drop (l .at) m = take-all (length m - l .at) (drop (l .at) m) (omega (arith, length-drop (l .at) m)) in
+    let is : one .result ≡ firstSize (drop (l .at) m) = one .ensures ∙ ap firstSize all in
+    let w = first-within (drop (l .at) m) (omega (arith, length-drop (l .at) m, c .before .before .loop-test .taken)) in
+    let d = length-drop (l .at) m in
+    let k = l .inv in
+    omega arith
+
+loop-less : tie.Need-loop-less Inv-loop μ-loop
+loop-less c =
+    let l = c .before .before .before .loop in
+    let s = c .before .before .before .before .before .before in
+    let m : List ℕ = s .args .marks .now in
+    let one = c .first-size in
+    let all : take (length m - l .at) (drop (l .at) m) ≡ drop (l .at) m = take-all (length m - l .at) (drop (l .at) m) (omega (arith, length-drop (l .at) m)) in
+    let is : one .result ≡ firstSize (drop (l .at) m) = one .ensures ∙ ap firstSize all in
+    let w = first-within (drop (l .at) m) (omega (arith, length-drop (l .at) m, c .before .before .loop-test .taken)) in
+    let d = length-drop (l .at) m in
+    let k = l .inv in
+    omega arith
+
+loop-again : tie.Need-loop-again Inv-loop μ-loop
+loop-again c =
+    let l = c .before .before .before .loop in
+    let s = c .before .before .before .before .before .before in
+    let m : List ℕ = s .args .marks .now in
+    let one = c .first-size in
+    let all : take (length m - l .at) (drop (l .at) m) ≡ drop (l .at) m = take-all (length m - l .at) (drop (l .at) m) (omega (arith, length-drop (l .at) m)) in
+    let is : one .result ≡ firstSize (drop (l .at) m) = one .ensures ∙ ap firstSize all in
+    let w = first-within (drop (l .at) m) (omega (arith, length-drop (l .at) m, c .before .before .loop-test .taken)) in
+    let d = length-drop (l .at) m in
+    let k = l .inv in (
+      omega arith,
+      omega arith,
+      length-set (l .sizes) (l .count) _ ∙ l .inv .2,
+      λ leaves e. listed-more leaves m (l .sizes) (l .at) (l .count) (one .result) (l .inv .3 leaves e) (c .before .before .loop-test .taken) (omega (arith, s .pre .1)) is,
+    )
+
+same-length : tie.Need-same-length Inv-loop μ-loop
+same-length c = c .before .loop .inv .2
+
+returns : tie.Need-returns Inv-loop μ-loop
+returns c =
+    let l = c .before .loop in
+    let s = c .before .before .before .before in
+    ((λ leaves e. listed-done leaves (s .args .marks .now) (l .sizes) (l .at) (l .count) (l .inv .3 leaves e) (omega arith)), omega (arith, s .pre .0))
+
+pub sizes-of-spec : {M : Type 1} → statement M
+sizes-of-spec =
+    tie.close
+    (tie.spec
+    Inv-loop
+    μ-loop
+    loop-holds
+    mul-first-size
+    sub-first-size
+    part-first-size-start
+    part-first-size-end
+    first-size-requires
+    cast-sizes
+    mul-sizes
+    slice-write-sizes
+    add-count
+    add-at
+    loop-less
+    loop-again
+    same-length
+    returns)

@@ -1,0 +1,90 @@
+-- The invariant is `Appended`: of the first i nodes those whose cards name the leader stand behind the first `held`. The measure is how many nodes
+-- are left. Assumes nothing.
+use Prim.Native.Nat.{_-_}
+use lib.ListN.{length}
+use Rattle.dealing.proofs.Buckets.{Appended, appended-none, appended-room, appended-more, appended-length, appended-done}
+use borrow.Author.Needs.{needs}
+use native.Mathlib.Omega.{arith}
+use Rattle.dealing.proofs.append_bucket.Statement.{statement}
+use Rattle.dealing.proofs.append_bucket.Tie as tie
+
+abbrev Inv-loop : tie.InvT-loop
+Inv-loop ids cards l to₀ held at₀ i₀ to at i = Appended l ids cards to₀ held i at to
+
+abbrev μ-loop : tie.MeasureT-loop
+μ-loop ids cards l to₀ held at₀ i₀ to at i = length ids - i
+
+loop-holds : tie.Need-loop-holds Inv-loop μ-loop
+loop-holds c =
+    let s = c .before .before .before in
+    let x = s .args in
+    appended-none (x .l) (x .ids .now) (x .cards .now) (x .to .now) (x .held) (s .pre .0) (s .pre .1)
+
+mul-is-named : tie.Need-mul-is-named Inv-loop μ-loop
+mul-is-named c = search needs
+
+shared-slice-read-is-named : tie.Need-shared-slice-read-is-named Inv-loop μ-loop
+shared-slice-read-is-named c = search needs
+
+is-named-requires : tie.Need-is-named-requires Inv-loop μ-loop
+is-named-requires c κs = search needs
+
+mul-append-if : tie.Need-mul-append-if Inv-loop μ-loop
+mul-append-if c = search needs
+
+shared-slice-read-append-if : tie.Need-shared-slice-read-append-if Inv-loop μ-loop
+shared-slice-read-append-if c = search needs
+
+append-if-requires : tie.Need-append-if-requires Inv-loop μ-loop
+append-if-requires c κs =
+    let l = c .before .before .before .before .before .loop in
+    let s = c .before .before .before .before .before .before .before .before .before in
+    let x = s .args in
+    appended-room (x .l) (x .ids .now) (x .cards .now) (x .to .now) (x .held) (s .pre .0) (s .pre .1) (l .i) (l .at) (l .to) (l .inv) (c .before .before .before .before .loop-test .taken) _ (c .before .before .is-named .ensures)
+
+add-i : tie.Need-add-i Inv-loop μ-loop
+add-i c = search needs
+
+loop-less : tie.Need-loop-less Inv-loop μ-loop
+loop-less c = search needs
+
+loop-again : tie.Need-loop-again Inv-loop μ-loop
+loop-again c =
+    let l = c .before .before .before .before .before .before .before .before .loop in
+    let s = c .before .before .before .before .before .before .before .before .before .before .before .before in
+    let x = s .args in
+    let done = c .before .before .append-if .ensures in
+    appended-more (x .l) (x .ids .now) (x .cards .now) (x .to .now) (x .held) (s .pre .0) (s .pre .1) (l .i) (l .at) (l .to) (l .inv) (c .before .before .before .before .before .before .before .loop-test .taken) _ (c .before .before .before .before .before .is-named .ensures) _ _ (done .0) (done .1)
+
+same-length : tie.Need-same-length Inv-loop μ-loop
+same-length c =
+    let l = c .before .loop in
+    let s = c .before .before .before .before .before in
+    let x = s .args in
+    appended-length (x .l) (x .ids .now) (x .cards .now) (x .to .now) (x .held) (s .pre .0) (s .pre .1) (l .i) (l .at) (l .to) (l .inv)
+
+returns : tie.Need-returns Inv-loop μ-loop
+returns c =
+    let l = c .before .loop in
+    let s = c .before .before .before .before .before in
+    let x = s .args in
+    appended-done (x .l) (x .ids .now) (x .cards .now) (x .to .now) (x .held) (s .pre .0) (s .pre .1) (l .i) (l .at) (l .to) (l .inv) (omega arith)
+
+pub append-bucket-spec : {M : Type 1} → statement M
+append-bucket-spec =
+    tie.close
+    (tie.spec
+    Inv-loop
+    μ-loop
+    loop-holds
+    mul-is-named
+    shared-slice-read-is-named
+    is-named-requires
+    mul-append-if
+    shared-slice-read-append-if
+    append-if-requires
+    add-i
+    loop-less
+    loop-again
+    same-length
+    returns)

@@ -1,0 +1,30 @@
+-- Under each outcome of the test the choice is the one that was made. No loop. Assumes nothing.
+use mathlib.Core.Path.{sym, ap}
+use Prim.Native.Nat.{ℕ, _+_}
+use Rattle.basics.specs.Choice.{pick-true, pick-false}
+use native.Mathlib.Omega.{arith}
+use borrow.Author.Needs.{needs}
+use Rattle.dealing.proofs.append_if.Statement.{statement}
+use Rattle.dealing.proofs.append_if.Tie as tie
+
+mul-to : tie.Need-mul-to
+mul-to c = search needs
+
+slice-write-to : tie.Need-slice-write-to
+slice-write-to c = let e = pick-true {X = ℕ} 1 0 (c .if1 .taken) in omega (arith, e)
+
+add-result : tie.Need-add-result
+add-result c = search needs
+
+same-length : tie.Need-same-length
+same-length c = search needs
+
+returns : tie.Need-returns
+returns c = (ap (λ (n : ℕ). c .before .args .at + n) (sym (pick-true {X = ℕ} 1 0 (c .if1 .taken))), sym (pick-true _ _ (c .if1 .taken)))
+
+returns-2 : tie.Need-returns-2
+returns-2 c = (let e = pick-false {X = ℕ} 1 0 (c .if1 .left) in omega (arith, e), sym (pick-false _ _ (c .if1 .left)))
+
+pub append-if-spec : {M : Type 1} → statement M
+append-if-spec =
+    tie.close (tie.spec mul-to slice-write-to add-result same-length returns returns-2)

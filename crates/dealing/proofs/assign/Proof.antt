@@ -1,0 +1,85 @@
+-- The invariant: the first i cards are those of the first i nodes, the rest is what it was. The measure is how many nodes are left. Assumes nothing.
+use mathlib.Core.Path.{_≡_, refl, ap₂, _∙_}
+use mathlib.Core.List.{List, _++_, map}
+use Prim.Native.Nat.{ℕ, _-_, _≤_}
+use lib.ListN.{length, set, take, drop, length-set}
+use Rattle.vectors.specs.Vectors.{vectorsIn}
+use Rattle.partition.specs.Partition.{nearestLeaders}
+use Rattle.dealing.specs.Cards.{cardOf}
+use Rattle.dealing.proofs.Dealing.{written-more, written-end}
+use borrow.Author.Needs.{needs}
+use native.Mathlib.Omega.{arith}
+use Rattle.dealing.proofs.assign.Statement.{statement}
+use Rattle.dealing.proofs.assign.Tie as tie
+
+abbrev Inv-loop : tie.InvT-loop
+Inv-loop vectors dimension leaders fan ids cards₀ i₀ cards i =
+    (i ≤ length ids) × (length cards ≡ length cards₀) × (cards ≡ map (λ (id : ℕ). cardOf (nearestLeaders (vectorsIn dimension vectors) fan leaders id)) (take i ids) ++ drop i cards₀)
+
+abbrev μ-loop : tie.MeasureT-loop
+μ-loop vectors dimension leaders fan ids cards₀ i₀ cards i = length ids - i
+
+loop-holds : tie.Need-loop-holds Inv-loop μ-loop
+loop-holds c = (omega arith, refl, refl)
+
+mul-card-of : tie.Need-mul-card-of Inv-loop μ-loop
+mul-card-of c = search needs
+
+shared-slice-read-card-of : tie.Need-shared-slice-read-card-of Inv-loop μ-loop
+shared-slice-read-card-of c = search needs
+
+card-of-requires : tie.Need-card-of-requires Inv-loop μ-loop
+card-of-requires c κs = search needs
+
+mul-cards : tie.Need-mul-cards Inv-loop μ-loop
+mul-cards c = search needs
+
+slice-write-cards : tie.Need-slice-write-cards Inv-loop μ-loop
+slice-write-cards c = search needs
+
+add-i : tie.Need-add-i Inv-loop μ-loop
+add-i c = search needs
+
+loop-less : tie.Need-loop-less Inv-loop μ-loop
+loop-less c = search needs
+
+loop-again : tie.Need-loop-again Inv-loop μ-loop
+loop-again c =
+    let l = c .before .before .before .loop in
+    let s = c .before .before .before .before .before .before .before .before in
+    let x = s .args in
+    let g : ℕ → ℕ = (λ (id : ℕ). cardOf (nearestLeaders (vectorsIn (x .dimension) (x .vectors .now)) (x .fan) (x .leaders .now) id)) in
+    let same : length (x .cards .now) ≡ length (x .ids .now) = omega arith in (
+      omega arith,
+      length-set (l .cards) (l .i) _ ∙ l .inv .1,
+      ap₂ (λ (r : List ℕ) (v : ℕ). set r (l .i) v) (l .inv .2) (c .card-of .ensures) ∙ written-more g (x .ids .now) (x .cards .now) same (l .i) (omega arith),
+    )
+
+same-length : tie.Need-same-length Inv-loop μ-loop
+same-length c = c .before .loop .inv .1
+
+returns : tie.Need-returns Inv-loop μ-loop
+returns c =
+    let l = c .before .loop in
+    let s = c .before .before .before .before .before .before in
+    let x = s .args in
+    let same : length (x .cards .now) ≡ length (x .ids .now) = omega arith in
+    l .inv .2 ∙ written-end (λ (id : ℕ). cardOf (nearestLeaders (vectorsIn (x .dimension) (x .vectors .now)) (x .fan) (x .leaders .now) id)) (x .ids .now) (x .cards .now) same (l .i) (omega arith)
+
+pub assign-spec : {M : Type 1} → statement M
+assign-spec =
+    tie.close
+    (tie.spec
+    Inv-loop
+    μ-loop
+    loop-holds
+    mul-card-of
+    shared-slice-read-card-of
+    card-of-requires
+    mul-cards
+    slice-write-cards
+    add-i
+    loop-less
+    loop-again
+    same-length
+    returns)

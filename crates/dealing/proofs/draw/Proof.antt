@@ -1,0 +1,36 @@
+-- There is room for all positions, so that as many are drawn as leaders are asked for; each becomes its node. No loop. Assumes nothing.
+use mathlib.Core.Path.{ap, _∙_}
+use mathlib.Core.List.{map}
+use Prim.Native.Nat.{ℕ}
+use lib.ListN.{length, getD}
+use Rattle.dealing.proofs.Dealing.{drawn-all}
+use borrow.Author.Needs.{needs}
+use Rattle.dealing.proofs.draw.Statement.{statement}
+use Rattle.dealing.proofs.draw.Tie as tie
+
+cast-n : tie.Need-cast-n
+cast-n c = search needs
+
+draw-leaders-requires : tie.Need-draw-leaders-requires
+draw-leaders-requires c κs = search needs
+
+nodes-at-requires : tie.Need-nodes-at-requires
+nodes-at-requires c κs = search needs
+
+same-length : tie.Need-same-length
+same-length c = search needs
+
+same-length-2 : tie.Need-same-length-2
+same-length-2 c = search needs
+
+returns : tie.Need-returns
+returns c =
+    let s = c .before .before .before .before .before .before .before .before .before .before .before .before .before .before in
+    let x = s .args in
+    c .before .before .nodes-at .ensures
+    ∙ ap (map (λ (p : ℕ). getD (x .ids .now) p 0)) (c .before .before .before .before .before .before .before .before .draw-leaders .ensures ∙ drawn-all (x .level) (length (x .ids .now)) (length (x .left .now)) (x .leaders .now) (s .pre .1) (s .pre .2))
+
+pub draw-spec : {M : Type 1} → statement M
+draw-spec =
+    tie.close
+    (tie.spec cast-n draw-leaders-requires nodes-at-requires same-length same-length-2 returns)

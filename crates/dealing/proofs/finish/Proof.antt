@@ -1,0 +1,83 @@
+-- The part from `at` on is as long as what remains: it is written whole, and nothing follows it. No loop. Assumes nothing.
+use mathlib.Core.Path.{_≡_, sym, ap₂, _∙_}
+use mathlib.Core.List.{List, _++_}
+use Prim.Native.Nat.{ℕ, _-_}
+use lib.ListN.{length, take}
+use Rattle.dealing.specs.Marks.{run}
+use Rattle.dealing.proofs.Placing.{put-words, put-marks, to-end}
+use native.Mathlib.Omega.{arith}
+use borrow.Author.Needs.{needs}
+use Rattle.dealing.proofs.finish.Statement.{statement}
+use Rattle.dealing.proofs.finish.Tie as tie
+
+mul-copy-words : tie.Need-mul-copy-words
+mul-copy-words c = search needs
+
+sub-copy-words : tie.Need-sub-copy-words
+sub-copy-words c = search needs
+
+part-copy-words-start : tie.Need-part-copy-words-start
+part-copy-words-start c = search needs
+
+part-copy-words-end : tie.Need-part-copy-words-end
+part-copy-words-end c = search needs
+
+copy-words-requires : tie.Need-copy-words-requires
+copy-words-requires c κs = search needs
+
+mul-mark : tie.Need-mul-mark
+mul-mark c = search needs
+
+sub-mark : tie.Need-sub-mark
+sub-mark c = search needs
+
+part-mark-start : tie.Need-part-mark-start
+part-mark-start c = search needs
+
+part-mark-end : tie.Need-part-mark-end
+part-mark-end c = search needs
+
+first-mark-requires : tie.Need-first-mark-requires
+first-mark-requires c κs = search needs
+
+mark-requires : tie.Need-mark-requires
+mark-requires c κs = search needs
+
+same-length : tie.Need-same-length
+same-length c = search needs
+
+same-length-2 : tie.Need-same-length-2
+same-length-2 c = search needs
+
+returns : tie.Need-returns
+returns c =
+    let x = c .before .before .before .before .before .before .before .before .before .before .before .before .args in
+    let rest : List ℕ = x .rest .now in
+    let k : ℕ = length (x .nodes .now) - x .at in
+    let k′ : ℕ = length (x .marks .now) - x .at in
+    let same : k ≡ length rest = omega arith in
+    let same′ : k′ ≡ length rest = omega arith in
+    let first = c .before .before .before .first-mark in (
+      put-words (x .nodes .now) (x .at) k (omega arith) rest _ (sym same) (c .before .before .before .before .before .before .before .copy-words .ensures) ∙ to-end (x .nodes .now) rest (x .at) k (omega arith),
+      put-marks (x .marks .now) (x .at) k′ (omega arith) (first .result) _ (c .before .before .mark .ensures) ∙ to-end (x .marks .now) (run (first .result) k′) (x .at) k′ (omega arith)
+          ∙ ap₂ (λ (f : ℕ) (j : ℕ). take (x .at) (x .marks .now) ++ run f j) (first .ensures) same′,
+    )
+
+pub finish-spec : {M : Type 1} → statement M
+finish-spec =
+    tie.close
+    (tie.spec
+    mul-copy-words
+    sub-copy-words
+    part-copy-words-start
+    part-copy-words-end
+    copy-words-requires
+    mul-mark
+    sub-mark
+    part-mark-start
+    part-mark-end
+    first-mark-requires
+    mark-requires
+    same-length
+    same-length-2
+    returns)

@@ -1,0 +1,81 @@
+-- The invariant is `Found`: the first `held` pairs are the nearest of the first l leaders with their ranks. The measure is how many leaders are left. Assumes nothing.
+use Prim.Native.Nat.{_-_}
+use lib.ListN.{length}
+use Rattle.vectors.specs.Vectors.{vectorsIn}
+use Rattle.dealing.proofs.Nearest.{Found, found-none, found-more, found-done}
+use borrow.Author.Needs.{needs}
+use native.Mathlib.Omega.{arith}
+use Rattle.dealing.proofs.nearest_leaders.Statement.{statement}
+use Rattle.dealing.proofs.nearest_leaders.Tie as tie
+
+abbrev Inv-loop : tie.InvT-loop
+Inv-loop vectors dimension leaders id keys₀ found₀ held₀ l₀ keys found held l = Found (vectorsIn dimension vectors) leaders id keys₀ found₀ l held keys found
+
+abbrev μ-loop : tie.MeasureT-loop
+μ-loop vectors dimension leaders id keys₀ found₀ held₀ l₀ keys found held l = length leaders - l
+
+loop-holds : tie.Need-loop-holds Inv-loop μ-loop
+loop-holds c =
+    let x = c .before .before .before .before .args in
+    found-none (vectorsIn (x .dimension) (x .vectors .now)) (x .leaders .now) (x .id) (x .keys .now) (x .found .now)
+
+mul-rank-of : tie.Need-mul-rank-of Inv-loop μ-loop
+mul-rank-of c = search needs
+
+shared-slice-read-rank-of : tie.Need-shared-slice-read-rank-of Inv-loop μ-loop
+shared-slice-read-rank-of c = search needs
+
+rank-of-requires : tie.Need-rank-of-requires Inv-loop μ-loop
+rank-of-requires c κs = search needs
+
+cast-keep-first : tie.Need-cast-keep-first Inv-loop μ-loop
+cast-keep-first c = search needs
+
+keep-first-requires : tie.Need-keep-first-requires Inv-loop μ-loop
+keep-first-requires c κs = search needs
+
+add-l : tie.Need-add-l Inv-loop μ-loop
+add-l c = search needs
+
+loop-less : tie.Need-loop-less Inv-loop μ-loop
+loop-less c = search needs
+
+loop-again : tie.Need-loop-again Inv-loop μ-loop
+loop-again c =
+    let l = c .before .before .before .before .before .before .before .before .before .before .loop in
+    let s = c .before .before .before .before .before .before .before .before .before .before .before .before .before .before .before in
+    let x = s .args in
+    let kept = c .before .before .before .before .keep-first in
+    found-more (vectorsIn (x .dimension) (x .vectors .now)) (x .leaders .now) (x .id) (x .keys .now) (x .found .now) (l .l) (l .held) (l .keys) (l .found) (l .inv) (omega arith) _ _ _ _ (c .before .before .before .before .before .before .before .rank-of .ensures) (kept .ensures) (kept .kept .0) (kept .kept .1 .0)
+
+same-length : tie.Need-same-length Inv-loop μ-loop
+same-length c = c .before .loop .inv .keys-size
+
+same-length-2 : tie.Need-same-length-2 Inv-loop μ-loop
+same-length-2 c = c .before .loop .inv .found-size
+
+returns : tie.Need-returns Inv-loop μ-loop
+returns c =
+    let l = c .before .loop in
+    let s = c .before .before .before .before .before .before in
+    let x = s .args in
+    found-done (vectorsIn (x .dimension) (x .vectors .now)) (x .leaders .now) (x .id) (x .keys .now) (x .found .now) (l .l) (l .held) (l .keys) (l .found) (l .inv) (omega arith) (s .pre .1) (s .pre .2)
+
+pub nearest-leaders-spec : {M : Type 1} → statement M
+nearest-leaders-spec =
+    tie.close
+    (tie.spec
+    Inv-loop
+    μ-loop
+    loop-holds
+    mul-rank-of
+    shared-slice-read-rank-of
+    rank-of-requires
+    cast-keep-first
+    keep-first-requires
+    add-l
+    loop-less
+    loop-again
+    same-length
+    same-length-2
+    returns)

@@ -1,0 +1,4 @@
+pub mod Marks
+pub mod Cards
+pub mod Steps
+pub mod Deal
