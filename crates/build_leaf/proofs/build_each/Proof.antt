@@ -1,0 +1,117 @@
+-- The invariant: the first k leaves are built, and the next starts at `at`. The measure is how many are left. Assumes nothing.
+use borrow.Author.Needs.{needs}
+use native.Mathlib.Omega.{arith}
+use mathlib.Core.Path.{_≡_, refl, subst, _∙_}
+use Prim.Native.Nat.{ℕ, _+_, _-_, _≤_}
+use lib.ListN.{length, getD, take, drop}
+use Rattle.build_leaf.specs.Built.{LeafBuilt}
+use Rattle.build_leaf.proofs.Leaves.{LeavesTo, leaves-none, leaves-more, leaves-cut, leaves-last}
+use Rattle.build_leaf.proofs.build_each.Statement.{statement}
+use Rattle.build_leaf.proofs.build_each.Tie as tie
+
+abbrev Inv-loop : tie.InvT-loop
+Inv-loop vectors dimension degree bits planes nodes sizes rows₀ floats₀ at₀ k₀ rows floats at k = (k ≤ length sizes) × (at ≤ length nodes) × (length rows ≡ length rows₀) × (length floats ≡ length floats₀) × LeavesTo vectors dimension degree bits planes nodes sizes (length floats₀) k at rows₀ rows
+
+abbrev μ-loop : tie.MeasureT-loop
+μ-loop vectors dimension degree bits planes nodes sizes rows₀ floats₀ at₀ k₀ rows floats at k = length sizes - k
+
+loop-holds : tie.Need-loop-holds Inv-loop μ-loop
+loop-holds c = let x = c .before .before .before .before .before .before .args in (omega arith, omega arith, refl, refl, leaves-none (x .vectors .now) (x .dimension) (x .degree) (x .bits) (x .planes .now) (x .nodes .now) (x .sizes .now) (length (x .floats .now)) (x .rows .now))
+
+mul-end : tie.Need-mul-end Inv-loop μ-loop
+mul-end c = search needs
+
+shared-slice-read-end : tie.Need-shared-slice-read-end Inv-loop μ-loop
+shared-slice-read-end c = search needs
+
+cast-end : tie.Need-cast-end Inv-loop μ-loop
+cast-end c = omega (arith, c .shared-slice-known5 .given (c .before .before .loop .k))
+
+add-end : tie.Need-add-end Inv-loop μ-loop
+add-end c = omega (arith, c .shared-slice-known5 .given (c .before .before .loop .k))
+
+same-length : tie.Need-same-length Inv-loop μ-loop
+same-length c = c .before .before .before .loop .inv .2
+
+same-length-2 : tie.Need-same-length-2 Inv-loop μ-loop
+same-length-2 c = c .before .before .before .loop .inv .3
+
+returns : tie.Need-returns Inv-loop μ-loop
+returns c =
+    let l = c .before .before .before .loop in
+    let x = c .before .before .before .before .before .before .before .before .before .before .args in
+    leaves-cut (x .vectors .now) (x .dimension) (x .degree) (x .bits) (x .planes .now) (x .nodes .now) (x .sizes .now) (length (x .floats .now)) (x .rows .now) (l .k) (l .at) _ (l .rows) (c .before .before .loop-test .taken) refl (c .if1 .taken) (l .inv .4)
+
+mul-build-leaf : tie.Need-mul-build-leaf Inv-loop μ-loop
+mul-build-leaf c = search needs
+
+sub-build-leaf : tie.Need-sub-build-leaf Inv-loop μ-loop
+sub-build-leaf c = search needs
+
+part-build-leaf-start : tie.Need-part-build-leaf-start Inv-loop μ-loop
+part-build-leaf-start c = search needs
+
+part-build-leaf-end : tie.Need-part-build-leaf-end Inv-loop μ-loop
+part-build-leaf-end c = search needs
+
+build-leaf-requires : tie.Need-build-leaf-requires Inv-loop μ-loop
+build-leaf-requires c κs = search needs
+
+add-k : tie.Need-add-k Inv-loop μ-loop
+add-k c = search needs
+
+loop-less : tie.Need-loop-less Inv-loop μ-loop
+loop-less c = search needs
+
+loop-again : tie.Need-loop-again Inv-loop μ-loop
+loop-again c =
+    let l = c .before .before .before .before .before .before .before .before .before .before .before .loop in
+    let x = c .before .before .before .before .before .before .before .before .before .before .before .before .before .before .before .before .before .before .args in
+    let b = c .before .before .before .before .build-leaf in
+    let size : ℕ = getD (x .sizes .now) (l .k) 0 in
+    let m : ℕ = (l .at + size) - l .at in (
+      omega arith,
+      omega arith,
+      b .kept .1 .1 .1 .1 .1 .1 .0 ∙ l .inv .2,
+      b .kept .1 .1 .1 .1 .1 .1 .1 .0 ∙ l .inv .3,
+      leaves-more (x .vectors .now) (x .dimension) (x .degree) (x .bits) (x .planes .now) (x .nodes .now) (x .sizes .now) (length (x .floats .now)) (x .rows .now) (l .k) (l .at) (l .at + size) m (l .rows) _ (c .before .before .before .before .before .before .before .before .before .before .loop-test .taken) refl (omega arith) (l .inv .4)
+          (subst (λ (k : ℕ). LeafBuilt (x .vectors .now) (x .dimension) (x .degree) (x .bits) (x .planes .now) (take m (drop (l .at) (x .nodes .now))) k (l .rows) (b .last .1 .1 .1 .1 .1 .1 .0)) (l .inv .3) (b .ensures)),
+    )
+
+same-length-3 : tie.Need-same-length-3 Inv-loop μ-loop
+same-length-3 c = c .before .loop .inv .2
+
+same-length-4 : tie.Need-same-length-4 Inv-loop μ-loop
+same-length-4 c = c .before .loop .inv .3
+
+returns-2 : tie.Need-returns-2 Inv-loop μ-loop
+returns-2 c =
+    let l = c .before .loop in
+    let x = c .before .before .before .before .before .before .before .before .args in
+    leaves-last (x .vectors .now) (x .dimension) (x .degree) (x .bits) (x .planes .now) (x .nodes .now) (x .sizes .now) (length (x .floats .now)) (x .rows .now) (l .k) (l .at) (l .rows) (c .loop-test .left) (l .inv .4)
+
+pub build-each-spec : {M : Type 1} → statement M
+build-each-spec =
+    tie.close
+    (tie.spec
+    Inv-loop
+    μ-loop
+    loop-holds
+    mul-end
+    shared-slice-read-end
+    cast-end
+    add-end
+    same-length
+    same-length-2
+    returns
+    mul-build-leaf
+    sub-build-leaf
+    part-build-leaf-start
+    part-build-leaf-end
+    build-leaf-requires
+    add-k
+    loop-less
+    loop-again
+    same-length-3
+    same-length-4
+    returns-2)

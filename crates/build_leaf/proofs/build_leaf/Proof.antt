@@ -1,0 +1,80 @@
+-- The invariant: the places before `first` had their turns. The measure is how many are left. Assumes nothing.
+use borrow.Author.Needs.{needs}
+use native.Mathlib.Omega.{arith}
+use mathlib.Core.Path.{_≡_, refl, subst, _∙_}
+use Prim.Native.Nat.{ℕ, _-_, _≤_}
+use lib.ListN.{length}
+use Rattle.leaf_distances.specs.Lanes.{Distances}
+use Rattle.build_leaf.proofs.Rows.{LeafTo, leaf-single, leaf-first, leaf-more, leaf-last}
+use Rattle.build_leaf.proofs.build_leaf.Statement.{statement}
+use Rattle.build_leaf.proofs.build_leaf.Tie as tie
+
+abbrev Inv-loop : tie.InvT-loop
+Inv-loop vectors dimension degree bits planes leaf rows₀ floats₀ first₀ rows floats first = (first ≤ length leaf) × (length rows ≡ length rows₀) × (length floats ≡ length floats₀) × LeafTo vectors dimension degree bits planes leaf (length floats₀) first rows₀ rows
+
+abbrev μ-loop : tie.MeasureT-loop
+μ-loop vectors dimension degree bits planes leaf rows₀ floats₀ first₀ rows floats first = length leaf - first
+
+returns : tie.Need-returns Inv-loop μ-loop
+returns c = let x = c .before .before .before .before .before .before .args in leaf-single (x .vectors .now) (x .dimension) (x .degree) (x .bits) (x .planes .now) (x .leaf .now) (length (x .floats .now)) (x .rows .now) (c .if1 .taken)
+
+loop-holds : tie.Need-loop-holds Inv-loop μ-loop
+loop-holds c = let x = c .before .before .before .before .before .before .args in (omega arith, refl, refl, leaf-first (x .vectors .now) (x .dimension) (x .degree) (x .bits) (x .planes .now) (x .leaf .now) (length (x .floats .now)) (x .rows .now))
+
+distances-into-requires : tie.Need-distances-into-requires Inv-loop μ-loop
+distances-into-requires c κs = search needs
+
+add-at-most : tie.Need-add-at-most Inv-loop μ-loop
+add-at-most c = search needs
+
+at-most-requires : tie.Need-at-most-requires Inv-loop μ-loop
+at-most-requires c κs = search needs
+
+each-place-requires : tie.Need-each-place-requires Inv-loop μ-loop
+each-place-requires c κs = search needs
+
+loop-less : tie.Need-loop-less Inv-loop μ-loop
+loop-less c = search needs
+
+loop-again : tie.Need-loop-again Inv-loop μ-loop
+loop-again c =
+    let l = c .before .before .before .before .before .before .before .before .before .before .before .loop in
+    let x = c .before .before .before .before .before .before .before .before .before .before .before .before .before .before .before .before .before .before .args in
+    let far = c .before .before .before .before .before .before .before .before .distances-into in
+    let put = c .before .before .each-place in (
+      omega arith,
+      put .kept .1 .1 .1 .1 .1 .1 .1 .1 .1 .0 ∙ l .inv .1,
+      far .kept .1 .1 .1 .1 .0 ∙ l .inv .2,
+      leaf-more (x .vectors .now) (x .dimension) (x .degree) (x .bits) (x .planes .now) (x .leaf .now) (length (x .floats .now)) (x .rows .now) (l .first) _ (far .last .1 .1 .1 .1 .0) (l .rows) _ (c .before .before .before .before .before .before .before .before .before .before .loop-test .taken) (far .kept .1 .1 .1 .1 .0 ∙ l .inv .2) (l .inv .3)
+          (subst (λ (k : ℕ). Distances (x .vectors .now) (x .dimension) (x .leaf .now) (l .first) k (far .last .1 .1 .1 .1 .0)) (l .inv .2) (far .ensures)) (put .ensures),
+    )
+
+same-length : tie.Need-same-length Inv-loop μ-loop
+same-length c = c .before .loop .inv .1
+
+same-length-2 : tie.Need-same-length-2 Inv-loop μ-loop
+same-length-2 c = c .before .loop .inv .2
+
+returns-2 : tie.Need-returns-2 Inv-loop μ-loop
+returns-2 c =
+    let l = c .before .loop in
+    let x = c .before .before .before .before .before .before .before .before .args in
+    leaf-last (x .vectors .now) (x .dimension) (x .degree) (x .bits) (x .planes .now) (x .leaf .now) (length (x .floats .now)) (x .rows .now) (l .first) (l .rows) (c .before .before .if1 .left) (omega arith) (l .inv .3)
+
+pub build-leaf-spec : {M : Type 1} → statement M
+build-leaf-spec =
+    tie.close
+    (tie.spec
+    Inv-loop
+    μ-loop
+    returns
+    loop-holds
+    distances-into-requires
+    add-at-most
+    at-most-requires
+    each-place-requires
+    loop-less
+    loop-again
+    same-length
+    same-length-2
+    returns-2)

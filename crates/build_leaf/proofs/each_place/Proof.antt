@@ -1,0 +1,66 @@
+-- The invariant: the places from `first` to i had their turns. The measure is how many are left. Assumes nothing.
+use borrow.Author.Needs.{needs}
+use native.Mathlib.Omega.{arith}
+use mathlib.Core.Path.{_≡_, refl, subst, _∙_}
+use Prim.Native.Nat.{ℕ, _-_, _≤_}
+use lib.ListN.{length}
+use Rattle.build_leaf.specs.Built.{PlacesPut}
+use Rattle.build_leaf.proofs.Rows.{places-none, places-more}
+use Rattle.build_leaf.proofs.each_place.Statement.{statement}
+use Rattle.build_leaf.proofs.each_place.Tie as tie
+
+abbrev Inv-loop : tie.InvT-loop
+Inv-loop vectors dimension degree bits planes leaf first end floats rows₀ i₀ rows i = (first ≤ i) × (i ≤ end) × (length rows ≡ length rows₀) × PlacesPut vectors dimension degree bits planes leaf first i floats rows₀ rows
+
+abbrev μ-loop : tie.MeasureT-loop
+μ-loop vectors dimension degree bits planes leaf first end floats rows₀ i₀ rows i = end - i
+
+loop-holds : tie.Need-loop-holds Inv-loop μ-loop
+loop-holds c = let x = c .before .before .before .before .before .args in (omega arith, omega arith, refl, places-none (x .vectors .now) (x .dimension) (x .degree) (x .bits) (x .planes .now) (x .leaf .now) (x .first) (x .floats .now) (x .rows .now))
+
+sub-one-place : tie.Need-sub-one-place Inv-loop μ-loop
+sub-one-place c = search needs
+
+one-place-requires : tie.Need-one-place-requires Inv-loop μ-loop
+one-place-requires c κs = search needs
+
+add-i : tie.Need-add-i Inv-loop μ-loop
+add-i c = search needs
+
+loop-less : tie.Need-loop-less Inv-loop μ-loop
+loop-less c = search needs
+
+loop-again : tie.Need-loop-again Inv-loop μ-loop
+loop-again c =
+    let l = c .before .before .before .before .before .loop in
+    let x = c .before .before .before .before .before .before .before .before .before .before .before .args in (
+      omega arith,
+      omega arith,
+      c .before .before .one-place .kept .1 .1 .1 .1 .1 .1 .1 .1 .1 .0 ∙ l .inv .2,
+      places-more (x .vectors .now) (x .dimension) (x .degree) (x .bits) (x .planes .now) (x .leaf .now) (x .first) (x .floats .now) (x .rows .now) (l .i) (l .i - x .first) (l .rows) _ (l .inv .0) (omega arith) (omega arith) refl (l .inv .3) (c .before .before .one-place .ensures),
+    )
+
+same-length : tie.Need-same-length Inv-loop μ-loop
+same-length c = c .before .loop .inv .2
+
+returns : tie.Need-returns Inv-loop μ-loop
+returns c =
+    let l = c .before .loop in
+    let x = c .before .before .before .before .before .before .before .args in
+    let e : l .i ≡ x .end = omega arith in
+    subst (λ (k : ℕ). PlacesPut (x .vectors .now) (x .dimension) (x .degree) (x .bits) (x .planes .now) (x .leaf .now) (x .first) k (x .floats .now) (x .rows .now) (l .rows)) e (l .inv .3)
+
+pub each-place-spec : {M : Type 1} → statement M
+each-place-spec =
+    tie.close
+    (tie.spec
+    Inv-loop
+    μ-loop
+    loop-holds
+    sub-one-place
+    one-place-requires
+    add-i
+    loop-less
+    loop-again
+    same-length
+    returns)

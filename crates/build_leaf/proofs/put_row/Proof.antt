@@ -1,0 +1,61 @@
+-- The node's block is lent, and what comes back is put in its place (`row-put`). Assumes nothing.
+use native.Mathlib.Omega.{arith}
+use mathlib.Core.Path.{refl}
+use Prim.Native.Nat.{ℕ, _+_, _-_, _*_}
+use Rattle.build_leaf.proofs.Rows.{place-fits, row-none, row-put}
+use borrow.Author.Needs.{needs}
+use Rattle.build_leaf.proofs.put_row.Statement.{statement}
+use Rattle.build_leaf.proofs.put_row.Tie as tie
+
+add-size : tie.Need-add-size
+add-size c = search needs
+
+mul-at : tie.Need-mul-at
+mul-at c = omega (arith, place-fits (c .before .before .before .before .before .args .node) (1 + c .before .before .before .before .before .args .degree) (omega arith) (omega arith))
+
+add-end : tie.Need-add-end
+add-end c = omega (arith, place-fits (c .before .before .before .before .before .args .node) (1 + c .before .before .before .before .before .args .degree) (omega arith) (omega arith))
+
+returns : tie.Need-returns
+returns c = let x = c .before .before .before .before .before .before .args in row-none (x .vectors .now) (x .dimension) (x .degree) (x .bits) (x .planes .now) (x .node) (x .candidates .now) (x .far .now) (x .rows .now) (c .if1 .taken)
+
+mul-hashprune-insert : tie.Need-mul-hashprune-insert
+mul-hashprune-insert c = search needs
+
+sub-hashprune-insert : tie.Need-sub-hashprune-insert
+sub-hashprune-insert c = search needs
+
+part-hashprune-insert-start : tie.Need-part-hashprune-insert-start
+part-hashprune-insert-start c = search needs
+
+part-hashprune-insert-end : tie.Need-part-hashprune-insert-end
+part-hashprune-insert-end c = search needs
+
+hashprune-insert-requires : tie.Need-hashprune-insert-requires
+hashprune-insert-requires c κs = search needs
+
+same-length : tie.Need-same-length
+same-length c = search needs
+
+returns-2 : tie.Need-returns-2
+returns-2 c =
+    let x = c .before .before .before .before .before .before .before .before .before .before .args in
+    let at : ℕ = x .node * (1 + x .degree) in
+    let size : ℕ = (at + (1 + x .degree)) - at in
+    row-put (x .vectors .now) (x .dimension) (x .degree) (x .bits) (x .planes .now) (x .node) (x .candidates .now) (x .far .now) (x .rows .now) at size _ refl (omega arith) (c .before .before .hashprune-insert .ensures)
+
+pub put-row-spec : {M : Type 1} → statement M
+put-row-spec =
+    tie.close
+    (tie.spec
+    add-size
+    mul-at
+    add-end
+    returns
+    mul-hashprune-insert
+    sub-hashprune-insert
+    part-hashprune-insert-start
+    part-hashprune-insert-end
+    hashprune-insert-requires
+    same-length
+    returns-2)

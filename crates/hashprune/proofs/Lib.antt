@@ -1,0 +1,6 @@
+pub mod Planes
+mod Lists
+mod Cells
+mod Ranked
+mod Rows
+mod Meaning

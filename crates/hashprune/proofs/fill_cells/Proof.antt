@@ -1,0 +1,101 @@
+-- The invariant: the cells are those of the first i candidates. The measure is how many are left. Assumes nothing.
+use mathlib.Core.Path.{_≡_, refl, ap, _∙_}
+use mathlib.Core.List.{[]}
+use Prim.Native.Nat.{ℕ, _-_, _≤_}
+use lib.ListN.{length}
+use Rattle.leaf.specs.Leaf.{cellsFrom}
+use Rattle.hashprune.specs.Steps.{farAt, hashAt, firstPlaces}
+use Rattle.hashprune.proofs.Cells.{Came, came-none, came-below, came-more}
+use borrow.Author.Needs.{needs}
+use native.Mathlib.Omega.{arith}
+use Rattle.hashprune.proofs.fill_cells.Statement.{statement}
+use Rattle.hashprune.proofs.fill_cells.Tie as tie
+
+abbrev Inv-loop : tie.InvT-loop
+Inv-loop vectors dimension bits planes p candidates far hashes₀ places₀ held₀ i₀ hashes places held i =
+    (i ≤ length candidates) × (length hashes ≡ length hashes₀) × (length places ≡ length places₀)
+    × Came (farAt far) (hashAt vectors dimension bits planes p candidates) i held hashes places
+
+abbrev μ-loop : tie.MeasureT-loop
+μ-loop vectors dimension bits planes p candidates far hashes₀ places₀ held₀ i₀ hashes places held i = length candidates - i
+
+loop-holds : tie.Need-loop-holds Inv-loop μ-loop
+loop-holds c =
+    let a = c .before .before .before .before .before .before .before .args in
+    (omega arith, refl, refl, came-none (farAt (a .far .now)) (hashAt (a .vectors .now) (a .dimension) (a .bits) (a .planes .now) (a .p .now) (a .candidates .now)) (a .hashes .now) (a .places .now))
+
+mul-hash-of-node : tie.Need-mul-hash-of-node Inv-loop μ-loop
+mul-hash-of-node c = search needs
+
+shared-slice-read-hash-of-node : tie.Need-shared-slice-read-hash-of-node Inv-loop μ-loop
+shared-slice-read-hash-of-node c = search needs
+
+hash-of-node-requires : tie.Need-hash-of-node-requires Inv-loop μ-loop
+hash-of-node-requires c κs = search needs
+
+cast-put-cell : tie.Need-cast-put-cell Inv-loop μ-loop
+cast-put-cell c = search needs
+
+put-cell-requires : tie.Need-put-cell-requires Inv-loop μ-loop
+put-cell-requires c κs =
+    let s = c .before .before .before .before .before .before .before .before .before .before .before .before .before in
+    let a = s .args in
+    let l = c .before .before .before .before .before .loop in
+    let inside = came-below (farAt (a .far .now)) (hashAt (a .vectors .now) (a .dimension) (a .bits) (a .planes .now) (a .p .now) (a .candidates .now)) (l .i) (l .held) (l .hashes) (l .places) (omega (arith, l .inv .1, l .inv .3 .few, s .pre .hashes-room)) (omega (arith, l .inv .2, l .inv .3 .few, s .pre .places-room)) (l .inv .3) in
+    record {
+      hashes-room = omega (arith, l .inv .1, l .inv .3 .few, s .pre .hashes-room);
+      places-room = omega (arith, l .inv .2, l .inv .3 .few, s .pre .places-room);
+      place-inside = omega (arith, s .pre .fars);
+      inside = λ x m. let k = inside x m in omega (arith, s .pre .fars);
+    }
+
+add-i : tie.Need-add-i Inv-loop μ-loop
+add-i c = search needs
+
+loop-less : tie.Need-loop-less Inv-loop μ-loop
+loop-less c = search needs
+
+loop-again : tie.Need-loop-again Inv-loop μ-loop
+loop-again c =
+    let s = c .before .before .before .before .before .before .before .before .before .before .before .before .before .before .before .before .before .before in
+    let a = s .args in
+    let l = c .before .before .before .before .before .before .before .before .before .before .loop in
+    let put = c .before .before .before .before .put-cell in
+    let hash = c .before .before .before .before .before .before .before .hash-of-node in (
+      omega (arith, c .before .before .before .before .before .before .before .before .before .loop-test .taken),
+      put .kept .0 ∙ l .inv .1,
+      put .kept .1 .0 ∙ l .inv .2,
+      came-more (farAt (a .far .now)) (hashAt (a .vectors .now) (a .dimension) (a .bits) (a .planes .now) (a .p .now) (a .candidates .now)) (l .i) (l .held) (put .result) (hash .result) (l .hashes) (l .places) _ _ (l .inv .3) (hash .ensures) (put .ensures .0) (put .ensures .1),
+    )
+
+same-length : tie.Need-same-length Inv-loop μ-loop
+same-length c = c .before .loop .inv .1
+
+same-length-2 : tie.Need-same-length-2 Inv-loop μ-loop
+same-length-2 c = c .before .loop .inv .2
+
+returns : tie.Need-returns Inv-loop μ-loop
+returns c =
+    let a = c .before .before .before .before .before .before .before .before .before .args in
+    let l = c .before .loop in
+    let e : l .i ≡ length (a .candidates .now) = omega arith in
+    (omega (arith, l .inv .3 .few), l .inv .3 .cells-are ∙ ap (λ (k : ℕ). cellsFrom (farAt (a .far .now)) (hashAt (a .vectors .now) (a .dimension) (a .bits) (a .planes .now) (a .p .now) (a .candidates .now)) [] (firstPlaces k)) e)
+
+pub fill-cells-spec : {M : Type 1} → statement M
+fill-cells-spec =
+    tie.close
+    (tie.spec
+    Inv-loop
+    μ-loop
+    loop-holds
+    mul-hash-of-node
+    shared-slice-read-hash-of-node
+    hash-of-node-requires
+    cast-put-cell
+    put-cell-requires
+    add-i
+    loop-less
+    loop-again
+    same-length
+    same-length-2
+    returns)

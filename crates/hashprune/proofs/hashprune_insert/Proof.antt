@@ -1,0 +1,53 @@
+-- What the sizes turn back no `Turn` has; else the steps' row is the definition's. Assumes nothing.
+use mathlib.Core.Path.{ap, _∙_}
+use mathlib.Core.List.{List}
+use lib.ListN.{length, length-map}
+use lib.Ieee.{Float}
+use Rattle.vectors.specs.Vectors.{vectorsIn, between}
+use Rattle.hashprune.specs.Steps.{turned}
+use Rattle.hashprune.proofs.Meaning.{turn-is}
+use native.Mathlib.Omega.{arith}
+use borrow.Author.Needs.{needs}
+use Rattle.hashprune.proofs.hashprune_insert.Statement.{statement}
+use Rattle.hashprune.proofs.hashprune_insert.Tie as tie
+
+returns : tie.Need-returns
+returns c = λ old t. absurd (omega (arith, c .if1 .taken, t .candidates-most))
+
+returns-2 : tie.Need-returns-2
+returns-2 c = λ old t. let a = c .before .before .before .before .before .before .before .args in absurd (omega (arith, c .if2 .taken, ap length (t .far-is) ∙ length-map (a .candidates .now) (between (vectorsIn (a .dimension) (a .vectors .now)) (a .p))))
+
+returns-3 : tie.Need-returns-3
+returns-3 c = λ old t. absurd (omega (arith, c .if3 .taken, t .row-some))
+
+returns-4 : tie.Need-returns-4
+returns-4 c = λ old t. absurd (omega (arith, c .if4 .taken, t .row-most))
+
+get-vector-requires : tie.Need-get-vector-requires
+get-vector-requires c κs = search needs
+
+insert-fitting-requires : tie.Need-insert-fitting-requires
+insert-fitting-requires c κs = search needs
+
+same-length : tie.Need-same-length
+same-length c = search needs
+
+returns-5 : tie.Need-returns-5
+returns-5 c = λ old t.
+    let a = c .before .before .before .before .before .before .before .before .before .before .before .before .before .before .args in
+    c .before .before .insert-fitting .ensures
+    ∙ ap (λ (v : List Float). turned (a .vectors .now) (a .dimension) (a .bits) (a .planes .now) v (a .candidates .now) (a .far .now) (a .row .now)) (c .before .before .before .before .get-vector .ensures)
+    ∙ turn-is (a .vectors .now) (a .dimension) (a .bits) (a .planes .now) (a .p) (a .candidates .now) (a .far .now) (a .row .now) old t
+
+pub hashprune-insert-spec : {M : Type 1} → statement M
+hashprune-insert-spec =
+    tie.close
+    (tie.spec
+    returns
+    returns-2
+    returns-3
+    returns-4
+    get-vector-requires
+    insert-fitting-requires
+    same-length
+    returns-5)

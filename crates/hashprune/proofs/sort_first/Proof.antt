@@ -1,0 +1,60 @@
+-- The first n pairs are lent and come back sorted, with what stood past them. Assumes nothing.
+use mathlib.Core.Path.{_≡_}
+use lib.ListN.{take, length-take}
+use Rattle.sorting.specs.Sorting.{fitting}
+use Rattle.hashprune.proofs.Ranked.{sorted-part}
+use native.Mathlib.Omega.{arith}
+use borrow.Author.Needs.{needs}
+use Rattle.hashprune.proofs.sort_first.Statement.{statement}
+use Rattle.hashprune.proofs.sort_first.Tie as tie
+
+slice-relend-prefix-sort-pairs : tie.Need-slice-relend-prefix-sort-pairs
+slice-relend-prefix-sort-pairs c = search needs
+
+slice-aggregate-sort-pairs : tie.Need-slice-aggregate-sort-pairs
+slice-aggregate-sort-pairs c = simp length-take (omega arith)
+
+slice-relend-prefix-sort-pairs-2 : tie.Need-slice-relend-prefix-sort-pairs-2
+slice-relend-prefix-sort-pairs-2 c = search needs
+
+slice-aggregate-sort-pairs-2 : tie.Need-slice-aggregate-sort-pairs-2
+slice-aggregate-sort-pairs-2 c = simp length-take (omega arith)
+
+sort-pairs-requires : tie.Need-sort-pairs-requires
+sort-pairs-requires c κs = search needs
+
+same-length : tie.Need-same-length
+same-length c = search needs
+
+same-length-2 : tie.Need-same-length-2
+same-length-2 c = search needs
+
+same-length-3 : tie.Need-same-length-3
+same-length-3 c = search needs
+
+same-length-4 : tie.Need-same-length-4
+same-length-4 c = search needs
+
+returns : tie.Need-returns
+returns c =
+    let s = c .before .before .before .before .before .before .before .before .before .before .before .before .before .before .before .before .before in
+    let a = s .args in
+    let t = c .before .before .before .before .before .before .before .before .sort-pairs in
+    let fit : fitting (take (a .n) (a .keys .now)) (take (a .n) (a .ids .now)) (a .spare-keys .now) (a .spare-ids .now) ≡ a .n
+    = simp length-take (omega (arith, s .pre .keys-there, s .pre .ids-there, s .pre .spare-keys-room, s .pre .spare-ids-room)) in
+    sorted-part (a .n) (a .keys .now) (a .ids .now) (s .pre .keys-there) (s .pre .ids-there) _ (t .last .0) (t .last .1 .0) fit (t .ensures)
+
+pub sort-first-spec : {M : Type 1} → statement M
+sort-first-spec =
+    tie.close
+    (tie.spec
+    slice-relend-prefix-sort-pairs
+    slice-aggregate-sort-pairs
+    slice-relend-prefix-sort-pairs-2
+    slice-aggregate-sort-pairs-2
+    sort-pairs-requires
+    same-length
+    same-length-2
+    same-length-3
+    same-length-4
+    returns)

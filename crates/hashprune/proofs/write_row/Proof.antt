@@ -1,0 +1,98 @@
+-- The invariant: the first k words are the row's. The measure is how many are left. Assumes nothing.
+use mathlib.Core.Path.{ap, _∙_}
+use Prim.Native.Nat.{ℕ, _-_}
+use lib.ListN.{length, set, take, length-set}
+use Rattle.store.specs.View.{rowBlock}
+use Rattle.hashprune.proofs.Rows.{Written, written-count, written-more, written-end}
+use borrow.Author.Needs.{needs}
+use native.Mathlib.Omega.{arith}
+use Rattle.hashprune.proofs.write_row.Statement.{statement}
+use Rattle.hashprune.proofs.write_row.Tie as tie
+
+abbrev Inv-loop : tie.InvT-loop
+Inv-loop row₀ nodes k₀ row k = Written row₀ nodes row k
+
+abbrev μ-loop : tie.MeasureT-loop
+μ-loop row₀ nodes k₀ row k = length row₀ - k
+
+sub-least : tie.Need-sub-least Inv-loop μ-loop
+sub-least c = search needs
+
+least-requires : tie.Need-least-requires Inv-loop μ-loop
+least-requires c κs = search needs
+
+cast-row : tie.Need-cast-row Inv-loop μ-loop
+cast-row c = search needs
+
+slice-write-row : tie.Need-slice-write-row Inv-loop μ-loop
+slice-write-row c = search needs
+
+loop-holds : tie.Need-loop-holds Inv-loop μ-loop
+loop-holds c =
+    let s = c .before .before .before in
+    written-count (s .args .nodes .now) (s .args .row .now) (c .least .result) (s .pre .0) (c .least .ensures)
+
+sub-node-or-zero : tie.Need-sub-node-or-zero Inv-loop μ-loop
+sub-node-or-zero c = search needs
+
+node-or-zero-requires : tie.Need-node-or-zero-requires Inv-loop μ-loop
+node-or-zero-requires c κs = search needs
+
+mul-row : tie.Need-mul-row Inv-loop μ-loop
+mul-row c =
+    let s = c .before .before .before .before .before .before in
+    let l = c .before .before .loop in
+    let long = l .inv .long ∙ length-set (s .args .row .now) 0 (c .before .before .before .least .result) in
+    omega (arith, s .good)
+
+slice-write-row-2 : tie.Need-slice-write-row-2 Inv-loop μ-loop
+slice-write-row-2 c = search needs
+
+add-k : tie.Need-add-k Inv-loop μ-loop
+add-k c =
+    let s = c .before .before .before .before .before .before in
+    let l = c .before .before .loop in
+    let long = l .inv .long ∙ length-set (s .args .row .now) 0 (c .before .before .before .least .result) in
+    omega (arith, s .good)
+
+loop-less : tie.Need-loop-less Inv-loop μ-loop
+loop-less c = search needs
+
+loop-again : tie.Need-loop-again Inv-loop μ-loop
+loop-again c =
+    let l = c .before .before .loop in
+    let a = c .before .before .before .before .before .before .args in
+    let n = c .before .before .before .least .result in
+    written-more (a .nodes .now) (set (a .row .now) 0 n) (l .row) (l .k) (c .node-or-zero .result) (omega arith) (l .inv) (c .node-or-zero .ensures)
+
+same-length : tie.Need-same-length Inv-loop μ-loop
+same-length c = c .before .loop .inv .long ∙ length-set (c .before .before .before .before .before .args .row .now) 0 (c .before .before .least .result)
+
+returns : tie.Need-returns Inv-loop μ-loop
+returns c =
+    let l = c .before .loop in
+    let a = c .before .before .before .before .before .args in
+    let n = c .before .before .least .result in
+    written-end (a .nodes .now) (set (a .row .now) 0 n) (l .row) (l .k) (omega arith) (l .inv)
+    ∙ ap (λ (m : ℕ). rowBlock (m - 1) (take (m - 1) (a .nodes .now))) (length-set (a .row .now) 0 n)
+
+pub write-row-spec : {M : Type 1} → statement M
+write-row-spec =
+    tie.close
+    (tie.spec
+    Inv-loop
+    μ-loop
+    sub-least
+    least-requires
+    cast-row
+    slice-write-row
+    loop-holds
+    sub-node-or-zero
+    node-or-zero-requires
+    mul-row
+    slice-write-row-2
+    add-k
+    loop-less
+    loop-again
+    same-length
+    returns)

@@ -1,0 +1,33 @@
+-- The places before i are offered, then those behind it (`nearest-of`). Assumes nothing.
+use Rattle.leaf_candidates.proofs.Offers.{nearest-of}
+use borrow.Author.Needs.{needs}
+use Rattle.leaf_candidates.proofs.nearest.Statement.{statement}
+use Rattle.leaf_candidates.proofs.nearest.Tie as tie
+
+offer-requires : tie.Need-offer-requires
+offer-requires c κs = search needs
+
+add-offer : tie.Need-add-offer
+add-offer c = search needs
+
+offer-requires-2 : tie.Need-offer-requires-2
+offer-requires-2 c κs = search needs
+
+same-length : tie.Need-same-length
+same-length c = search needs
+
+same-length-2 : tie.Need-same-length-2
+same-length-2 c = search needs
+
+returns : tie.Need-returns
+returns c =
+    let x = c .before .before .before .before .before .before .before .before .before .before .before .before .before .before .before .before .before .args in
+    let a = c .before .before .before .before .before .before .before .before .before .before .before .offer in
+    let b = c .before .before .before .before .offer2 in
+    nearest-of (x .floats .now) (x .lane) (x .size) (x .i) (a .result) (b .result) (x .keys .now) (x .places .now) _ _ _ _
+    (a .kept .1 .1 .1 .1 .0) (a .kept .1 .1 .1 .1 .1 .0) (b .kept .1 .1 .1 .1 .0) (b .kept .1 .1 .1 .1 .1 .0) (a .ensures) (b .ensures)
+
+pub nearest-spec : {M : Type 1} → statement M
+nearest-spec =
+    tie.close
+    (tie.spec offer-requires add-offer offer-requires-2 same-length same-length-2 returns)

@@ -1,0 +1,90 @@
+-- The invariant: the lanes below g hold their places' vectors. The measure is how many lanes are left. Assumes nothing.
+use borrow.Author.Needs.{needs}
+use native.Mathlib.Omega.{arith}
+use mathlib.Core.Path.{_≡_, refl, ap, subst, _∙_}
+use Prim.Native.Nat.{ℕ, _-_, _≤_}
+use lib.ListN.{length, getD}
+use Rattle.vectors.specs.Vectors.{vectorsIn}
+use Rattle.leaf_distances.specs.Lanes.{BlockTurned}
+use Rattle.leaf_distances.proofs.Laws.{turned-none, turned-more, vector-short}
+use Rattle.leaf_distances.proofs.turn_block.Statement.{statement}
+use Rattle.leaf_distances.proofs.turn_block.Tie as tie
+
+abbrev Inv-loop : tie.InvT-loop
+Inv-loop vectors dimension leaf first block₀ last g₀ block g = (g ≤ 8) × (length block ≡ length block₀) × BlockTurned (vectorsIn dimension vectors) leaf first g block
+
+abbrev μ-loop : tie.MeasureT-loop
+μ-loop vectors dimension leaf first block₀ last g₀ block g = 8 - g
+
+sub-last : tie.Need-sub-last Inv-loop μ-loop
+sub-last c = search needs
+
+loop-holds : tie.Need-loop-holds Inv-loop μ-loop
+loop-holds c = let x = c .before .before .before .args in (omega arith, refl, turned-none (vectorsIn (x .dimension) (x .vectors .now)) (x .leaf .now) (x .first) (x .block .now))
+
+add-at-most : tie.Need-add-at-most Inv-loop μ-loop
+add-at-most c = search needs
+
+at-most-requires : tie.Need-at-most-requires Inv-loop μ-loop
+at-most-requires c κs = search needs
+
+mul-get-vector : tie.Need-mul-get-vector Inv-loop μ-loop
+mul-get-vector c = search needs
+
+shared-slice-read-get-vector : tie.Need-shared-slice-read-get-vector Inv-loop μ-loop
+shared-slice-read-get-vector c = search needs
+
+get-vector-requires : tie.Need-get-vector-requires Inv-loop μ-loop
+get-vector-requires c κs = search needs
+
+put-lane-requires : tie.Need-put-lane-requires Inv-loop μ-loop
+put-lane-requires c κs =
+    let x = c .before .before .before .before .before .before .before .before .before .args in
+    let v = c .before .get-vector in
+    (omega arith, omega (arith, ap length (v .ensures), vector-short (x .dimension) (x .vectors .now) (getD (x .leaf .now) (c .before .before .before .at-most .result) 0)))
+
+add-g : tie.Need-add-g Inv-loop μ-loop
+add-g c = search needs
+
+loop-less : tie.Need-loop-less Inv-loop μ-loop
+loop-less c = search needs
+
+loop-again : tie.Need-loop-again Inv-loop μ-loop
+loop-again c =
+    let l = c .before .before .before .before .before .before .before .before .loop in
+    let x = c .before .before .before .before .before .before .before .before .before .before .before .before .args in (
+      omega arith,
+      c .before .before .put-lane .kept .0 ∙ l .inv .1,
+      turned-more (vectorsIn (x .dimension) (x .vectors .now)) (x .leaf .now) (x .first) (l .g) (c .before .before .before .before .before .before .at-most .result) (l .block) _ (c .before .before .before .before .get-vector .result .now) (c .before .before .before .before .before .before .before .loop-test .taken)
+          (c .before .before .before .before .before .before .at-most .ensures) (c .before .before .before .before .get-vector .ensures) (l .inv .2) (c .before .before .put-lane .ensures),
+    )
+
+same-length : tie.Need-same-length Inv-loop μ-loop
+same-length c = c .before .loop .inv .1
+
+returns : tie.Need-returns Inv-loop μ-loop
+returns c =
+    let l = c .before .loop in
+    let x = c .before .before .before .before .before .args in
+    let all : l .g ≡ 8 = omega arith in
+    subst (λ (k : ℕ). BlockTurned (vectorsIn (x .dimension) (x .vectors .now)) (x .leaf .now) (x .first) k (l .block)) all (l .inv .2)
+
+pub turn-block-spec : {M : Type 1} → statement M
+turn-block-spec =
+    tie.close
+    (tie.spec
+    Inv-loop
+    μ-loop
+    sub-last
+    loop-holds
+    add-at-most
+    at-most-requires
+    mul-get-vector
+    shared-slice-read-get-vector
+    get-vector-requires
+    put-lane-requires
+    add-g
+    loop-less
+    loop-again
+    same-length
+    returns)

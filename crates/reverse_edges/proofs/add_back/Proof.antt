@@ -1,0 +1,62 @@
+-- The neighbour's block is lent, and what comes back is put in its place (`back-put`). Assumes nothing.
+use native.Mathlib.Omega.{arith}
+use Prim.Native.Nat.{ℕ, _+_, _-_, _*_}
+use lib.ListN.{length-take, length-drop}
+use mathlib.Core.Path.{refl}
+use Rattle.reverse_edges.proofs.Laws.{place-fits, back-none, back-put}
+use borrow.Author.Needs.{needs}
+use Rattle.reverse_edges.proofs.add_back.Statement.{statement}
+use Rattle.reverse_edges.proofs.add_back.Tie as tie
+
+add-size : tie.Need-add-size
+add-size c = search needs
+
+mul-at : tie.Need-mul-at
+mul-at c = omega (arith, place-fits (c .before .args .nb) (1 + c .before .args .degree) (omega arith) (omega arith))
+
+add-end : tie.Need-add-end
+add-end c = omega (arith, place-fits (c .before .args .nb) (1 + c .before .args .degree) (omega arith) (omega arith))
+
+returns : tie.Need-returns
+returns c = let x = c .before .before .args in back-none (x .degree) (x .node) (x .nb) (x .rows .now) (c .if1 .taken)
+
+mul-add-entry : tie.Need-mul-add-entry
+mul-add-entry c = search needs
+
+sub-add-entry : tie.Need-sub-add-entry
+sub-add-entry c = search needs
+
+part-add-entry-start : tie.Need-part-add-entry-start
+part-add-entry-start c = search needs
+
+part-add-entry-end : tie.Need-part-add-entry-end
+part-add-entry-end c = search needs
+
+add-entry-requires : tie.Need-add-entry-requires
+add-entry-requires c κs = simp (length-take, length-drop) (omega arith)
+
+same-length : tie.Need-same-length
+same-length c = search needs
+
+returns-2 : tie.Need-returns-2
+returns-2 c =
+    let x = c .before .before .before .before .before .before .args in
+    let at : ℕ = x .nb * (1 + x .degree) in
+    let size : ℕ = (at + (1 + x .degree)) - at in
+    back-put (x .degree) (x .node) (x .nb) (x .rows .now) at size _ refl (omega arith) (c .before .before .add-entry .ensures)
+
+pub add-back-spec : {M : Type 1} → statement M
+add-back-spec =
+    tie.close
+    (tie.spec
+    add-size
+    mul-at
+    add-end
+    returns
+    mul-add-entry
+    sub-add-entry
+    part-add-entry-start
+    part-add-entry-end
+    add-entry-requires
+    same-length
+    returns-2)

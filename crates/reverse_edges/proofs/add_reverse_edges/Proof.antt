@@ -1,0 +1,77 @@
+-- The invariant: the nodes below i have had their turns. The measure is how many are left. Assumes nothing.
+use borrow.Author.Needs.{needs}
+use native.Mathlib.Omega.{arith}
+use Prim.Native.Nat.{_-_, _≤_}
+use mathlib.Core.Path.{_≡_, refl, _∙_}
+use lib.ListN.{length}
+use Rattle.reverse_edges.proofs.Laws.{ReversedTo, reverse-first, reverse-more, reverse-last}
+use Rattle.reverse_edges.proofs.add_reverse_edges.Statement.{statement}
+use Rattle.reverse_edges.proofs.add_reverse_edges.Tie as tie
+
+abbrev Inv-loop : tie.InvT-loop
+Inv-loop rows₀ degree size n i₀ rows i = (i ≤ n) × (length rows ≡ length rows₀) × ReversedTo degree i rows₀ rows
+
+abbrev μ-loop : tie.MeasureT-loop
+μ-loop rows₀ degree size n i₀ rows i = n - i
+
+add-size : tie.Need-add-size Inv-loop μ-loop
+add-size c = search needs
+
+div-lesser : tie.Need-div-lesser Inv-loop μ-loop
+div-lesser c = search needs
+
+lesser-requires : tie.Need-lesser-requires Inv-loop μ-loop
+lesser-requires c κs = search needs
+
+cast-n : tie.Need-cast-n Inv-loop μ-loop
+cast-n c = search needs
+
+loop-holds : tie.Need-loop-holds Inv-loop μ-loop
+loop-holds c =
+    let x = c .before .before .args in
+    (omega arith, refl, reverse-first (x .degree) (x .rows .now))
+
+add-backs-requires : tie.Need-add-backs-requires Inv-loop μ-loop
+add-backs-requires c κs = search needs
+
+add-i : tie.Need-add-i Inv-loop μ-loop
+add-i c = search needs
+
+loop-less : tie.Need-loop-less Inv-loop μ-loop
+loop-less c = search needs
+
+loop-again : tie.Need-loop-again Inv-loop μ-loop
+loop-again c =
+    let l = c .before .before .before .before .before .loop in
+    let x = c .before .before .before .before .before .before .before .before .args in (
+      omega arith,
+      c .before .before .add-backs .kept .0 ∙ l .inv .1,
+      reverse-more (x .degree) (x .rows .now) (l .i) (l .rows) _ (omega arith) (l .inv .2) (c .before .before .add-backs .ensures),
+    )
+
+same-length : tie.Need-same-length Inv-loop μ-loop
+same-length c = c .before .loop .inv .1
+
+returns : tie.Need-returns Inv-loop μ-loop
+returns c =
+    let l = c .before .loop in
+    let x = c .before .before .before .before .args in
+    reverse-last (x .degree) (x .rows .now) (l .i) (l .rows) (omega arith) (l .inv .2)
+
+pub add-reverse-edges-spec : {M : Type 1} → statement M
+add-reverse-edges-spec =
+    tie.close
+    (tie.spec
+    Inv-loop
+    μ-loop
+    add-size
+    div-lesser
+    lesser-requires
+    cast-n
+    loop-holds
+    add-backs-requires
+    add-i
+    loop-less
+    loop-again
+    same-length
+    returns)

@@ -1,0 +1,100 @@
+// Reverse edges (01, part 6), as the Rust's `add_reverse_edges` adds them to the rows of a build: node by
+// node, each goes to the end of its neighbours' rows that lack it and have room.
+//
+// The Rust copies a node's row before its turn. Here it is read in place: the turn does not change it,
+// since a node that is in its own row is not added to it again (`own-row` of proofs/Laws).
+//
+// specs/Reversed   what the functions leave of rows as a build makes them
+// proofs/Laws      a node's own row in its turn; rows stay within the degree, so the final prune changes
+//                  nothing
+ghost use mathlib.Core.Path.{_≡_};
+ghost use lib.ListN.{length};
+ghost use Prim.Native.Nat.{_≤_, min};
+ghost use Rattle.basics.specs.Nodes.{has};
+ghost use Rattle.reverse_edges.specs.Reversed.{Reversed, Turned, BackAdded, EntryAdded};
+
+// The rows of n nodes, each a count and `degree` entries, and at most 1,024 of them. Words that are no
+// such rows are left with some content.
+pub fn add_reverse_edges(rows: &mut [u32], degree: u16)
+    ensures { λ _. ⌜ Reversed degree (now (rows .entry)) (now (rows .exit)) ⌝ }
+{
+    let size = 1 + degree as usize;
+    let n = lesser(rows.len() / size, 1024) as u32;
+    let mut i: u32 = 0;
+    while i < n {
+        add_backs(rows, degree, i);
+        i += 1;
+    }
+}
+
+fn lesser(a: usize, b: usize) -> usize
+    ensures { λ r. ⌜ r ≡ min a b ⌝ }
+{
+    if a < b { a } else { b }
+}
+
+// A node's turn: it goes to the rows of its neighbours, in their order.
+fn add_backs(rows: &mut [u32], degree: u16, node: u32)
+    ensures { λ _. ⌜ Turned degree node (now (rows .entry)) (now (rows .exit)) ⌝ }
+{
+    let size = 1 + degree as usize;
+    let at = node as usize * size;
+    let first = at + 1;
+    if rows.len() < at + size {
+        return;
+    }
+    let count = lesser(rows[at] as usize, degree as usize);
+    let mut e: usize = 0;
+    while e < count {
+        let nb = rows[first + e];
+        add_back(rows, degree, node, nb);
+        e += 1;
+    }
+}
+
+// The node goes to the row of one neighbour. A neighbour that is not there is passed over.
+fn add_back(rows: &mut [u32], degree: u16, node: u32, nb: u32)
+    ensures { λ _. ⌜ BackAdded degree node nb (now (rows .entry)) (now (rows .exit)) ⌝ }
+{
+    let size = 1 + degree as usize;
+    let at = nb as usize * size;
+    let end = at + size;
+    if rows.len() < end {
+        return;
+    }
+    add_entry(&mut rows[at..end], node);
+}
+
+// One row: the node goes to its end, if the row lacks it and has room. A row's words are at most 65,536.
+fn add_entry(row: &mut [u32], node: u32)
+    requires { ⌜ length (now row) ≤ 65536 ⌝ }
+    ensures { λ _. ⌜ EntryAdded node (now (row .entry)) (now (row .exit)) ⌝ }
+{
+    if row.len() == 0 {
+        return;
+    }
+    let count = row[0];
+    let last = 1 + count as usize;
+    if row.len() <= last {
+        return;
+    }
+    let first: usize = 1;
+    if has_node(&row[first..last], node) {
+        return;
+    }
+    row[last] = node;
+    row[0] = last as u32;
+}
+
+fn has_node(row: &[u32], node: u32) -> bool
+    ensures { λ r. ⌜ r ≡ has node (now (row .entry)) ⌝ }
+{
+    let mut i: usize = 0;
+    while i < row.len() {
+        if row[i] == node {
+            return true;
+        }
+        i += 1;
+    }
+    false
+}
