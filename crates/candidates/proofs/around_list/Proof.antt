@@ -1,0 +1,36 @@
+-- The row, then the ends of bridges: a list is both. Assumes nothing.
+use mathlib.Core.Path.{ap, _∙_}
+use mathlib.Core.List.{List, []}
+use Prim.Native.Nat.{ℕ}
+use lib.ListN.{getD}
+use Rattle.vectors.specs.Vectors.{vectorsIn}
+use Rattle.chains.specs.Chains.{firstLink, linkedEnds}
+use Rattle.candidates.specs.Candidates.{consideredAll, aroundAll}
+use Rattle.candidates.specs.declared.Nearest.{Nearest}
+use Rattle.marking.specs.Marking.{listWords}
+use Rattle.lists.specs.Words.{rowLists}
+use Rattle.candidates.proofs.Steps.{around-both}
+use borrow.Author.Needs.{needs}
+use Rattle.candidates.proofs.around_list.Statement.{statement}
+use Rattle.candidates.proofs.around_list.Tie as tie
+
+row-of-requires : tie.Need-row-of-requires
+row-of-requires c κs = search needs
+
+around-row-requires : tie.Need-around-row-requires
+around-row-requires c κs = search needs
+
+around-ends-requires : tie.Need-around-ends-requires
+around-ends-requires c κs = search needs
+
+returns : tie.Need-returns
+returns c =
+    let a = c .before .before .before .before .before .before .before .before .before .args in
+    c .around-ends .ensures
+    ∙ ap (λ (b : Nearest). consideredAll (a .state .now) (a .n) (vectorsIn (a .dimension) (a .vectors .now)) (a .query .now) (aroundAll (a .own) (listWords (a .degree) (a .n) (a .rows .now) (a .bridges .now) (a .links .now)) (linkedEnds (a .n) (a .bridges .now) (a .links .now) (firstLink (a .n) (a .links .now) (a .u)))) b)
+    (c .before .around-row .ensures ∙ ap (λ (l : List ℕ). consideredAll (a .state .now) (a .n) (vectorsIn (a .dimension) (a .vectors .now)) (a .query .now) (aroundAll (a .own) (listWords (a .degree) (a .n) (a .rows .now) (a .bridges .now) (a .links .now)) l) (a .best)) (c .before .before .row-of .ensures))
+    ∙ around-both (a .state .now) (a .n) (vectorsIn (a .dimension) (a .vectors .now)) (a .query .now) (a .own) (listWords (a .degree) (a .n) (a .rows .now) (a .bridges .now) (a .links .now)) (getD (rowLists (a .degree) (a .rows .now)) (a .u) []) (linkedEnds (a .n) (a .bridges .now) (a .links .now) (firstLink (a .n) (a .links .now) (a .u))) (a .best)
+
+pub around-list-spec : {M : Type 1} → statement M
+around-list-spec =
+    tie.close (tie.spec row-of-requires around-row-requires around-ends-requires returns)

@@ -1,0 +1,44 @@
+-- The entry first, then the candidates around the lists of both nodes. Assumes nothing.
+use mathlib.Core.Path.{ap, _∙_}
+use lib.Ieee.{binary32}
+use Rattle.vectors.specs.Vectors.{vectorsIn}
+use Rattle.distance.specs.Distance.{distanceOf}
+use Rattle.marking.specs.Marking.{listWords}
+use Rattle.candidates.proofs.Steps.{start-is}
+use borrow.Author.Needs.{needs}
+use Rattle.candidates.proofs.bridge_start.Statement.{statement}
+use Rattle.candidates.proofs.bridge_start.Tie as tie
+
+get-vector-requires : tie.Need-get-vector-requires
+get-vector-requires c κs = search needs
+
+get-vector-requires-2 : tie.Need-get-vector-requires-2
+get-vector-requires-2 c κs = search needs
+
+cosine-distance-normalized-requires : tie.Need-cosine-distance-normalized-requires
+cosine-distance-normalized-requires c κs = search needs
+
+around-list-requires : tie.Need-around-list-requires
+around-list-requires c κs = search needs
+
+around-list-requires-2 : tie.Need-around-list-requires-2
+around-list-requires-2 c κs = search needs
+
+returns : tie.Need-returns
+returns c =
+    let a = c .before .before .before .before .before .before .before .before .before .before .args in
+    let d = c .before .before .cosine-distance-normalized in
+    let query = c .before .before .before .before .get-vector in
+    start-is (a .state .now) (a .n) (vectorsIn (a .dimension) (a .vectors .now)) (listWords (a .degree) (a .n) (a .rows .now) (a .bridges .now) (a .links .now)) (a .entry) (a .i) _ (d .result) (c .before .around-list .result) (c .around-list2 .result) (query .ensures)
+    (d .ensures ∙ ap (distanceOf binary32 _) (c .before .before .before .get-vector2 .ensures)) (c .before .around-list .ensures) (c .around-list2 .ensures)
+
+pub bridge-start-spec : {M : Type 1} → statement M
+bridge-start-spec =
+    tie.close
+    (tie.spec
+    get-vector-requires
+    get-vector-requires-2
+    cosine-distance-normalized-requires
+    around-list-requires
+    around-list-requires-2
+    returns)

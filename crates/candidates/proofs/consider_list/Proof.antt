@@ -1,0 +1,35 @@
+-- The row, then the ends of bridges: a list is both. Assumes nothing.
+use mathlib.Core.Path.{ap, _∙_}
+use mathlib.Core.List.{List, []}
+use Prim.Native.Nat.{ℕ}
+use lib.ListN.{getD}
+use Rattle.vectors.specs.Vectors.{vectorsIn}
+use Rattle.chains.specs.Chains.{firstLink, linkedEnds}
+use Rattle.candidates.specs.Candidates.{consideredAll}
+use Rattle.candidates.specs.declared.Nearest.{Nearest}
+use Rattle.lists.specs.Words.{rowLists}
+use Rattle.candidates.proofs.Steps.{both-lists}
+use borrow.Author.Needs.{needs}
+use Rattle.candidates.proofs.consider_list.Statement.{statement}
+use Rattle.candidates.proofs.consider_list.Tie as tie
+
+row-of-requires : tie.Need-row-of-requires
+row-of-requires c κs = search needs
+
+consider-row-requires : tie.Need-consider-row-requires
+consider-row-requires c κs = search needs
+
+consider-ends-requires : tie.Need-consider-ends-requires
+consider-ends-requires c κs = search needs
+
+returns : tie.Need-returns
+returns c =
+    let a = c .before .before .before .before .before .before .before .before .before .args in
+    c .consider-ends .ensures
+    ∙ ap (λ (b : Nearest). consideredAll (a .state .now) (a .n) (vectorsIn (a .dimension) (a .vectors .now)) (a .query .now) (linkedEnds (a .n) (a .bridges .now) (a .links .now) (firstLink (a .n) (a .links .now) (a .u))) b)
+    (c .before .consider-row .ensures ∙ ap (λ (l : List ℕ). consideredAll (a .state .now) (a .n) (vectorsIn (a .dimension) (a .vectors .now)) (a .query .now) l (a .best)) (c .before .before .row-of .ensures))
+    ∙ both-lists (a .state .now) (a .n) (vectorsIn (a .dimension) (a .vectors .now)) (a .query .now) (getD (rowLists (a .degree) (a .rows .now)) (a .u) []) (linkedEnds (a .n) (a .bridges .now) (a .links .now) (firstLink (a .n) (a .links .now) (a .u))) (a .best)
+
+pub consider-list-spec : {M : Type 1} → statement M
+consider-list-spec =
+    tie.close (tie.spec row-of-requires consider-row-requires consider-ends-requires returns)

@@ -1,0 +1,65 @@
+-- The invariant: what is left of the row from here on makes the whole. The measure is how much is left. Assumes nothing.
+use mathlib.Core.Path.{_≡_, refl, ap, _∙_}
+use Prim.Native.Nat.{_+_, _-_, _≤_}
+use lib.ListN.{length, drop}
+use Rattle.vectors.specs.Vectors.{vectorsIn}
+use Rattle.candidates.specs.Candidates.{consideredAll}
+use Rattle.candidates.specs.declared.Nearest.{Nearest}
+use Rattle.candidates.proofs.Steps.{row-step, row-end}
+use borrow.Author.Needs.{needs}
+use native.Mathlib.Omega.{arith}
+use Rattle.candidates.proofs.consider_row.Statement.{statement}
+use Rattle.candidates.proofs.consider_row.Tie as tie
+
+abbrev Inv-loop : tie.InvT-loop
+Inv-loop row state n vectors dimension query near₀ i₀ near i = (i ≤ length row) × (consideredAll state n (vectorsIn dimension vectors) query (drop i row) near ≡ consideredAll state n (vectorsIn dimension vectors) query row near₀)
+
+abbrev μ-loop : tie.MeasureT-loop
+μ-loop row state n vectors dimension query near₀ i₀ near i = length row - i
+
+loop-holds : tie.Need-loop-holds Inv-loop μ-loop
+loop-holds c = (omega arith, refl)
+
+mul-consider : tie.Need-mul-consider Inv-loop μ-loop
+mul-consider c = search needs
+
+shared-slice-read-consider : tie.Need-shared-slice-read-consider Inv-loop μ-loop
+shared-slice-read-consider c = search needs
+
+consider-requires : tie.Need-consider-requires Inv-loop μ-loop
+consider-requires c κs = search needs
+
+add-i : tie.Need-add-i Inv-loop μ-loop
+add-i c = search needs
+
+loop-less : tie.Need-loop-less Inv-loop μ-loop
+loop-less c = search needs
+
+loop-again : tie.Need-loop-again Inv-loop μ-loop
+loop-again c =
+    let l = c .before .before .before .loop in
+    let a = c .before .before .before .before .before .before .before .before .args in (
+      omega arith,
+      ap (λ (b : Nearest). consideredAll (a .state .now) (a .n) (vectorsIn (a .dimension) (a .vectors .now)) (a .query .now) (drop (l .i + 1) (a .row .now)) b) (c .consider .ensures) ∙ row-step (a .state .now) (a .n) (vectorsIn (a .dimension) (a .vectors .now)) (a .query .now) (a .row .now) (l .i) (l .near) (omega arith) ∙ l .inv .1,
+    )
+
+returns : tie.Need-returns Inv-loop μ-loop
+returns c =
+    let l = c .before .loop in
+    let a = c .before .before .before .before .before .before .args in
+    row-end (a .state .now) (a .n) (vectorsIn (a .dimension) (a .vectors .now)) (a .query .now) (a .row .now) (l .i) (l .near) (omega arith) ∙ l .inv .1
+
+pub consider-row-spec : {M : Type 1} → statement M
+consider-row-spec =
+    tie.close
+    (tie.spec
+    Inv-loop
+    μ-loop
+    loop-holds
+    mul-consider
+    shared-slice-read-consider
+    consider-requires
+    add-i
+    loop-less
+    loop-again
+    returns)

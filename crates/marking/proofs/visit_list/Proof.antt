@@ -1,0 +1,37 @@
+-- The row, then the ends of bridges: a list is both. Assumes nothing.
+use mathlib.Core.Path.{sym, ap, _∙_}
+use mathlib.Core.List.{List}
+use lib.ListN.{getD}
+use Rattle.chains.specs.Chains.{firstLink, linkedEnds}
+use Rattle.marking.specs.Marking.{marks, visitedAll}
+use Rattle.marking.proofs.Steps.{visit-both}
+use Prim.Native.Nat.{ℕ}
+use mathlib.Core.List.{[]}
+use Rattle.lists.specs.Words.{rowLists}
+use borrow.Author.Needs.{needs}
+use Rattle.marking.proofs.visit_list.Statement.{statement}
+use Rattle.marking.proofs.visit_list.Tie as tie
+
+row-of-requires : tie.Need-row-of-requires
+row-of-requires c κs = search needs
+
+visit-row-requires : tie.Need-visit-row-requires
+visit-row-requires c κs = search needs
+
+visit-ends-requires : tie.Need-visit-ends-requires
+visit-ends-requires c κs = search needs
+
+same-length : tie.Need-same-length
+same-length c = search needs
+
+returns : tie.Need-returns
+returns c =
+    let a = c .before .before .before .before .before .before .before .before .before .before .before .before .before .args in
+    let ends : List ℕ = linkedEnds (a .n) (a .bridges .now) (a .links .now) (firstLink (a .n) (a .links .now) (a .u)) in
+    c .before .before .visit-ends .ensures
+    ∙ ap (visitedAll (a .n) ends) (c .before .before .before .before .before .before .visit-row .ensures ∙ ap (λ (l : List ℕ). visitedAll (a .n) l (marks (a .state .now) (a .top))) (c .before .before .before .before .before .before .before .before .row-of .ensures))
+    ∙ sym (visit-both (a .n) (getD (rowLists (a .degree) (a .rows .now)) (a .u) []) ends (marks (a .state .now) (a .top)))
+
+pub visit-list-spec : {M : Type 1} → statement M
+visit-list-spec =
+    tie.close (tie.spec row-of-requires visit-row-requires visit-ends-requires same-length returns)
