@@ -1,0 +1,201 @@
+-- The rows, then the entry node and the bridges, make the word store of the definition. Assumes nothing.
+use mathlib.Core.Path.{_≡_, refl, sym, ap, ap₂, subst, _∙_}
+use mathlib.Core.List.{List, [], _++_, map, flatten}
+use mathlib.Core.List.{List·Memᴰ as In}
+use Prim.Native.Nat.{ℕ, _+_, _-_, _*_, _≤_, _<_}
+use native.Mathlib.Omega.{arith}
+use lib.Dec.{ltb}
+use lib.ListN.{length, getD, take, drop, set, length-set, length-drop}
+use lib.Seq.{take-at, length-take-le}
+use lib.Ieee.{Float}
+use borrow.Author.Tests.{ltb-false}
+use borrow.Rule.Slice.PartMut.{putMid}
+use Rattle.basics.specs.Nodes.{Below}
+use Rattle.basics.proofs.Tests.{both-false}
+use Rattle.params.specs.declared.PipnnParams.{PipnnParams}
+use Rattle.vectors.specs.Vectors.{vectorsIn}
+use Rattle.medoid.specs.Medoid.{computeMedoid}
+use Rattle.graph_rows.specs.Rows.{Settings, rowsOf, entryOf}
+use Rattle.graph_rows.proofs.Laws.{rows-length, rows-below}
+use Rattle.graph_utils.specs.Repair.{ensureConnectivity}
+use Rattle.store.specs.declared.Lent.the-variants.{Scratch}
+use Rattle.store.specs.Layout.{word, builtState, stateAt, dimensionAt, nodesAt, degreeAt, entryAt, bridgeCountAt, capacityAt, rowsAt, rowSize, bridgesAt, headerSize}
+use Rattle.store.specs.View.{view, rowBlock, bridgeBlock, paramsOf}
+use Rattle.store.proofs.Sizes.{product-le, Room}
+use Rattle.store.proofs.Opened.{Opened}
+use Rattle.store.proofs.Reading.{vectors-read}
+use Rattle.lists.specs.Words.{Blocks}
+use Rattle.lists.proofs.Blocks.{blocks-length}
+use Rattle.lists.proofs.Parts.{rowPart, vectorPart, vectors-part}
+use Rattle.calls.specs.Graph.{settingsOf, graphOf, graphFor}
+use Rattle.calls.specs.Build.{laid, builtHeader, builtWords}
+use Rattle.calls.proofs.Laid.{laid-there}
+use Rattle.calls.proofs.Taken.{BuildTaken}
+use Rattle.build.specs.Fits.{RowsFit, RepairFits, RepairPut, withRepair}
+use Rattle.build.proofs.Laid.{put-laid, set-laid}
+
+module _ (ws fs : ℕ) (w : List ℕ) (f : List Float) (taken : BuildTaken ws fs w f) where
+  abbrev n : ℕ
+  n = word w nodesAt
+
+  abbrev C : ℕ
+  C = word w capacityAt
+
+  abbrev D : ℕ
+  D = word w degreeAt
+
+  abbrev d : ℕ
+  d = word w dimensionAt
+
+  abbrev s : Settings
+  s = settingsOf d (paramsOf w)
+
+  abbrev vs : List (List Float)
+  vs = view w f .vectors
+
+  abbrev rows : List (List ℕ)
+  rows = rowsOf s vs
+
+  -- words 0, 9 and 10 can be set before the rows are laid
+  header-first : (part : List ℕ) (entry bridges : ℕ)
+      → set (set (set (laid (rowsAt C) part w) stateAt builtState) entryAt entry) bridgeCountAt bridges
+      ≡ laid (rowsAt C) part (set (set (set w stateAt builtState) entryAt entry) bridgeCountAt bridges)
+  header-first part entry bridges =
+      let room : rowsAt C ≤ length w = taken .stores .room .docs in
+      let one = set-laid (rowsAt C) stateAt builtState part w (omega arith) room in
+      let two = set-laid (rowsAt C) entryAt entry part (set w stateAt builtState) (omega arith) (omega (arith, length-set w stateAt builtState)) in
+      let three =
+      set-laid (rowsAt C) bridgeCountAt bridges part (set (set w stateAt builtState) entryAt entry) (omega arith)
+      (omega (arith, length-set w stateAt builtState, length-set (set w stateAt builtState) entryAt entry)) in
+      ap (λ (l : List ℕ). set (set l entryAt entry) bridgeCountAt bridges) one ∙ ap (λ (l : List ℕ). set l bridgeCountAt bridges) two ∙ three
+
+  repaired-is : (w₁ w₂ : List ℕ) → w₁ ≡ laid (rowsAt C) (flatten (map (rowBlock D) rows)) w → w₂ ≡ withRepair C D d vs rows w₁ → w₂ ≡ builtWords (graphFor (view w f)) w
+  unfolding builtWords builtHeader graphOf entryOf view
+  repaired-is w₁ w₂ laid-is repaired =
+      repaired
+      ∙ ap (withRepair C D d vs rows) laid-is
+      ∙ ap (laid (bridgesAt C D) (flatten (map bridgeBlock (ensureConnectivity rows (computeMedoid d vs) vs))))
+      (header-first (flatten (map (rowBlock D) rows)) (computeMedoid d vs) (length (ensureConnectivity rows (computeMedoid d vs) vs)))
+
+  module _ (p : PipnnParams) (p-is : p ≡ paramsOf w) (part w₁ w₂ : List ℕ)
+      (blocks : Blocks (p .«max_degree») (rowsOf (settingsOf d p) (vectorsIn d (vectorPart w f (taken .stores .room)))) part) (put : w₁ ≡ laid (rowsAt C) part w)
+      (repair : RepairPut n C D d (vectorsIn d (vectorPart w f (taken .stores .room))) w₁ w₂) where
+    vectors-are : vectorsIn d (vectorPart w f (taken .stores .room)) ≡ vs
+    vectors-are = vectors-part w f (taken .stores .room) (taken .stores .header .dimension .least)
+
+    many : length rows ≡ n
+    many = rows-length s vs ∙ vectors-read w f
+
+    below : (u : ℕ) → Below n (getD rows u [])
+    below u v m = omega (arith, rows-below s vs u v m, vectors-read w f)
+
+    these : Blocks D rows part
+    unfolding paramsOf
+    these =
+        subst (λ (l : List (List Float)). Blocks D (rowsOf s l) part) vectors-are
+        (subst (λ (q : PipnnParams). Blocks (q .«max_degree») (rowsOf (settingsOf d q) (vectorsIn d (vectorPart w f (taken .stores .room)))) part) p-is blocks)
+
+    found : Blocks D rows (take (n * rowSize D) (drop (rowsAt C) w₁))
+    found =
+        let size : length part ≡ n * rowSize D = blocks-length D rows part these ∙ ap (λ (k : ℕ). k * rowSize D) many in
+        let within : rowsAt C + length part ≤ length w = omega (arith, size, taken .stores .room .rows) in
+        let there : take (n * rowSize D) (drop (rowsAt C) w₁) ≡ part =
+        ap (λ (l : List ℕ). take (n * rowSize D) (drop (rowsAt C) l)) put
+        ∙ ap (take (n * rowSize D)) (laid-there (rowsAt C) part w within)
+        ∙ take-at part (drop (rowsAt C + length part) w) (n * rowSize D) size in
+        subst (Blocks D rows) (sym there) these
+
+    pub graph-built : w₂ ≡ builtWords (graphFor (view w f)) w
+    graph-built =
+        repaired-is w₁ w₂ (put ∙ ap (λ (l : List ℕ). laid (rowsAt C) l w) (these .words-are))
+        (subst (λ (l : List (List Float)). RepairPut n C D d l w₁ w₂) vectors-are repair rows many below found)
+
+-- ---- what the steps ask, at the numbers that were read
+
+module _ (ws fs : ℕ) (w : List ℕ) (f : List Float) (taken : BuildTaken ws fs w f) where
+  scratch-words : 64 * word w capacityAt ≤ ws
+  scratch-words = let t = both-false (ltb ws (64 * word w capacityAt)) (ltb fs (16 * word w capacityAt + 256)) (taken .stores .scratch) in ltb-false _ _ (t .0)
+
+  scratch-floats : 16 * word w capacityAt + 256 ≤ fs
+  scratch-floats = let t = both-false (ltb ws (64 * word w capacityAt)) (ltb fs (16 * word w capacityAt + 256)) (taken .stores .scratch) in ltb-false _ _ (t .1)
+
+  few : word w nodesAt ≤ 1024
+  few = omega (arith, taken .stores .header .nodes, taken .stores .header .capacity .most)
+
+  pub row-end : rowsAt (word w capacityAt) + word w nodesAt * rowSize (word w degreeAt) ≤ length w
+  row-end = taken .stores .room .rows
+
+  pub vectors-end : word w nodesAt * word w dimensionAt ≤ length f
+  vectors-end = taken .stores .room .vectors
+
+  pub degree-small : paramsOf w .«max_degree» ≤ 32
+  degree-small = taken .stores .header .params .degree-most
+
+  pub rows-fit : RowsFit (word w nodesAt) (word w dimensionAt) (paramsOf w) (rowPart w f (taken .stores .room)) (vectorPart w f (taken .stores .room)) ws fs
+  unfolding paramsOf
+  rows-fit = record {
+    most = few;
+    dimension-some = taken .stores .header .dimension .least;
+    dimension-most = taken .stores .header .dimension .most;
+    degree-most = degree-small;
+    bits-most = taken .stores .header .params .hash-bits-most;
+    leaf-some = taken .stores .header .params .leaf-least;
+    rows-are = length-take-le _ _ (omega (arith, row-end, length-drop (rowsAt (word w capacityAt)) w));
+    vectors-are = length-take-le _ _ vectors-end;
+    words-room = omega (arith, scratch-words, taken .stores .header .nodes);
+    floats-room = omega (arith, scratch-floats, taken .stores .header .nodes);
+  }
+
+  pub repair-fits : (w₁ : List ℕ) (bridges ws₁ fs₁ : ℕ) → length w₁ ≡ length w → 2048 ≤ bridges → ws₁ ≡ ws → fs₁ ≡ fs
+      → RepairFits (word w nodesAt) (word w capacityAt) (word w degreeAt) (word w dimensionAt) w₁ (vectorPart w f (taken .stores .room)) bridges ws₁ fs₁
+  unfolding paramsOf
+  repair-fits w₁ bridges ws₁ fs₁ same room words floats = record {
+    some = taken .some;
+    most = few;
+    dimension-some = taken .stores .header .dimension .least;
+    capacity = taken .stores .header .nodes;
+    capacity-most = taken .stores .header .capacity .most;
+    degree-most = taken .stores .header .degree;
+    store = omega (arith, same, taken .stores .words);
+    vectors-are = length-take-le _ _ vectors-end;
+    words-room = omega (arith, words, scratch-words, taken .stores .header .nodes);
+    bridges-room = omega (arith, room, few);
+    floats-room = omega (arith, floats, scratch-floats, taken .stores .header .dimension .most, taken .stores .header .nodes);
+  }
+
+-- ---- the same, where numbers and parts are known to be those
+
+pub rows-fit-at : (n n′ d d′ : ℕ) (p p′ : PipnnParams) (rows rows′ : List ℕ) (vectors vectors′ : List Float) (ws fs : ℕ) → n′ ≡ n → d′ ≡ d → p′ ≡ p → rows′ ≡ rows
+    → vectors′ ≡ vectors → RowsFit n d p rows vectors ws fs → RowsFit n′ d′ p′ rows′ vectors′ ws fs
+rows-fit-at n n′ d d′ p p′ rows rows′ vectors vectors′ ws fs a b c e g x =
+    subst (λ (k : ℕ). RowsFit k d′ p′ rows′ vectors′ ws fs) (sym a)
+    (subst (λ (k : ℕ). RowsFit n k p′ rows′ vectors′ ws fs) (sym b)
+    (subst (λ (q : PipnnParams). RowsFit n d q rows′ vectors′ ws fs) (sym c)
+    (subst (λ (l : List ℕ). RowsFit n d p l vectors′ ws fs) (sym e) (subst (λ (l : List Float). RowsFit n d p rows l ws fs) (sym g) x))))
+
+pub repair-fits-at : (n n′ C C′ D D′ d d′ : ℕ) (w : List ℕ) (vectors vectors′ : List Float) (bridges ws fs : ℕ) → n′ ≡ n → C′ ≡ C → D′ ≡ D → d′ ≡ d → vectors′ ≡ vectors
+    → RepairFits n C D d w vectors bridges ws fs → RepairFits n′ C′ D′ d′ w vectors′ bridges ws fs
+repair-fits-at n n′ C C′ D D′ d d′ w vectors vectors′ bridges ws fs a b c e g x =
+    subst (λ (k : ℕ). RepairFits k C′ D′ d′ w vectors′ bridges ws fs) (sym a)
+    (subst (λ (k : ℕ). RepairFits n k D′ d′ w vectors′ bridges ws fs) (sym b)
+    (subst (λ (k : ℕ). RepairFits n C k d′ w vectors′ bridges ws fs) (sym c)
+    (subst (λ (k : ℕ). RepairFits n C D k w vectors′ bridges ws fs) (sym e) (subst (λ (l : List Float). RepairFits n C D d w l bridges ws fs) (sym g) x))))
+
+repair-put-at : (n n′ C C′ D D′ d d′ : ℕ) (vectors vectors′ : List Float) (w₁ w₂ : List ℕ) → n′ ≡ n → C′ ≡ C → D′ ≡ D → d′ ≡ d → vectors′ ≡ vectors
+    → RepairPut n′ C′ D′ d′ (vectorsIn d′ vectors′) w₁ w₂ → RepairPut n C D d (vectorsIn d vectors) w₁ w₂
+repair-put-at n n′ C C′ D D′ d d′ vectors vectors′ w₁ w₂ a b c e g x =
+    subst (λ (l : List Float). RepairPut n C D d (vectorsIn d l) w₁ w₂) g
+    (subst (λ (k : ℕ). RepairPut n C D k (vectorsIn k vectors′) w₁ w₂) e
+    (subst (λ (k : ℕ). RepairPut n C k d′ (vectorsIn d′ vectors′) w₁ w₂) c
+    (subst (λ (k : ℕ). RepairPut n k D′ d′ (vectorsIn d′ vectors′) w₁ w₂) b (subst (λ (k : ℕ). RepairPut k C′ D′ d′ (vectorsIn d′ vectors′) w₁ w₂) a x))))
+
+pub graph-built-at : (ws fs : ℕ) (w : List ℕ) (f : List Float) (taken : BuildTaken ws fs w f) (n′ C′ D′ d′ : ℕ) (p : PipnnParams) (vectors : List Float) (from k : ℕ) (part w₂ : List ℕ)
+    → n′ ≡ word w nodesAt → C′ ≡ word w capacityAt → D′ ≡ word w degreeAt → d′ ≡ word w dimensionAt → p ≡ paramsOf w → vectors ≡ vectorPart w f (taken .stores .room)
+    → from ≡ rowsAt (word w capacityAt) → k ≡ length part → Blocks (p .«max_degree») (rowsOf (settingsOf d′ p) (vectorsIn d′ vectors)) part
+    → RepairPut n′ C′ D′ d′ (vectorsIn d′ vectors) (putMid from k w part) w₂ → w₂ ≡ builtWords (graphFor (view w f)) w
+graph-built-at ws fs w f taken n′ C′ D′ d′ p vectors from k part w₂ n-is C-is D-is d-is p-is vectors-are from-is size blocks repair =
+    graph-built ws fs w f taken p p-is part (putMid from k w part) w₂
+    (subst (λ (l : List Float). Blocks (p .«max_degree») (rowsOf (settingsOf (word w dimensionAt) p) (vectorsIn (word w dimensionAt) l)) part) vectors-are
+    (subst (λ (d : ℕ). Blocks (p .«max_degree») (rowsOf (settingsOf d p) (vectorsIn d vectors)) part) d-is blocks))
+    (put-laid from k w part size ∙ ap (λ (at : ℕ). laid at part w) from-is)
+    (repair-put-at (word w nodesAt) n′ (word w capacityAt) C′ (word w degreeAt) D′ (word w dimensionAt) d′ (vectorPart w f (taken .stores .room)) vectors _ w₂ n-is C-is D-is d-is vectors-are repair)

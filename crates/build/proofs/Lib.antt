@@ -1,0 +1,4 @@
+pub mod Laid
+pub mod Repairing
+pub mod Leaves
+pub mod Graph

@@ -1,0 +1,87 @@
+-- `build::build` meets its contract: a refusal has written nothing, a built store stays, and an open one gets its graph. Assumes nothing.
+use mathlib.Core.Path.{_≡_, sym, ap, _∙_}
+use mathlib.Core.List.{List}
+use Prim.Native.Nat.{ℕ}
+use lib.ListN.{length}
+use borrow.Author.Tests.{eq-eqb, ne-eqb}
+use Rattle.basics.specs.Choice.{pick-true, pick-false}
+use Rattle.basics.specs.Refusals.{firstRefusal}
+use Rattle.store.specs.View.{view}
+use Rattle.pipnn.specs.Answer.{Answer}
+use Rattle.pipnn.proofs.Answer.{left-alone, changed}
+use Rattle.calls.specs.Graph.{graphFor}
+use Rattle.calls.specs.Build.{buildChecks, builtWords, buildSpec}
+use native.Mathlib.Omega.{arith}
+use borrow.Author.Needs.{needs}
+use Rattle.build.proofs.build.Statement.{statement}
+use Rattle.build.proofs.build.Tie as tie
+
+abbrev refusal : tie.Start → ℕ
+refusal s = firstRefusal (buildChecks (length (s .args .scratch-words .now)) (length (s .args .scratch-floats .now)) (s .args .words .now) (s .args .floats .now))
+
+zero : (c : tie.Else1) → refusal (c .before .before .before .before .before .before .before) ≡ 0
+zero c = sym (c .before .build-refusal .ensures) ∙ c .if1 .left
+
+abbrev words : tie.Start → List ℕ
+words s = builtWords (graphFor (view (s .args .words .now) (s .args .floats .now))) (s .args .words .now)
+
+build-refusal-requires : tie.Need-build-refusal-requires
+build-refusal-requires c κs = search needs
+
+same-length : tie.Need-same-length
+same-length c = search needs
+
+returns : tie.Need-returns
+unfolding buildSpec
+returns c =
+    let s = c .before .before .before .before .before .before .before in
+    ap (λ (k : ℕ). (k, s .args .words .now, s .args .floats .now)) (c .before .build-refusal .ensures)
+    ∙ left-alone (refusal s) _ _ _ _ (λ e. c .if1 .taken (c .before .build-refusal .ensures ∙ e))
+
+word-at-requires : tie.Need-word-at-requires
+word-at-requires c κs = search needs
+
+same-length-2 : tie.Need-same-length-2
+same-length-2 c = search needs
+
+returns-2 : tie.Need-returns-2
+unfolding buildSpec
+returns-2 c =
+    let s = c .before .before .before .before .before .before .before .before .before .before in
+    let same = pick-true (s .args .words .now) (words s) (eq-eqb _ _ (sym (c .before .word-at .ensures) ∙ c .if2 .taken)) in
+    _∙_ {A = Answer} (λ i. (0, sym same i, s .args .floats .now)) (changed (refusal s) _ _ _ _ (zero (c .before .before .before)))
+
+build-graph-requires : tie.Need-build-graph-requires
+build-graph-requires c κs = zero (c .before .before .before .before .before .before)
+
+same-length-3 : tie.Need-same-length-3
+same-length-3 c = search needs
+
+same-length-4 : tie.Need-same-length-4
+same-length-4 c = search needs
+
+same-length-5 : tie.Need-same-length-5
+same-length-5 c = search needs
+
+returns-3 : tie.Need-returns-3
+unfolding buildSpec
+returns-3 c =
+    let s = c .before .before .before .before .before .before .before .before .before .before .before .before .before .before .before .before .before .before .before .before in
+    let graph = pick-false (s .args .words .now) (words s) (ne-eqb _ _ (λ e. c .before .before .before .before .before .before .before .before .before .before .if2 .left (c .before .before .before .before .before .before .before .before .before .before .before .word-at .ensures ∙ e))) in
+    _∙_ {A = Answer} (λ i. (0, (c .before .before .before .before .before .before .build-graph .ensures ∙ sym graph) i, s .args .floats .now)) (changed (refusal s) _ _ _ _ (zero (c .before .before .before .before .before .before .before .before .before .before .before .before .before)))
+
+pub build-spec : {M : Type 1} → statement M
+build-spec =
+    tie.close
+    (tie.spec
+    build-refusal-requires
+    same-length
+    returns
+    word-at-requires
+    same-length-2
+    returns-2
+    build-graph-requires
+    same-length-3
+    same-length-4
+    same-length-5
+    returns-3)

@@ -1,0 +1,184 @@
+-- The numbers that are read are the header's, so the parts that are lent are those of the view; the rows and then the repair make the definition's
+-- store (proofs/Graph). Assumes nothing.
+use mathlib.Core.Path.{_≡_, refl, sym, ap, ap₂, subst, _∙_}
+use mathlib.Core.List.{List}
+use Prim.Native.Nat.{ℕ, _+_, _-_, _*_, _≤_}
+use lib.ListN.{length, take, drop, length-drop, length-replicate}
+use lib.Seq.{length-take-le}
+use lib.Ieee.{Float}
+use borrow.Rule.Slice.PartMut.{same-len-mid}
+use Rattle.params.specs.declared.PipnnParams.{PipnnParams}
+use Rattle.vectors.specs.Vectors.{vectorsIn}
+use Rattle.graph_rows.specs.Rows.{rowsOf}
+use Rattle.store.specs.Layout.{word, nodesAt, dimensionAt, capacityAt, degreeAt, rowsAt, rowSize, rowAt}
+use Rattle.store.specs.View.{paramsOf}
+use Rattle.lists.specs.Words.{Blocks}
+use Rattle.lists.proofs.Parts.{rowPart, vectorPart}
+use Rattle.calls.specs.Graph.{settingsOf}
+use Rattle.calls.proofs.Taken.{BuildTaken, build-taken}
+use Rattle.build.specs.Fits.{RowsFit, RepairFits, RepairPut}
+use Rattle.build.proofs.Graph.{row-end, vectors-end, degree-small, rows-fit, rows-fit-at, repair-fits, repair-fits-at, graph-built-at}
+use Rattle.build.proofs.Laid.{put-laid}
+use native.Mathlib.Omega.{arith}
+use borrow.Author.Needs.{needs}
+use Rattle.build.proofs.build_graph.Statement.{statement}
+use Rattle.build.proofs.build_graph.Tie as tie
+
+abbrev Taken : tie.Start → Type 0
+Taken s = BuildTaken (length (s .args .scratch-words .now)) (length (s .args .scratch-floats .now)) (s .args .words .now) (s .args .floats .now)
+
+taken : (s : tie.Start) → Taken s
+taken s = build-taken _ _ _ _ (s .pre)
+
+-- ---- what has been read once all of it is
+
+abbrev start : tie.After-row-at → tie.Start
+start c = c .before .before .before .before .before .before .before .before .before .before .before .before .before .before .before .before
+
+abbrev w : tie.After-row-at → List ℕ
+w c = start c .args .words .now
+
+abbrev f : tie.After-row-at → List Float
+f c = start c .args .floats .now
+
+n-is : (c : tie.After-row-at) → c .before .before .before .before .before .before .before .before .before .before .word-at .result ≡ word (w c) nodesAt
+n-is c = c .before .before .before .before .before .before .before .before .before .before .word-at .ensures
+
+d-is : (c : tie.After-row-at) → c .before .before .before .before .before .before .before .before .word-at2 .result ≡ word (w c) dimensionAt
+d-is c = c .before .before .before .before .before .before .before .before .word-at2 .ensures
+
+C-is : (c : tie.After-row-at) → c .before .before .before .before .before .before .word-at3 .result ≡ word (w c) capacityAt
+C-is c = c .before .before .before .before .before .before .word-at3 .ensures
+
+p-is : (c : tie.After-row-at) → c .before .before .before .before .params-of .result ≡ paramsOf (w c)
+p-is c = c .before .before .before .before .params-of .ensures
+
+D-is : (c : tie.After-row-at) → c .before .before .before .before .params-of .result .«max_degree» ≡ word (w c) degreeAt
+unfolding paramsOf
+D-is c = ap (λ (q : PipnnParams). q .«max_degree») (p-is c)
+
+end-is : (c : tie.After-row-at) → c .before .before .floats-size .result ≡ word (w c) nodesAt * word (w c) dimensionAt
+end-is c = c .before .before .floats-size .ensures ∙ ap₂ (λ (x : ℕ) (y : ℕ). x * y) (n-is c) (d-is c)
+
+from-is : (c : tie.After-row-at) → c .before .rows-at .result ≡ rowsAt (word (w c) capacityAt)
+from-is c = c .before .rows-at .ensures ∙ ap rowsAt (C-is c)
+
+to-is : (c : tie.After-row-at) → c .row-at .result ≡ rowAt (word (w c) capacityAt) (word (w c) degreeAt) (word (w c) nodesAt)
+to-is c = c .row-at .ensures ∙ (λ i. rowAt (C-is c i) (D-is c i) (n-is c i))
+
+row-size-is : (c : tie.After-row-at) → c .row-at .result - c .before .rows-at .result ≡ word (w c) nodesAt * rowSize (word (w c) degreeAt)
+row-size-is c = omega (arith, to-is c, from-is c)
+
+rows-are : (c : tie.After-row-at) → take (c .row-at .result - c .before .rows-at .result) (drop (c .before .rows-at .result) (w c)) ≡ rowPart (w c) (f c) (taken (start c) .stores .room)
+rows-are c = ap₂ (λ (k : ℕ) (j : ℕ). take k (drop j (w c))) (row-size-is c) (from-is c)
+
+vectors-are : (c : tie.After-row-at) → take (c .before .before .floats-size .result) (f c) ≡ vectorPart (w c) (f c) (taken (start c) .stores .room)
+vectors-are c = ap (λ (k : ℕ). take k (f c)) (end-is c)
+
+part-within : (c : tie.After-row-at) → c .row-at .result - c .before .rows-at .result ≤ length (drop (c .before .rows-at .result) (w c))
+part-within c = omega (arith, to-is c, from-is c, row-end _ _ _ _ (taken (start c)), length-drop (c .before .rows-at .result) (w c))
+
+word-at-requires : tie.Need-word-at-requires
+word-at-requires c κs = search needs
+
+word-at-requires-2 : tie.Need-word-at-requires-2
+word-at-requires-2 c κs = search needs
+
+word-at-requires-3 : tie.Need-word-at-requires-3
+word-at-requires-3 c κs = search needs
+
+params-of-requires : tie.Need-params-of-requires
+params-of-requires c κs = search needs
+
+cast-degree : tie.Need-cast-degree
+cast-degree c =
+    let s = c .before .before .before .before .before .before .before .before .before .before .before .before .before in
+    omega (arith, ap (λ (q : PipnnParams). q .«max_degree») (c .before .params-of .ensures), degree-small _ _ _ _ (taken s))
+
+floats-size-requires : tie.Need-floats-size-requires
+floats-size-requires c κs = search needs
+
+rows-at-requires : tie.Need-rows-at-requires
+rows-at-requires c κs = search needs
+
+row-at-requires : tie.Need-row-at-requires
+row-at-requires c κs = search needs
+
+mul-put-rows : tie.Need-mul-put-rows
+mul-put-rows c = search needs
+
+sub-put-rows : tie.Need-sub-put-rows
+sub-put-rows c = search needs
+
+part-put-rows-start : tie.Need-part-put-rows-start
+part-put-rows-start c = search needs
+
+part-put-rows-end : tie.Need-part-put-rows-end
+part-put-rows-end c = omega (arith, to-is c, row-end _ _ _ _ (taken (start c)))
+
+slice-aggregate-put-rows : tie.Need-slice-aggregate-put-rows
+slice-aggregate-put-rows c = sym (length-take-le _ _ (omega (arith, end-is (c .before .before), vectors-end _ _ _ _ (taken (start (c .before .before))))))
+
+put-rows-requires : tie.Need-put-rows-requires
+put-rows-requires c κs =
+    let r = c .before .before .before .before in
+    let t = taken (start r) in
+    rows-fit-at _ _ _ _ _ _ _ _ _ _ _ _ (n-is r) (d-is r) (p-is r) (rows-are r) (vectors-are r) (rows-fit _ _ _ _ t)
+
+slice-aggregate-repair : tie.Need-slice-aggregate-repair
+slice-aggregate-repair c = sym (length-take-le _ _ (omega (arith, end-is (c .before .before .before .before .before .before .before .before .before .before .before .before .before), vectors-end _ _ _ _ (taken (start (c .before .before .before .before .before .before .before .before .before .before .before .before .before))))))
+
+slice-aggregate-repair-2 : tie.Need-slice-aggregate-repair-2
+slice-aggregate-repair-2 c = search needs
+
+repair-requires : tie.Need-repair-requires
+repair-requires c κs =
+    let r = c .before .before .before .before .before .before .before .before .before .before .before .before .before .before .before .before in
+    let put = c .before .before .before .before .before .before .before .before .before .before .before .put-rows in
+    let k : ℕ = r .row-at .result - r .before .rows-at .result in
+    repair-fits-at _ _ _ _ _ _ _ _ _ _ _ _ _ _ (n-is r) (C-is r) (D-is r) (d-is r) (vectors-are r)
+    (repair-fits _ _ _ _ (taken (start r)) _ _ _ _ (same-len-mid (r .before .rows-at .result) k (w r) (put .last .0) (put .kept .0)) (omega (arith, length-replicate {A = ℕ} 2048 0))
+    (put .kept .1 .1 .1 .1 .1 .0) (put .kept .1 .1 .1 .1 .1 .1 .0))
+
+same-length : tie.Need-same-length
+same-length c = search needs
+
+same-length-2 : tie.Need-same-length-2
+same-length-2 c = search needs
+
+same-length-3 : tie.Need-same-length-3
+same-length-3 c = search needs
+
+returns : tie.Need-returns
+returns c =
+    let r = c .before .before .before .before .before .before .before .before .before .before .before .before .before .before .before .before .before .before .before .before .before .before .before .before in
+    let put = c .before .before .before .before .before .before .before .before .before .before .before .before .before .before .before .before .before .before .before .put-rows in
+    let full = put .kept .0 ∙ length-take-le _ _ (part-within r) in
+    graph-built-at _ _ (w r) (f r) (taken (start r)) _ _ _ _ _ _ _ _ (put .last .0) _ (n-is r) (C-is r) (D-is r) (d-is r) (p-is r) (vectors-are r) (from-is r) (sym full)
+    (put .ensures) (c .before .before .before .before .before .before .before .repair .ensures)
+
+pub build-graph-spec : {M : Type 1} → statement M
+build-graph-spec =
+    tie.close
+    (tie.spec
+    word-at-requires
+    word-at-requires-2
+    word-at-requires-3
+    params-of-requires
+    cast-degree
+    floats-size-requires
+    rows-at-requires
+    row-at-requires
+    mul-put-rows
+    sub-put-rows
+    part-put-rows-start
+    part-put-rows-end
+    slice-aggregate-put-rows
+    put-rows-requires
+    slice-aggregate-repair
+    slice-aggregate-repair-2
+    repair-requires
+    same-length
+    same-length-2
+    same-length-3
+    returns)

@@ -1,0 +1,75 @@
+-- The nodes and sizes that are lent on are those of the leaves (proofs/Leaves). Assumes nothing.
+use mathlib.Core.Path.{_≡_, sym, ap}
+use mathlib.Core.List.{List}
+use Prim.Native.Nat.{ℕ, _+_, _-_, _*_, _≤_}
+use lib.ListN.{length, take, drop}
+use lib.Seq.{length-take-le}
+use Rattle.build.specs.Fits.{leafEntries}
+use Rattle.build.proofs.Leaves.{entries-most, built-from}
+use native.Mathlib.Omega.{arith}
+use borrow.Author.Needs.{needs}
+use Rattle.build.proofs.put_leaves.Statement.{statement}
+use Rattle.build.proofs.put_leaves.Tie as tie
+
+leaf-entries-requires : tie.Need-leaf-entries-requires
+leaf-entries-requires c κs = search needs
+
+mul-sizes-at : tie.Need-mul-sizes-at
+mul-sizes-at c = search needs
+
+add-sizes-end : tie.Need-add-sizes-end
+add-sizes-end c = omega arith
+
+slice-aggregate-build-leaves : tie.Need-slice-aggregate-build-leaves
+slice-aggregate-build-leaves c =
+    let s = c .before .before .before .before .before .before in
+    let few = entries-most (s .args .n) (s .args .max-leaf-size) in
+    sym (length-take-le _ _ (omega (arith, c .before .leaf-entries .ensures, few, s .pre .words-room)))
+
+mul-build-leaves : tie.Need-mul-build-leaves
+mul-build-leaves c = search needs
+
+sub-build-leaves : tie.Need-sub-build-leaves
+sub-build-leaves c = search needs
+
+part-build-leaves-start : tie.Need-part-build-leaves-start
+part-build-leaves-start c = search needs
+
+part-build-leaves-end : tie.Need-part-build-leaves-end
+part-build-leaves-end c = let s = c .before .before .before .before .before .before in omega (arith, s .pre .counted, s .pre .words-room)
+
+build-leaves-requires : tie.Need-build-leaves-requires
+build-leaves-requires c κs = search needs
+
+same-length : tie.Need-same-length
+same-length c = search needs
+
+same-length-2 : tie.Need-same-length-2
+same-length-2 c = search needs
+
+returns : tie.Need-returns
+returns c =
+    let s = c .before .before .before .before .before .before .before .before .before .before .before .before .before .before in
+    let a = s .args in
+    let build = c .before .before .before .before .build-leaves in
+    let end = c .before .before .before .before .before .before .before .before .before .leaf-entries in
+    let size : 2 * a .n + a .count - 2 * a .n ≡ a .count = omega arith in
+    built-from (a .n) (a .max-leaf-size) (a .dimension) (a .degree) (a .bits) (a .count) _ (a .vectors .now) (a .carved .now) _ _ _ _
+    (ap (λ (k : ℕ). take k (a .carved .now)) (end .ensures)) (ap (λ (k : ℕ). take k (drop (2 * a .n) (a .carved .now))) size) (build .ensures)
+
+pub put-leaves-spec : {M : Type 1} → statement M
+put-leaves-spec =
+    tie.close
+    (tie.spec
+    leaf-entries-requires
+    mul-sizes-at
+    add-sizes-end
+    slice-aggregate-build-leaves
+    mul-build-leaves
+    sub-build-leaves
+    part-build-leaves-start
+    part-build-leaves-end
+    build-leaves-requires
+    same-length
+    same-length-2
+    returns)
