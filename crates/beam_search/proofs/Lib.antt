@@ -1,0 +1,3 @@
+mod Taking
+mod Walking
+mod Ending

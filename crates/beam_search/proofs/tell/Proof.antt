@@ -1,0 +1,99 @@
+-- `beam_search::tell` meets its contract: so far the first i are told, and the rest is what it was. The measure is how many are left. Assumes nothing.
+use mathlib.Core.Path.{_≡_, refl, ap, ap₂, _∙_}
+use mathlib.Core.Bool.{false}
+use mathlib.Core.List.{List}
+use Prim.Native.Nat.{_-_, _≤_}
+use lib.ListN.{length, getD, set}
+use lib.Ieee.{Float, inf}
+use Rattle.beam_search.proofs.Ending.{told, told-length, told-more}
+use borrow.Author.Needs.{needs}
+use native.Mathlib.Omega.{arith}
+use Rattle.beam_search.proofs.tell.Statement.{statement}
+use Rattle.beam_search.proofs.tell.Tie as tie
+
+abbrev Inv-loop : tie.InvT-loop
+Inv-loop distances₀ nodes floats count many i₀ distances i = (i ≤ many) × (distances ≡ told (λ v. getD floats v (inf false)) nodes distances₀ i)
+
+abbrev μ-loop : tie.MeasureT-loop
+μ-loop distances₀ nodes floats count many i₀ distances i = many - i
+
+-- as many as both slices have
+room : (c : tie.After-least2 Inv-loop μ-loop) → (c .least2 .result ≤ length (c .before .before .before .before .before .args .nodes .now)) × (c .least2 .result ≤ length (c .before .before .before .before .before .args .distances .now))
+room c = let e1 = c .least2 .ensures in let e2 = c .before .least .ensures in (omega arith, omega arith)
+
+kept : (c : tie.At-loop Inv-loop μ-loop) → length (c .loop .distances) ≡ length (c .before .before .before .before .before .before .args .distances .now)
+kept c =
+    let a = c .before .before .before .before .before .before .args in
+    let m = room (c .before) in
+    ap length (c .loop .inv .1) ∙ told-length (λ v. getD (a .floats .now) v (inf false)) (a .nodes .now) (a .distances .now) (c .loop .i) (omega (arith, c .loop .inv .0)) (omega (arith, c .loop .inv .0))
+
+least-requires : tie.Need-least-requires Inv-loop μ-loop
+least-requires c κs = search needs
+
+least-requires-2 : tie.Need-least-requires-2 Inv-loop μ-loop
+least-requires-2 c κs = search needs
+
+loop-holds : tie.Need-loop-holds Inv-loop μ-loop
+loop-holds c = (omega arith, refl)
+
+mul-distance-of : tie.Need-mul-distance-of Inv-loop μ-loop
+mul-distance-of c = search needs
+
+shared-slice-read-distance-of : tie.Need-shared-slice-read-distance-of Inv-loop μ-loop
+shared-slice-read-distance-of c = search needs
+
+distance-of-requires : tie.Need-distance-of-requires Inv-loop μ-loop
+distance-of-requires c κs = search needs
+
+mul-distances : tie.Need-mul-distances Inv-loop μ-loop
+mul-distances c = search needs
+
+slice-write-distances : tie.Need-slice-write-distances Inv-loop μ-loop
+slice-write-distances c = let k = kept (c .before .before .before) in let m = room (c .before .before .before .before) in omega arith
+
+add-i : tie.Need-add-i Inv-loop μ-loop
+add-i c = omega arith
+
+loop-less : tie.Need-loop-less Inv-loop μ-loop
+loop-less c = omega arith
+
+loop-again : tie.Need-loop-again Inv-loop μ-loop
+loop-again c =
+    let a = (c .before .before .before .before .before .before .before .before .before) .args in
+    let l = c .before .before .before .loop in
+    let m = room (c .before .before .before .before) in
+    let t = c .before .before .loop-test .taken in
+    (omega arith, ap₂ (λ (x : List Float) (y : Float). set x (l .i) y) (l .inv .1) (c .distance-of .ensures) ∙ told-more (λ v. getD (a .floats .now) v (inf false)) (a .nodes .now) (a .distances .now) (l .i) (omega arith) (omega arith))
+
+same-length : tie.Need-same-length Inv-loop μ-loop
+same-length c = kept (c .before)
+
+returns : tie.Need-returns Inv-loop μ-loop
+returns c =
+    let a = (c .before .before .before .before .before .before .before) .args in
+    let l = c .before .loop in
+    let e1 = c .before .before .least2 .ensures in
+    let e2 = c .before .before .before .least .ensures in
+    λ h k.
+    let all : l .i ≡ a .count = omega (arith, l .inv .0, c .loop-test .left) in
+    l .inv .1 ∙ ap (told (λ v. getD (a .floats .now) v (inf false)) (a .nodes .now) (a .distances .now)) all
+
+pub tell-spec : {M : Type 1} → statement M
+tell-spec =
+    tie.close
+    (tie.spec
+    Inv-loop
+    μ-loop
+    least-requires
+    least-requires-2
+    loop-holds
+    mul-distance-of
+    shared-slice-read-distance-of
+    distance-of-requires
+    mul-distances
+    slice-write-distances
+    add-i
+    loop-less
+    loop-again
+    same-length
+    returns)

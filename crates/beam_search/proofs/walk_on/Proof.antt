@@ -1,0 +1,77 @@
+-- `beam_search::walk_on` meets its contract: the walk of the definition by the steps that are left is the whole. The measure is how many are left. Assumes nothing.
+use mathlib.Core.Path.{_∙_}
+use Rattle.vectors.specs.Vectors.{vectorsIn}
+use Rattle.beam.specs.Beam.{farFrom}
+use Rattle.beam_search.specs.Search.{listIn}
+use Rattle.beam_search.proofs.Walking.{Onward, onward-none, onward-more, onward-ends, onward-all}
+use borrow.Author.Needs.{needs}
+use native.Mathlib.Omega.{arith}
+use Rattle.beam_search.proofs.walk_on.Statement.{statement}
+use Rattle.beam_search.proofs.walk_on.Tie as tie
+
+abbrev Inv-loop : tie.InvT-loop
+Inv-loop words₀ floats₀ nodes₀ query vectors dimension rows degree bridges size places now₀ left₀ words floats nodes now left =
+    Onward (farFrom query (vectorsIn dimension vectors)) size places (listIn size degree rows bridges) words₀ floats₀ nodes₀ now₀ words floats nodes now left
+
+abbrev μ-loop : tie.MeasureT-loop
+μ-loop words₀ floats₀ nodes₀ query vectors dimension rows degree bridges size places now₀ left₀ words floats nodes now left =
+    left
+
+loop-holds : tie.Need-loop-holds Inv-loop μ-loop
+loop-holds c = let a = (c .before .before .before .before .before .before .before) .args in onward-none (farFrom (a .query .now) (vectorsIn (a .dimension) (a .vectors .now))) (a .size) (a .places) (listIn (a .size) (a .degree) (a .rows .now) (a .bridges .now)) (a .words .now) (a .floats .now) (a .nodes .now) (a .walk)
+
+sub-left : tie.Need-sub-left Inv-loop μ-loop
+sub-left c = search needs
+
+step-requires : tie.Need-step-requires Inv-loop μ-loop
+step-requires c κs = let o = c .before .before .before .before .loop .inv .words-kept in omega (arith, (c .before .before .before .before .before .before .before .before .before .before .before .before) .pre)
+
+same-length : tie.Need-same-length Inv-loop μ-loop
+same-length c = c .before .before .before .before .before .before .before .before .step .kept .0 ∙ c .before .before .before .before .before .before .before .before .before .before .before .before .before .loop .inv .words-kept
+
+same-length-2 : tie.Need-same-length-2 Inv-loop μ-loop
+same-length-2 c = c .before .before .before .before .before .before .before .before .step .kept .1 .0 ∙ c .before .before .before .before .before .before .before .before .before .before .before .before .before .loop .inv .floats-kept
+
+same-length-3 : tie.Need-same-length-3 Inv-loop μ-loop
+same-length-3 c = c .before .before .before .before .before .before .before .before .step .kept .1 .1 .0 ∙ c .before .before .before .before .before .before .before .before .before .before .before .before .before .loop .inv .nodes-kept
+
+returns : tie.Need-returns Inv-loop μ-loop
+returns c = let l = c .before .before .before .before .before .before .before .before .before .before .before .before .before .loop in let s = c .before .before .before .before .before .before .before .before .step in onward-ends (l .inv) (s .last .0) (s .last .1 .0) (s .last .1 .1 .0) (s .result .walk) (s .result .done) (c .before .before .before .before .before .before .before .before .before .before .before .before .loop-test .taken) (s .ensures) (c .if1 .taken)
+
+loop-less : tie.Need-loop-less Inv-loop μ-loop
+loop-less c = search needs
+
+loop-again : tie.Need-loop-again Inv-loop μ-loop
+loop-again c = let l = c .before .before .before .before .before .before .before .before .before .before .before .before .before .loop in let s = c .before .before .before .before .before .before .before .before .step in onward-more (l .inv) (s .last .0) (s .last .1 .0) (s .last .1 .1 .0) (s .result .walk) (s .result .done) (c .before .before .before .before .before .before .before .before .before .before .before .before .loop-test .taken) (s .ensures) (c .if1 .left) (s .kept .0) (s .kept .1 .0) (s .kept .1 .1 .0)
+
+same-length-4 : tie.Need-same-length-4 Inv-loop μ-loop
+same-length-4 c = c .before .loop .inv .words-kept
+
+same-length-5 : tie.Need-same-length-5 Inv-loop μ-loop
+same-length-5 c = c .before .loop .inv .floats-kept
+
+same-length-6 : tie.Need-same-length-6 Inv-loop μ-loop
+same-length-6 c = c .before .loop .inv .nodes-kept
+
+returns-2 : tie.Need-returns-2 Inv-loop μ-loop
+returns-2 c = onward-all (c .before .loop .inv) (c .loop-test .left)
+
+pub walk-on-spec : {M : Type 1} → statement M
+walk-on-spec =
+    tie.close
+    (tie.spec
+    Inv-loop
+    μ-loop
+    loop-holds
+    sub-left
+    step-requires
+    same-length
+    same-length-2
+    same-length-3
+    returns
+    loop-less
+    loop-again
+    same-length-4
+    same-length-5
+    same-length-6
+    returns-2)

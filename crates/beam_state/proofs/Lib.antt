@@ -1,0 +1,4 @@
+pub mod Parts
+pub mod Pushed
+mod Answers
+mod Pushing

@@ -1,0 +1,74 @@
+-- `beam_state::push_all` meets its contract: the first i of the fresh nodes are pushed, and the words up to the fresh nodes stay. The measure is how many
+-- are left. Assumes nothing.
+use mathlib.Core.Path.{refl}
+use Prim.Native.Nat.{_-_}
+use Rattle.beam_state.proofs.Pushing.{Going, going-none, going-more, going-all}
+use borrow.Author.Needs.{needs}
+use native.Mathlib.Omega.{arith}
+use Rattle.beam_state.proofs.push_all.Statement.{statement}
+use Rattle.beam_state.proofs.push_all.Tie as tie
+
+abbrev Inv-loop : tie.InvT-loop
+Inv-loop words₀ floats nodes₀ size places count many now₀ i₀ words nodes now i = Going size places count many floats words₀ nodes₀ now₀ words nodes now i
+
+abbrev μ-loop : tie.MeasureT-loop
+μ-loop words₀ floats nodes₀ size places count many now₀ i₀ words nodes now i = many - i
+
+returns : tie.Need-returns Inv-loop μ-loop
+returns c = (refl, λ long. absurd (omega (arith, c .if1 .taken)))
+
+least-requires : tie.Need-least-requires Inv-loop μ-loop
+least-requires c κs = search needs
+
+loop-holds : tie.Need-loop-holds Inv-loop μ-loop
+loop-holds c = let a = (c .before .before .before .before .before) .args in going-none (a .size) (a .places) (a .count) (c .least .result) (a .floats .now) (a .words .now) (a .nodes .now) (a .walk)
+
+add-node : tie.Need-add-node Inv-loop μ-loop
+add-node c = omega (arith, (c .before .before .before) .if1 .left, (c .before .before) .least .ensures, c .loop-test .taken)
+
+mul-node : tie.Need-mul-node Inv-loop μ-loop
+mul-node c = search needs
+
+slice-read-node : tie.Need-slice-read-node Inv-loop μ-loop
+slice-read-node c = search needs
+
+push-requires : tie.Need-push-requires Inv-loop μ-loop
+push-requires c κs = let g = c .before .before .before .before .loop .inv .words-kept in omega (arith, (c .before .before .before .before .before .before) .if1 .left)
+
+add-i : tie.Need-add-i Inv-loop μ-loop
+add-i c = search needs
+
+loop-less : tie.Need-loop-less Inv-loop μ-loop
+loop-less c = search needs
+
+loop-again : tie.Need-loop-again Inv-loop μ-loop
+loop-again c = let l = c .before .before .before .before .before .before .before .before .before .loop in let p = c .before .before .before .before .push in going-more (l .inv) (c .before .before .before .before .before .before .before .before .before .before .least .ensures) (c .before .before .before .before .before .before .before .before .loop-test .taken) (omega (arith, c .before .before .before .before .before .before .before .before .before .before .before .if1 .left)) (p .kept .0) (p .kept .1 .1 .0) (p .ensures .0) (p .ensures .1)
+
+same-length : tie.Need-same-length Inv-loop μ-loop
+same-length c = c .before .loop .inv .words-kept
+
+same-length-2 : tie.Need-same-length-2 Inv-loop μ-loop
+same-length-2 c = c .before .loop .inv .nodes-kept
+
+returns-2 : tie.Need-returns-2 Inv-loop μ-loop
+returns-2 c = let l = c .before .loop in (l .inv .frame, going-all (l .inv) (c .before .before .least .ensures) (c .loop-test .left))
+
+pub push-all-spec : {M : Type 1} → statement M
+push-all-spec =
+    tie.close
+    (tie.spec
+    Inv-loop
+    μ-loop
+    returns
+    least-requires
+    loop-holds
+    add-node
+    mul-node
+    slice-read-node
+    push-requires
+    add-i
+    loop-less
+    loop-again
+    same-length
+    same-length-2
+    returns-2)

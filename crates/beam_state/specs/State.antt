@@ -1,0 +1,71 @@
+-- What a walk keeps between its steps (01, part 8), in words and in a struct: the frontier, the held, the cutoff and the first few of what is scored.
+use mathlib.Core.Path.{_≡_}
+use mathlib.Core.List.{List, [], _∷_, _++_, map, reverse}
+use mathlib.Core.List.{List·Memᴰ as In}
+use Prim.Native.Nat.{ℕ, _-_, _*_, _≤_, _<_, min}
+use lib.ListN.{length, take, drop}
+use lib.Ieee.{Float}
+use Rattle.basics.specs.Nodes.{NoDup, Below}
+use Rattle.sorting.specs.Sorting.{firstBy, pairs, keyIn, both}
+use Rattle.walk.specs.Walk.{State}
+use Rattle.beam.specs.KeepClosest.{keyAt, heldOf, cutoffOf}
+use Rattle.beam.specs.Beam.{toFrontier}
+use Rattle.queues.specs.Queues.{frontRank, heldRank, Queue, Known}
+use Rattle.beam_state.specs.declared.Walk.{Walk}
+
+-- the words from place a on, up to place e
+abbrev pub part : ℕ → ℕ → List ℕ → List ℕ
+part a e words = take (e - a) (drop a words)
+
+-- a node with its key
+abbrev pub pairOf : (ℕ → Float) → ℕ → ℕ × ℕ
+pairOf far v = (keyAt far v, v)
+
+-- The first few of what is scored stand in two slices, the keys and the nodes, in front of what the nodes' slice had before.
+pub record Answer (far : ℕ → Float) (nodes₀ keys nodes : List ℕ) (kept : ℕ) (seen : List ℕ) : Type 0 where
+  pub pairs-are : pairs (take kept keys) (take kept nodes) ≡ firstBy keyIn (both keys nodes) (map (pairOf far) (reverse seen))
+  pub nodes-are : nodes ≡ firstBy (keyAt far) (both keys nodes) (reverse seen) ++ drop kept nodes₀
+  pub kept-is : kept ≡ min (both keys nodes) (length seen)
+  pub long : length nodes ≡ length nodes₀
+
+-- Words, nodes and counts in which a walk over n nodes with b places stands that has seen these nodes, and has these in its frontier.
+pub record Standing (far : ℕ → Float) (n b : ℕ) (nodes₀ words nodes : List ℕ) (walk : Walk) (seen front : List ℕ) : Type 0 where
+  pub frontier : Queue (frontRank far) n front (part (2 * n) (6 * n) words)
+  pub held : Queue (heldRank far) n (heldOf far b seen) (part (6 * n) (10 * n) words)
+  pub held-count : walk .held ≡ length (heldOf far b seen)
+  pub cutoff-is : walk .cutoff ≡ cutoffOf far b seen
+  pub answer : Answer far nodes₀ (part (10 * n) (11 * n) words) nodes (walk .kept) seen
+  pub scored-is : walk .scored ≡ length seen
+  pub once : NoDup seen
+  pub inside : Below n seen
+  pub sub : (x : ℕ) → In x front → In x seen
+
+-- one node more
+abbrev pub Pushing : ℕ → ℕ → ℕ → List Float → List ℕ → List ℕ → List ℕ → List ℕ → Walk → Walk → Type 0
+Pushing n b v floats words words′ nodes nodes′ walk r =
+    (far : ℕ → Float) (nodes₀ seen front : List ℕ)
+    → Known far n (v ∷ seen) floats
+    → v < n
+    → (In v seen → ⊥)
+    → Standing far n b nodes₀ words nodes walk seen front
+    → Standing far n b nodes₀ words′ nodes′ r (v ∷ seen) (toFrontier far v front)
+
+-- several, one after the other
+unfoldable pub pushed : (ℕ → Float) → List ℕ → State → State
+unfolding toFrontier
+pushed far [] s = s
+pushed far (v ∷ vs) s = pushed far vs (record { seen = v ∷ s .seen; front = toFrontier far v (s .front) })
+
+-- the first `count` of the fresh nodes, which are all different and all new, and have their distances
+abbrev pub PushingAll : ℕ → ℕ → ℕ → List Float → List ℕ → List ℕ → List ℕ → List ℕ → Walk → Walk → Type 0
+PushingAll n b count floats words words′ nodes nodes′ walk r =
+    11 * n ≤ length words →
+    (far : ℕ → Float) (nodes₀ fresh : List ℕ) (s : State)
+    → fresh ≡ take count (drop n words)
+    → count ≡ length fresh
+    → count ≤ n
+    → NoDup (pushed far fresh s .seen)
+    → Below n (pushed far fresh s .seen)
+    → Known far n (pushed far fresh s .seen) floats
+    → Standing far n b nodes₀ words nodes walk (s .seen) (s .front)
+    → Standing far n b nodes₀ words′ nodes′ r (pushed far fresh s .seen) (pushed far fresh s .front)

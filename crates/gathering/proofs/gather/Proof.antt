@@ -1,0 +1,43 @@
+-- `gathering::gather` meets its contract: the row, then the other ends, which together are the node's list. Assumes nothing.
+use mathlib.Core.Path.{subst}
+use mathlib.Core.List.{List, []}
+use Prim.Native.Nat.{ℕ}
+use lib.ListN.{getD}
+use Rattle.basics.specs.Graph.{otherEnds, listOf}
+use Rattle.lists.specs.Words.{rowLists, bridgeList}
+use Rattle.gathering.specs.Gathering.{Gathering}
+use Rattle.gathering.proofs.Steps.{gathering-then}
+use native.Mathlib.Omega.{arith}
+use borrow.Author.Needs.{needs}
+use Rattle.gathering.proofs.gather.Statement.{statement}
+use Rattle.gathering.proofs.gather.Tie as tie
+
+returns : tie.Need-returns
+returns c = λ long. absurd (omega (arith, c .if1 .taken))
+
+row-of-requires : tie.Need-row-of-requires
+row-of-requires c κs = search needs
+
+visit-all-requires : tie.Need-visit-all-requires
+visit-all-requires c κs = search needs
+
+visit-ends-requires : tie.Need-visit-ends-requires
+visit-ends-requires c κs = search needs
+
+same-length : tie.Need-same-length
+same-length c = search needs
+
+returns-2 : tie.Need-returns-2
+unfolding listOf
+returns-2 c =
+    let a = (c .before .before .before .before .before .before .before .before .before .before .before .before .before) .args in
+    let all = c .before .before .before .before .before .before .visit-all in
+    let ends = c .before .before .visit-ends in
+    λ long. gathering-then (getD (rowLists (a .degree) (a .rows .now)) (a .node) []) (otherEnds (bridgeList (a .bridges .now)) (a .node))
+    (subst (λ (l : List ℕ). Gathering (a .size) 0 l (a .words .now) (all .last .0) (all .result)) (c .before .before .before .before .before .before .before .before .row-of .ensures) (all .ensures))
+    (ends .ensures)
+
+pub gather-spec : {M : Type 1} → statement M
+gather-spec =
+    tie.close
+    (tie.spec returns row-of-requires visit-all-requires visit-ends-requires same-length returns-2)

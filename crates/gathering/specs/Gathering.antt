@@ -1,0 +1,44 @@
+-- The fresh nodes of a list (01, part 8: a node is scored at most once), and the words that hold marks and fresh nodes while a walk looks at a list.
+use mathlib.Core.Path.{_≡_}
+use mathlib.Core.List.{List, [], _∷_, _++_}
+use Prim.Native.Nat.{ℕ, _+_, _≤_, _<_}
+use lib.Dec.{ltb}
+use lib.ListN.{length, getD, take, drop}
+use Rattle.basics.specs.Choice.{pick}
+use Rattle.basics.specs.Nodes.{has, NoDup, Below}
+
+-- the nodes seen, latest first, and those of them that are fresh, in order
+pub record Fresh : Type 0 where
+  pub seen : List ℕ
+  pub fresh : List ℕ
+
+-- a node of the first n that is not seen yet is seen, and fresh
+unfoldable pub visitOne : ℕ → ℕ → Fresh → Fresh
+unfolding pick has
+visitOne n v g = pick (ltb v n) (pick (has v (g .seen)) g (record { seen = v ∷ g .seen; fresh = g .fresh ++ (v ∷ []) })) g
+
+unfoldable pub gatherAll : ℕ → List ℕ → Fresh → Fresh
+unfolding visitOne
+gatherAll n [] g = g
+gatherAll n (v ∷ vs) g = gatherAll n vs (visitOne n v g)
+
+-- Words that hold this: a mark for each node, then the fresh ones; what stands behind both is `tail`.
+pub record Gathered (n : ℕ) (tail words : List ℕ) (count : ℕ) (g : Fresh) : Type 0 where
+  pub marks : (v : ℕ) → v < n → getD words v 0 ≡ pick (has v (g .seen)) 1 0
+  pub buffer : take count (drop n words) ≡ g .fresh
+  pub count-is : count ≡ length (g .fresh)
+  pub behind : drop (n + n) words ≡ tail
+  pub once : NoDup (g .seen)
+  pub inside : Below n (g .seen)
+  pub fewer : length (g .fresh) ≤ length (g .seen)
+
+-- words in which a list has been looked at
+abbrev pub Gathering : ℕ → ℕ → List ℕ → List ℕ → List ℕ → ℕ → Type 0
+Gathering n count list words words′ r =
+    (tail : List ℕ) (g : Fresh)
+    → Gathered n tail words count g
+    → Gathered n tail words′ r (gatherAll n list g)
+
+-- from the first fresh node on
+abbrev pub GatheringAll : ℕ → List ℕ → List ℕ → List ℕ → ℕ → Type 0
+GatheringAll n list words words′ r = n + n ≤ length words → Gathering n 0 list words words′ r

@@ -1,0 +1,26 @@
+-- `queues::enter` meets its contract: the key is that of the node's distance. Assumes nothing.
+use Rattle.queues.proofs.Steps.{entering}
+use borrow.Author.Needs.{needs}
+use Rattle.queues.proofs.enter.Statement.{statement}
+use Rattle.queues.proofs.enter.Tie as tie
+
+distance-of-requires : tie.Need-distance-of-requires
+distance-of-requires c κs = search needs
+
+key-requires : tie.Need-key-requires
+key-requires c κs = search needs
+
+put-requires : tie.Need-put-requires
+put-requires c κs = search needs
+
+same-length : tie.Need-same-length
+same-length c = search needs
+
+returns : tie.Need-returns
+returns c =
+    let a = (c .before .before .before .before .before .before .before .before) .args in
+    entering (a .node) (a .floats .now) (a .tree .now) (c .before .before .put .last .0) (c .before .before .before .before .before .distance-of .result) (c .before .before .before .before .key .result) (c .before .before .before .before .before .distance-of .ensures) (c .before .before .before .before .key .ensures) (c .before .before .put .ensures)
+
+pub enter-spec : {M : Type 1} → statement M
+enter-spec =
+    tie.close (tie.spec distance-of-requires key-requires put-requires same-length returns)

@@ -1,0 +1,45 @@
+-- `queues::pop` meets its contract: the first pair's id is the first node's, or all ones where there is none. Assumes nothing.
+use mathlib.Core.Path.{ap}
+use Rattle.tournament.specs.declared.Pair.{Pair}
+use Rattle.queues.proofs.Steps.{pop-empty, pop-at}
+use native.Mathlib.Omega.{arith}
+use borrow.Author.Needs.{needs}
+use Rattle.queues.proofs.pop.Statement.{statement}
+use Rattle.queues.proofs.pop.Tie as tie
+
+first-requires : tie.Need-first-requires
+first-requires c κs = search needs
+
+same-length : tie.Need-same-length
+same-length c = search needs
+
+returns : tie.Need-returns
+returns c =
+    let a = (c .before .before .before .before .before) .args in
+    pop-empty (a .floats .now) (a .tree .now) (a .tree .now) (c .before .first .result .id) (ap (λ (p : Pair). p .id) (c .before .first .ensures)) (omega (arith, c .before .before .before .before .slice-known .given 2)) (omega (arith, c .before .before .before .before .slice-known .given 3)) (c .if1 .taken)
+
+put-requires : tie.Need-put-requires
+put-requires c κs = search needs
+
+distance-of-requires : tie.Need-distance-of-requires
+distance-of-requires c κs = search needs
+
+same-length-2 : tie.Need-same-length-2
+same-length-2 c = search needs
+
+returns-2 : tie.Need-returns-2
+returns-2 c =
+    let a = (c .before .before .before .before .before .before .before .before .before .before) .args in
+    pop-at (a .floats .now) (a .tree .now) (c .before .before .before .put .last .0) (c .before .before .before .before .before .before .first .result .id) (ap (λ (p : Pair). p .id) (c .before .before .before .before .before .before .first .ensures)) (omega (arith, c .before .before .before .before .before .before .before .before .before .slice-known .given 2)) (omega (arith, c .before .before .before .before .before .before .before .before .before .slice-known .given 3)) (c .before .before .before .before .before .if1 .left) (c .distance-of .result) (c .distance-of .ensures) (c .before .before .before .put .ensures)
+
+pub pop-spec : {M : Type 1} → statement M
+pop-spec =
+    tie.close
+    (tie.spec
+    first-requires
+    same-length
+    returns
+    put-requires
+    distance-of-requires
+    same-length-2
+    returns-2)

@@ -1,0 +1,29 @@
+-- `scoring::score_eight` meets its contract: eight at once are one after the other. Assumes nothing.
+use mathlib.Core.Path.{ap, _∙_}
+use Rattle.simd.specs.declared.Eight.{Eight}
+use Rattle.vectors.specs.Vectors.{vectorsIn}
+use Rattle.beam.specs.Beam.{farFrom}
+use Rattle.scoring.specs.Scoring.{placedEight}
+use Rattle.scoring.proofs.Laws.{eight-are}
+use borrow.Author.Needs.{needs}
+use Rattle.scoring.proofs.score_eight.Statement.{statement}
+use Rattle.scoring.proofs.score_eight.Tie as tie
+
+eight-requires : tie.Need-eight-requires
+eight-requires c κs = search needs
+
+place-eight-requires : tie.Need-place-eight-requires
+place-eight-requires c κs = search needs
+
+same-length : tie.Need-same-length
+same-length c = search needs
+
+returns : tie.Need-returns
+returns c =
+    let a = (c .before .before .before .before .before .before .before .before .before) .args in
+    c .before .before .place-eight .ensures
+    ∙ ap (λ (x : Eight). placedEight (a .nodes .now) (a .at) x (a .floats .now)) (c .before .before .before .before .eight .ensures)
+    ∙ eight-are (farFrom (a .query .now) (vectorsIn (a .dimension) (a .vectors .now))) (a .nodes .now) (a .at) (a .floats .now) ((c .before .before .before .before .before .before .before .before .before) .pre)
+
+pub score-eight-spec : {M : Type 1} → statement M
+score-eight-spec = tie.close (tie.spec eight-requires place-eight-requires same-length returns)

@@ -1,0 +1,38 @@
+-- `scoring::score_one` meets its contract: the distance to the node's vector. Assumes nothing.
+use mathlib.Core.Path.{ap, _∙_}
+use lib.ListN.{set}
+use lib.Ieee.{binary32}
+use Rattle.distance.specs.Distance.{distanceOf}
+use Rattle.beam.specs.Beam.{farFrom}
+use borrow.Author.Needs.{needs}
+use Rattle.scoring.proofs.score_one.Statement.{statement}
+use Rattle.scoring.proofs.score_one.Tie as tie
+
+get-vector-requires : tie.Need-get-vector-requires
+get-vector-requires c κs = search needs
+
+cosine-distance-normalized-requires : tie.Need-cosine-distance-normalized-requires
+cosine-distance-normalized-requires c κs = search needs
+
+place-requires : tie.Need-place-requires
+place-requires c κs = search needs
+
+same-length : tie.Need-same-length
+same-length c = search needs
+
+returns : tie.Need-returns
+unfolding farFrom
+returns c =
+    let a = (c .before .before .before .before .before .before .before .before .before) .args in
+    c .before .before .place .ensures
+    ∙ ap (set (a .floats .now) (a .node)) (c .before .before .before .before .cosine-distance-normalized .ensures ∙ ap (distanceOf binary32 (a .query .now)) (c .before .before .before .before .before .get-vector .ensures))
+
+pub score-one-spec : {M : Type 1} → statement M
+score-one-spec =
+    tie.close
+    (tie.spec
+    get-vector-requires
+    cosine-distance-normalized-requires
+    place-requires
+    same-length
+    returns)

@@ -1,0 +1,69 @@
+-- `scoring::score_rest` meets its contract: what is left from place i on is the whole. The measure is how many are left. Assumes nothing.
+use mathlib.Core.Path.{_≡_, refl, sym, ap, _∙_}
+use Prim.Native.Nat.{_+_, _-_}
+use lib.ListN.{length, drop}
+use Rattle.vectors.specs.Vectors.{vectorsIn}
+use Rattle.beam.specs.Beam.{farFrom}
+use Rattle.scoring.specs.Scoring.{scoredAt}
+use Rattle.scoring.proofs.Laws.{scored-step, scored-end}
+use borrow.Author.Needs.{needs}
+use Rattle.scoring.proofs.score_rest.Statement.{statement}
+use Rattle.scoring.proofs.score_rest.Tie as tie
+
+abbrev Inv-loop : tie.InvT-loop
+Inv-loop floats₀ query vectors dimension nodes from i₀ floats i = (length floats ≡ length floats₀) × (scoredAt (farFrom query (vectorsIn dimension vectors)) (drop i nodes) floats ≡ scoredAt (farFrom query (vectorsIn dimension vectors)) (drop from nodes) floats₀)
+
+abbrev μ-loop : tie.MeasureT-loop
+μ-loop floats₀ query vectors dimension nodes from i₀ floats i = length nodes - i
+
+loop-holds : tie.Need-loop-holds Inv-loop μ-loop
+loop-holds c = (refl, refl)
+
+mul-score-one : tie.Need-mul-score-one Inv-loop μ-loop
+mul-score-one c = search needs
+
+shared-slice-read-score-one : tie.Need-shared-slice-read-score-one Inv-loop μ-loop
+shared-slice-read-score-one c = search needs
+
+score-one-requires : tie.Need-score-one-requires Inv-loop μ-loop
+score-one-requires c κs = search needs
+
+add-i : tie.Need-add-i Inv-loop μ-loop
+add-i c = search needs
+
+loop-less : tie.Need-loop-less Inv-loop μ-loop
+loop-less c = search needs
+
+loop-again : tie.Need-loop-again Inv-loop μ-loop
+loop-again c =
+    let a = (c .before .before .before .before .before .before .before .before .before .before .before) .args in
+    let l = c .before .before .before .before .before .before .loop in
+    let s = c .before .before .score-one in (
+      s .kept .0 ∙ l .inv .0,
+      ap (scoredAt (farFrom (a .query .now) (vectorsIn (a .dimension) (a .vectors .now))) (drop (l .i + 1) (a .nodes .now))) (s .ensures) ∙ scored-step (farFrom (a .query .now) (vectorsIn (a .dimension) (a .vectors .now))) (a .nodes .now) (l .i) (l .floats) (c .before .before .before .before .before .loop-test .taken) ∙ l .inv .1,
+    )
+
+same-length : tie.Need-same-length Inv-loop μ-loop
+same-length c = c .before .loop .inv .0
+
+returns : tie.Need-returns Inv-loop μ-loop
+returns c =
+    let a = (c .before .before .before .before .before .before) .args in
+    let l = c .before .loop in
+    sym (scored-end (farFrom (a .query .now) (vectorsIn (a .dimension) (a .vectors .now))) (a .nodes .now) (l .i) (l .floats) (c .loop-test .left)) ∙ l .inv .1
+
+pub score-rest-spec : {M : Type 1} → statement M
+score-rest-spec =
+    tie.close
+    (tie.spec
+    Inv-loop
+    μ-loop
+    loop-holds
+    mul-score-one
+    shared-slice-read-score-one
+    score-one-requires
+    add-i
+    loop-less
+    loop-again
+    same-length
+    returns)
