@@ -1,0 +1,4 @@
+pub mod Inside
+pub mod Answer
+pub mod Replying
+pub mod Replies

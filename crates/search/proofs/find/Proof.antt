@@ -1,0 +1,75 @@
+-- The query stands scaled at the front of the room, which is long enough for any that is not turned back. Assumes nothing.
+use mathlib.Core.Path.{sym, ap, _∙_}
+use mathlib.Core.List.{List}
+use Prim.Native.Nat.{_≤_}
+use lib.ListN.{length, take}
+use lib.Seq.{length-take-le}
+use lib.Ieee.{Float}
+use Rattle.store.specs.View.{view}
+use Rattle.beam.specs.Beam.{farFrom}
+use Rattle.search.specs.Giving.{replyBy}
+use Rattle.search.proofs.Replies.{query-short, room-is, room-long, room-length, ready, reply-is}
+use native.Mathlib.Omega.{arith}
+use borrow.Author.Needs.{needs}
+use Rattle.search.proofs.find.Statement.{statement}
+use Rattle.search.proofs.find.Tie as tie
+
+short : (s : tie.Start) → length (s .args .query .now) ≤ 64
+short s = query-short _ _ (s .args .words .now) (s .args .floats .now) (s .args .query .now) (s .args .k) (s .args .ef) (s .args .docs .now) (s .args .distances .now) (s .pre)
+
+array-borrow-prefix-room : tie.Need-array-borrow-prefix-room
+array-borrow-prefix-room c = omega (arith, short (c .before .before .before .before .before .before .before))
+
+slice-aggregate-scale-into : tie.Need-slice-aggregate-scale-into
+slice-aggregate-scale-into c = sym (length-take-le _ _ (short (c .before .before .before .before .before .before .before .before)))
+
+scale-into-requires : tie.Need-scale-into-requires
+scale-into-requires c κs = length-take-le _ _ (short (c .before .before .before .before .before .before .before .before))
+
+array-share-prefix-room : tie.Need-array-share-prefix-room
+array-share-prefix-room c = room-long _ _ _ (c .before .scale-into .ensures)
+
+slice-aggregate-find-scaled : tie.Need-slice-aggregate-find-scaled
+slice-aggregate-find-scaled c = sym (room-length _ _ _ (c .before .before .scale-into .ensures))
+
+find-scaled-requires : tie.Need-find-scaled-requires
+find-scaled-requires c κs =
+    let s = c .before .before .before .before .before .before .before .before .before .before .before .before .before .before .before in
+    let a = s .args in
+    ready _ _ (a .words .now) (a .floats .now) (a .query .now) (a .k) (a .ef) (a .docs .now) (a .distances .now) (s .pre) _ (room-length _ _ _ (c .before .before .before .before .before .before .scale-into .ensures))
+
+same-length : tie.Need-same-length
+same-length c = search needs
+
+same-length-2 : tie.Need-same-length-2
+same-length-2 c = search needs
+
+same-length-3 : tie.Need-same-length-3
+same-length-3 c = search needs
+
+same-length-4 : tie.Need-same-length-4
+same-length-4 c = search needs
+
+returns : tie.Need-returns
+returns c =
+    let s = c .before .before .before .before .before .before .before .before .before .before .before .before .before .before .before .before .before .before .before .before .before .before .before .before in
+    let a = s .args in
+    c .before .before .before .before .before .before .before .before .find-scaled .ensures
+    ∙ ap (λ (l : List Float). replyBy (farFrom l (view (a .words .now) (a .floats .now) .vectors)) (view (a .words .now) (a .floats .now)) (a .k) (a .ef) (a .docs .now) (a .distances .now)) (room-is _ _ _ (c .before .before .before .before .before .before .before .before .before .before .before .before .before .before .before .scale-into .ensures))
+    ∙ reply-is 0 0 (a .words .now) (a .floats .now) (a .query .now) (a .k) (a .ef) (a .docs .now) (a .distances .now)
+
+pub find-spec : {M : Type 1} → statement M
+find-spec =
+    tie.close
+    (tie.spec
+    array-borrow-prefix-room
+    slice-aggregate-scale-into
+    scale-into-requires
+    array-share-prefix-room
+    slice-aggregate-find-scaled
+    find-scaled-requires
+    same-length
+    same-length-2
+    same-length-3
+    same-length-4
+    returns)

@@ -1,0 +1,135 @@
+-- The parts lie in the stores, and what the walk over them leaves is the reply (proofs/Replying). Assumes nothing.
+use mathlib.Core.Path.{sym}
+use lib.Seq.{length-take-le}
+use Rattle.search.proofs.Replying as replying
+use native.Mathlib.Omega.{arith}
+use borrow.Author.Needs.{needs}
+use Rattle.search.proofs.find_scaled.Statement.{statement}
+use Rattle.search.proofs.find_scaled.Tie as tie
+
+parts-of-requires : tie.Need-parts-of-requires
+parts-of-requires c κs =
+    let s = c .before .before .before .before .before .before .before in
+    replying.stores _ _ _ (s .args .k) (s .args .ef) _ _ _ _ (s .pre) .header .degree
+
+abbrev Fit : tie.After-parts-of → Type 0
+Fit c =
+    let s = c .before .before .before .before .before .before .before .before in
+    replying.PartsFit (s .args .words .now) (s .args .floats .now) (s .args .scaled .now) (s .args .k) (s .args .ef) (s .args .docs .now) (s .args .distances .now) _ _ (s .pre) (c .parts-of .result)
+
+fit : (c : tie.After-parts-of) → Fit c
+fit c = replying.parts-fit _ _ _ _ _ _ _ _ _ _ (c .parts-of .result) (c .parts-of .ensures)
+
+wanted-requires : tie.Need-wanted-requires
+wanted-requires c κs = search needs
+
+larger-requires : tie.Need-larger-requires
+larger-requires c κs = search needs
+
+slice-aggregate-beam-search : tie.Need-slice-aggregate-beam-search
+slice-aggregate-beam-search c = sym (length-take-le _ _ (fit (c .before .before .before) .vectors-end))
+
+mul-beam-search : tie.Need-mul-beam-search
+mul-beam-search c = omega (arith, fit (c .before .before .before) .rows-small)
+
+sub-beam-search : tie.Need-sub-beam-search
+sub-beam-search c = search needs
+
+part-beam-search-start : tie.Need-part-beam-search-start
+part-beam-search-start c = search needs
+
+part-beam-search-end : tie.Need-part-beam-search-end
+part-beam-search-end c = fit (c .before .before .before) .rows-end
+
+mul-beam-search-2 : tie.Need-mul-beam-search-2
+mul-beam-search-2 c = omega (arith, fit (c .before .before .before .before) .bridges-small)
+
+sub-beam-search-2 : tie.Need-sub-beam-search-2
+sub-beam-search-2 c = search needs
+
+part-beam-search-start-2 : tie.Need-part-beam-search-start-2
+part-beam-search-start-2 c = search needs
+
+part-beam-search-end-2 : tie.Need-part-beam-search-end-2
+part-beam-search-end-2 c = fit (c .before .before .before .before) .bridges-end
+
+slice-relend-prefix-beam-search : tie.Need-slice-relend-prefix-beam-search
+slice-relend-prefix-beam-search c = search needs
+
+slice-aggregate-beam-search-2 : tie.Need-slice-aggregate-beam-search-2
+slice-aggregate-beam-search-2 c =
+    let s = c .before .before .before .before .before .before .before .before .before .before .before .before .before .before in
+    sym (length-take-le _ _ (omega (arith, c .before .before .before .before .before .wanted .ensures, s .pre .docs-room)))
+
+slice-relend-prefix-beam-search-2 : tie.Need-slice-relend-prefix-beam-search-2
+slice-relend-prefix-beam-search-2 c = search needs
+
+slice-aggregate-beam-search-3 : tie.Need-slice-aggregate-beam-search-3
+slice-aggregate-beam-search-3 c =
+    let s = c .before .before .before .before .before .before .before .before .before .before .before .before .before .before .before in
+    sym (length-take-le _ _ (omega (arith, c .before .before .before .before .before .before .wanted .ensures, s .pre .distances-room)))
+
+beam-search-requires : tie.Need-beam-search-requires
+beam-search-requires c κs = search needs
+
+cast-put-docs : tie.Need-cast-put-docs
+cast-put-docs c = search needs
+
+put-docs-requires : tie.Need-put-docs-requires
+put-docs-requires c κs =
+    let s = c .before .before .before .before .before .before .before .before .before .before .before .before .before .before .before .before .before .before .before .before .before .before .before .before .before .before .before .before in
+    let a = s .args in
+    let beam = c .before .before .before .before .before .before .before .before .before .before .beam-search in
+    replying.count-fits (a .words .now) (a .floats .now) (a .scaled .now) (a .k) (a .ef) (a .docs .now) (a .distances .now) _ _ (s .pre) (c .before .before .before .before .before .before .before .before .before .before .before .before .before .before .before .before .before .before .before .before .parts-of .result) (c .before .before .before .before .before .before .before .before .before .before .before .before .before .before .before .before .before .before .before .before .parts-of .ensures)
+    (c .before .before .before .before .before .before .before .before .before .before .before .before .before .before .before .before .before .before .before .wanted .result) (c .before .before .before .before .before .before .before .before .before .before .before .before .before .before .before .before .before .before .larger .result) (c .before .before .before .before .before .before .before .before .before .before .before .before .before .before .before .before .before .before .before .wanted .ensures) (c .before .before .before .before .before .before .before .before .before .before .before .before .before .before .before .before .before .before .larger .ensures)
+    (beam .last .1 .1 .1 .1 .1 .1 .1 .0) (beam .last .1 .1 .1 .1 .1 .1 .1 .1 .0) (beam .result) (beam .ensures)
+
+same-length : tie.Need-same-length
+same-length c = search needs
+
+same-length-2 : tie.Need-same-length-2
+same-length-2 c = search needs
+
+same-length-3 : tie.Need-same-length-3
+same-length-3 c = search needs
+
+same-length-4 : tie.Need-same-length-4
+same-length-4 c = search needs
+
+returns : tie.Need-returns
+returns c =
+    let s = c .before .before .before .before .before .before .before .before .before .before .before .before .before .before .before .before .before .before .before .before .before .before .before .before .before .before .before .before .before .before .before in
+    let a = s .args in
+    let beam = c .before .before .before .before .before .before .before .before .before .before .before .before .before .beam-search in
+    replying.reply (a .words .now) (a .floats .now) (a .scaled .now) (a .k) (a .ef) (a .docs .now) (a .distances .now) _ _ (s .pre) (c .before .before .before .before .before .before .before .before .before .before .before .before .before .before .before .before .before .before .before .before .before .before .before .parts-of .result) (c .before .before .before .before .before .before .before .before .before .before .before .before .before .before .before .before .before .before .before .before .before .before .before .parts-of .ensures)
+    (c .before .before .before .before .before .before .before .before .before .before .before .before .before .before .before .before .before .before .before .before .before .before .wanted .result) (c .before .before .before .before .before .before .before .before .before .before .before .before .before .before .before .before .before .before .before .before .before .larger .result) (c .before .before .before .before .before .before .before .before .before .before .before .before .before .before .before .before .before .before .before .before .before .before .wanted .ensures) (c .before .before .before .before .before .before .before .before .before .before .before .before .before .before .before .before .before .before .before .before .before .larger .ensures)
+    (beam .last .1 .1 .1 .1 .1 .1 .1 .0) (beam .last .1 .1 .1 .1 .1 .1 .1 .1 .0) (beam .result) (beam .ensures) (c .before .before .put-docs .last .1 .0) (c .before .before .put-docs .ensures)
+
+pub find-scaled-spec : {M : Type 1} → statement M
+find-scaled-spec =
+    tie.close
+    (tie.spec
+    parts-of-requires
+    wanted-requires
+    larger-requires
+    slice-aggregate-beam-search
+    mul-beam-search
+    sub-beam-search
+    part-beam-search-start
+    part-beam-search-end
+    mul-beam-search-2
+    sub-beam-search-2
+    part-beam-search-start-2
+    part-beam-search-end-2
+    slice-relend-prefix-beam-search
+    slice-aggregate-beam-search-2
+    slice-relend-prefix-beam-search-2
+    slice-aggregate-beam-search-3
+    beam-search-requires
+    cast-put-docs
+    put-docs-requires
+    same-length
+    same-length-2
+    same-length-3
+    same-length-4
+    returns)

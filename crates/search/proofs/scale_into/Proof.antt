@@ -1,0 +1,27 @@
+-- The copy is the query, since it is as long, and then it is scaled. Assumes nothing.
+use mathlib.Core.Path.{ap, _∙_}
+use lib.Ieee.{binary32}
+use Rattle.norm.specs.Norm.{scaledOf}
+use Rattle.slices.proofs.Laws.{copied-whole}
+use native.Mathlib.Omega.{arith}
+use borrow.Author.Needs.{needs}
+use Rattle.search.proofs.scale_into.Statement.{statement}
+use Rattle.search.proofs.scale_into.Tie as tie
+
+copy-floats-requires : tie.Need-copy-floats-requires
+copy-floats-requires c κs = search needs
+
+normalize-requires : tie.Need-normalize-requires
+normalize-requires c κs = search needs
+
+same-length : tie.Need-same-length
+same-length c = search needs
+
+returns : tie.Need-returns
+returns c =
+    let a = c .before .before .before .before .before .before .before .before .before .before .args in
+    let copy = c .before .before .before .before .before .before .copy-floats in
+    c .before .before .normalize .ensures ∙ ap (scaledOf binary32) (copy .ensures ∙ copied-whole (a .out .now) (a .query .now) (omega arith))
+
+pub scale-into-spec : {M : Type 1} → statement M
+scale-into-spec = tie.close (tie.spec copy-floats-requires normalize-requires same-length returns)

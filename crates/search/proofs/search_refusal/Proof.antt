@@ -1,0 +1,141 @@
+-- `search::search_refusal` meets its contract: the checks that every call begins with, then at each place those before it have passed.
+-- Assumes nothing.
+use mathlib.Core.Path.{_≡_, sym, ap, _∙_}
+use mathlib.Core.Bool.{Bool, false, not, _||_}
+use mathlib.Core.List.{List}
+use Prim.Native.Nat.{ℕ}
+use lib.Dec.{ltb}
+use lib.ListN.{length, take}
+use borrow.Author.Tests.{eq-eqb, ne-eqb, not-true, not-false}
+use borrow.Author.Needs.{needs}
+use Rattle.basics.specs.Refusals.{Check, firstRefusal}
+use Rattle.basics.proofs.Refusals.{Pass, turned-at, none-turned, then-first, then-second}
+use Rattle.store.specs.declared.Lent.the-variants.{Scratch}
+use Rattle.store.specs.Opening.{opening}
+use Rattle.store.proofs.Opened.{opening-numbered}
+use Rattle.calls.specs.Search.{ownSearchChecks, searchChecks}
+use Rattle.search.proofs.search_refusal.Statement.{statement}
+use Rattle.search.proofs.search_refusal.Tie as tie
+
+abbrev First : tie.Start → List Check
+First s = opening (Scratch (s .args .scratch-words) (s .args .scratch-floats)) (s .args .words .now) (s .args .floats .now)
+
+abbrev Own : tie.Start → List Check
+Own s = ownSearchChecks (s .args .words .now) (s .args .query .now) (s .args .k) (s .args .ef) (s .args .docs .now) (s .args .distances .now)
+
+abbrev refusal : tie.Start → ℕ
+refusal s =
+    firstRefusal
+    (searchChecks (s .args .words .now) (s .args .query .now) (s .args .k) (s .args .ef) (s .args .docs .now) (s .args .distances .now) (s .args .scratch-words) (s .args .scratch-floats) (s .args .floats .now))
+
+-- past the checks that every call begins with, its own count
+own : (c : tie.Else1) → firstRefusal (Own (c .before .before .before .before .before .before .before)) ≡ refusal (c .before .before .before .before .before .before .before)
+unfolding searchChecks
+own c =
+    let s = c .before .before .before .before .before .before .before in
+    sym (then-second (First s) (Own s) (opening-numbered (Scratch (s .args .scratch-words) (s .args .scratch-floats)) (s .args .words .now) (s .args .floats .now)) (sym (c .before .opening-refusal .ensures) ∙ c .if1 .left))
+
+-- what has passed at each place
+passed-1 : (c : tie.Else2) → Pass (take 1 (Own (c .before .before .before .before .before .before .before .before .before)))
+unfolding ownSearchChecks
+passed-1 c = (ap not (eq-eqb _ _ (sym (c .before .word-at .ensures) ∙ c .if2 .left)), tt)
+
+passed-2 : (c : tie.Else3) → Pass (take 2 (Own (c .before .before .before .before .before .before .before .before .before .before .before)))
+unfolding ownSearchChecks
+passed-2 c = (passed-1 (c .before .before) .0, (ap not (eq-eqb _ _ (c .if3 .left ∙ c .before .word-at2 .ensures)), tt))
+
+passed-3 : (c : tie.Else4) → Pass (take 3 (Own (c .before .before .before .before .before .before .before .before .before .before .before .before .before)))
+unfolding ownSearchChecks
+passed-3 c =
+    let t = passed-2 (c .before .before) in
+    (t .0, (t .1 .0, (ap not (sym (c .before .all-finite .ensures) ∙ not-false _ (c .if4 .left)), tt)))
+
+passed-4 : (c : tie.Else5) → Pass (take 4 (Own (c .before .before .before .before .before .before .before .before .before .before .before .before .before .before)))
+unfolding ownSearchChecks
+passed-4 c =
+    let t = passed-3 (c .before) in
+    (t .0, (t .1 .0, (t .1 .1 .0, (c .if5 .left, tt))))
+
+-- the outputs' room, by the number that was worked out
+rooms : (docs : List ℕ) (n : ℕ) (k k′ : ℕ) (b : Bool) → k ≡ k′ → (ltb (length docs) k || ltb n k) ≡ b → (ltb (length docs) k′ || ltb n k′) ≡ b
+rooms docs n k k′ b e h = ap (λ (m : ℕ). ltb (length docs) m || ltb n m) (sym e) ∙ h
+
+opening-refusal-requires : tie.Need-opening-refusal-requires
+opening-refusal-requires c κs = search needs
+
+returns : tie.Need-returns
+unfolding searchChecks
+returns c =
+    c .before .opening-refusal .ensures
+    ∙ sym (then-first (First (c .before .before .before .before .before .before .before)) (Own (c .before .before .before .before .before .before .before)) (λ e. c .if1 .taken (c .before .opening-refusal .ensures ∙ e)))
+
+word-at-requires : tie.Need-word-at-requires
+word-at-requires c κs = search needs
+
+returns-2 : tie.Need-returns-2
+unfolding ownSearchChecks
+returns-2 c =
+    turned-at 0 (Own (c .before .before .before .before .before .before .before .before .before)) tt (ap not (ne-eqb _ _ (λ e. c .if2 .taken (c .before .word-at .ensures ∙ e)))) ∙ own (c .before .before)
+
+word-at-requires-2 : tie.Need-word-at-requires-2
+word-at-requires-2 c κs = search needs
+
+cast-if3 : tie.Need-cast-if3
+cast-if3 c = search needs
+
+returns-3 : tie.Need-returns-3
+unfolding ownSearchChecks
+returns-3 c =
+    turned-at 1 (Own (c .before .before .before .before .before .before .before .before .before .before .before)) (passed-1 (c .before .before))
+    (ap not (ne-eqb _ _ (λ e. c .if3 .taken (e ∙ sym (c .before .word-at2 .ensures)))))
+    ∙ own (c .before .before .before .before)
+
+all-finite-requires : tie.Need-all-finite-requires
+all-finite-requires c κs = search needs
+
+returns-4 : tie.Need-returns-4
+unfolding ownSearchChecks
+returns-4 c =
+    turned-at 2 (Own (c .before .before .before .before .before .before .before .before .before .before .before .before .before)) (passed-2 (c .before .before))
+    (ap not (sym (c .before .all-finite .ensures) ∙ not-true _ (c .if4 .taken)))
+    ∙ own (c .before .before .before .before .before .before)
+
+returns-5 : tie.Need-returns-5
+unfolding ownSearchChecks
+returns-5 c = turned-at 3 (Own (c .before .before .before .before .before .before .before .before .before .before .before .before .before .before)) (passed-3 (c .before)) (c .if5 .taken) ∙ own (c .before .before .before .before .before .before .before)
+
+wanted-requires : tie.Need-wanted-requires
+wanted-requires c κs = search needs
+
+returns-6 : tie.Need-returns-6
+unfolding ownSearchChecks
+returns-6 c =
+    let s = c .before .before .before .before .before .before .before .before .before .before .before .before .before .before .before .before in
+    turned-at 4 (Own s) (passed-4 (c .before .before)) (rooms (s .args .docs .now) (length (s .args .distances .now)) _ _ _ (c .before .wanted .ensures) (c .if6 .taken)) ∙ own (c .before .before .before .before .before .before .before .before .before)
+
+returns-7 : tie.Need-returns-7
+unfolding ownSearchChecks
+returns-7 c =
+    let t = passed-4 (c .before .before) in
+    let s = c .before .before .before .before .before .before .before .before .before .before .before .before .before .before .before .before in
+    none-turned (Own s)
+    (t .0, (t .1 .0, (t .1 .1 .0, (t .1 .1 .1 .0, (rooms (s .args .docs .now) (length (s .args .distances .now)) _ _ _ (c .before .wanted .ensures) (c .if6 .left), tt)))))
+    ∙ own (c .before .before .before .before .before .before .before .before .before)
+
+pub search-refusal-spec : {M : Type 1} → statement M
+search-refusal-spec =
+    tie.close
+    (tie.spec
+    opening-refusal-requires
+    returns
+    word-at-requires
+    returns-2
+    word-at-requires-2
+    cast-if3
+    returns-3
+    all-finite-requires
+    returns-4
+    returns-5
+    wanted-requires
+    returns-6
+    returns-7)
