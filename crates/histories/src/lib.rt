@@ -1,16 +1,18 @@
 // The recorded histories of calls (recorded/README.md): two stores are kept from line to line, some lines set
 // them or say how much of them is lent, and the others ask for a call's number or for what the stores hold.
 //
-// Each function below is for one kind of line, which stands above it; those whose names end in `_is_same`
-// work out the answer by this project's calls and say whether it is the recorded one. All are proved safe on
-// lines and stores of any content, and nothing more.
+// Here are the lines that prepare, those of `new` and add, and those that ask for what the stores hold; the
+// crate graph_histories has those of builds, searches and leaves. Each function below is for one kind of
+// line, which stands above it; those whose names end in `_is_same` work out the answer by this project's
+// calls and say whether it is the recorded one. All are proved safe on lines and stores of any content, and
+// nothing more.
 ghost use Prim.Native.Nat.{_≤_};
 use ids::DocId;
 use params::PipnnParams;
 
-// What a history has come to, besides the content of its stores: how many words and floats they have, how
-// many of them are lent, and whether a build that is not replayed closed them. A float keeps no pattern of a
-// NaN, so the last one that a line set is kept here, with its place.
+// What a history has come to, besides the content of its stores: how many words and floats they have, and
+// how many of them are lent. A float keeps no pattern of a NaN, so the last one that a line set is kept here,
+// with its place.
 pub struct History {
     pub words: usize,
     pub floats: usize,
@@ -18,7 +20,6 @@ pub struct History {
     pub lent_floats: usize,
     pub nan_at: usize,
     pub nan_bits: u32,
-    pub closed: bool,
 }
 
 // Before the first `fill`.
@@ -30,12 +31,11 @@ pub fn start() -> History {
         lent_floats: 0,
         nan_at: 0,
         nan_bits: 0,
-        closed: false,
     }
 }
 
 // What `fill` puts into the words, and into the floats.
-fn scatter_words(words: &mut [u32], seed: u64) {
+pub fn scatter_words(words: &mut [u32], seed: u64) {
     let mut x = seed;
     let mut i: usize = 0;
     while i < words.len() {
@@ -45,7 +45,7 @@ fn scatter_words(words: &mut [u32], seed: u64) {
     }
 }
 
-fn scatter_floats(floats: &mut [f32], seed: u64) {
+pub fn scatter_floats(floats: &mut [f32], seed: u64) {
     let mut x = seed;
     let mut i: usize = 0;
     while i < floats.len() {
@@ -69,7 +69,6 @@ pub fn fill(tokens: &[u64], words: &mut [u32], floats: &mut [f32]) -> History {
         lent_floats: f,
         nan_at: 0,
         nan_bits: 0,
-        closed: false,
     }
 }
 
@@ -82,7 +81,6 @@ pub fn lend(tokens: &[u64], h: History) -> History {
         lent_floats: replay::size(tokens, 0, 1),
         nan_at: h.nan_at,
         nan_bits: h.nan_bits,
-        closed: h.closed,
     }
 }
 
@@ -115,7 +113,6 @@ pub fn set_float(tokens: &[u64], floats: &mut [f32], h: History) -> History {
         lent_floats: h.lent_floats,
         nan_at: i,
         nan_bits: replay::word(tokens, 0, 1),
-        closed: h.closed,
     }
 }
 
@@ -215,7 +212,7 @@ fn generate_near(vector: &mut [f32], centre: u64, noise: u64) {
 
 // Vector i of those that a seed and a style give, where r is the state that the last one left. Answers the
 // state that it leaves.
-fn generate(vector: &mut [f32], seed: u64, style: u64, i: u64, r: u64) -> u64 {
+pub fn generate(vector: &mut [f32], seed: u64, style: u64, i: u64, r: u64) -> u64 {
     if style == 2 {
         generate_plain(vector, false, std::num::wrapping_add_u64(seed, i % 7));
         return r;
@@ -286,12 +283,13 @@ pub fn adds_is_same(
 }
 
 // A checksum with one more pattern.
-fn sum_on(sum: u64, x: u32) -> u64 {
-    lcg::next(x as u64 + 1, sum)
+pub fn sum_on(before: u64, x: u32) -> u64 {
+    lcg::next(x as u64 + 1, before)
 }
 
-fn sum_words(words: &[u32]) -> u64 {
-    let mut sum: u64 = 0;
+// A checksum with more words.
+pub fn sum_words(before: u64, words: &[u32]) -> u64 {
+    let mut sum = before;
     let mut i: usize = 0;
     while i < words.len() {
         sum = sum_on(sum, words[i]);
@@ -326,21 +324,26 @@ pub fn sum_is_same(
     floats: &[f32],
     h: History,
 ) -> bool {
-    let of_words = sum_words(replay::front_words(words, h.words));
+    let of_words = sum_words(0, replay::front_words(words, h.words));
     let of_floats = sum_floats(replay::front(floats, h.floats), h);
     (of_words == replay::token(tokens, asked, 0)) & (of_floats == replay::token(tokens, asked, 1))
 }
 
-// words I N = w..
-pub fn words_is_same(tokens: &[u64], asked: usize, words: &[u32]) -> bool {
-    let from = replay::size(tokens, 0, 0);
-    let n = replay::size(tokens, 0, 1);
-    if words.len() < from {
+// Whether n words from word `at` on are the tokens from `from` on.
+pub fn part_is_same(tokens: &[u64], from: usize, words: &[u32], at: usize, n: usize) -> bool {
+    if words.len() < at {
         return false;
     }
-    let rest = &words[from..];
+    let rest = &words[at..];
     if rest.len() < n {
         return false;
     }
-    replay::same_words(tokens, asked, replay::front_words(rest, n))
+    replay::same_words(tokens, from, replay::front_words(rest, n))
+}
+
+// words I N = w..
+pub fn words_is_same(tokens: &[u64], asked: usize, words: &[u32]) -> bool {
+    let at = replay::size(tokens, 0, 0);
+    let n = replay::size(tokens, 0, 1);
+    part_is_same(tokens, asked, words, at, n)
 }

@@ -3,7 +3,7 @@
 //
 // Everything here is proved safe on every text, and nothing more: what a replay prints is compared with
 // what it should print. A token that is missing counts as 0.
-ghost use Prim.Native.Nat.{_≤_};
+ghost use Prim.Native.Nat.{_+_, _-_, _≤_};
 ghost use mathlib.Core.Path.{_≡_};
 ghost use lib.ListN.{length, take};
 ghost use Rattle.replay.specs.Bounds.{Advanced};
@@ -121,7 +121,8 @@ pub fn refill(text: &mut [u8], from: usize, end: usize) -> usize {
     kept + more
 }
 
-fn shift(text: &mut [u8], from: usize, end: usize) -> usize
+// Moves what stands from `from` up to `end` to the front, and answers how much that is.
+pub fn shift(text: &mut [u8], from: usize, end: usize) -> usize
     ensures { λ r. ⌜ r ≤ length (now (text .exit)) ⌝ }
 {
     if text.len() < end {
@@ -156,6 +157,20 @@ pub fn starts(text: &[u8], at: usize, word: &[u8]) -> bool {
         i += 1;
     }
     true
+}
+
+// Where the line that starts at `at` ends: at its line feed, or at the text's end.
+pub fn line_end(text: &[u8], at: usize) -> usize
+    ensures { λ r. ⌜ (at ≤ r) × (r ≤ at + (length (now (text .entry)) - at)) ⌝ }
+{
+    let mut i = at;
+    while i < text.len() {
+        if text[i] == b'\n' {
+            return i;
+        }
+        i += 1;
+    }
+    i
 }
 
 // Token i from `from` on.

@@ -6,11 +6,11 @@ use Rattle.histories.proofs.sum_words.Statement.{statement}
 use Rattle.histories.proofs.sum_words.Tie as tie
 
 abbrev Inv-loop : tie.InvT-loop
-Inv-loop words sum₀ i₀ sum i =
+Inv-loop before words sum₀ i₀ sum i =
     i ≤ length words
 
 abbrev μ-loop : tie.MeasureT-loop
-μ-loop words sum₀ i₀ sum i =
+μ-loop before words sum₀ i₀ sum i =
     length words - i
 
 loop-holds : tie.Need-loop-holds Inv-loop μ-loop

@@ -1,11 +1,11 @@
 -- The invariant: every slice keeps its length. The measure is what is left of the text, which each line takes from. Assumes nothing.
 use Prim.Native.Nat.{_-_}
 use lib.ListN.{length}
-use Rattle.replay_store.proofs.Kept.{Kept}
+use Rattle.replay_histories.proofs.Kept.{Kept}
 use borrow.Author.Needs.{needs}
 use native.Mathlib.Omega.{arith}
-use Rattle.replay_store.proofs.replay_lines.Statement.{statement}
-use Rattle.replay_store.proofs.replay_lines.Tie as tie
+use Rattle.replay_histories.proofs.replay_lines.Statement.{statement}
+use Rattle.replay_histories.proofs.replay_lines.Tie as tie
 
 abbrev Inv-loop : tie.InvT-loop
 Inv-loop text tokens₀ words₀ floats₀ vector₀ tallies₀ h₀ at₀ tokens words floats vector tallies h at =

@@ -1,10 +1,10 @@
 -- The invariant: every slice keeps its length. The measure is the number of turns left. Assumes nothing.
 use mathlib.Core.Path.{_≡_}
 use lib.ListN.{length}
-use Rattle.replay_store.proofs.Kept.{Kept}
+use Rattle.replay_histories.proofs.Kept.{Kept}
 use borrow.Author.Needs.{needs}
-use Rattle.replay_store.proofs.replay_all.Statement.{statement}
-use Rattle.replay_store.proofs.replay_all.Tie as tie
+use Rattle.replay_histories.proofs.replay_all.Statement.{statement}
+use Rattle.replay_histories.proofs.replay_all.Tie as tie
 
 abbrev Inv-loop : tie.InvT-loop
 Inv-loop text₀ tokens₀ words₀ floats₀ vector₀ tallies₀ h₀ at₀ end₀ turns₀ text tokens words floats vector tallies h at end turns =
