@@ -16,8 +16,12 @@ pub fn numbers(seed: u64, n: usize) -> Vec<f32> {
 
 /// The median time of a round, in nanoseconds, of several candidates that take turns.
 pub fn medians(candidates: &mut [&mut dyn FnMut()]) -> Vec<f64> {
-    let mut times = vec![Vec::with_capacity(ROUNDS); candidates.len()];
-    for _ in 0..ROUNDS {
+    medians_of(ROUNDS, candidates)
+}
+
+pub fn medians_of(rounds: usize, candidates: &mut [&mut dyn FnMut()]) -> Vec<f64> {
+    let mut times = vec![Vec::with_capacity(rounds); candidates.len()];
+    for _ in 0..rounds {
         for (candidate, times) in candidates.iter_mut().zip(&mut times) {
             let start = Instant::now();
             candidate();
@@ -28,7 +32,7 @@ pub fn medians(candidates: &mut [&mut dyn FnMut()]) -> Vec<f64> {
         .iter_mut()
         .map(|times| {
             times.sort_by(f64::total_cmp);
-            times[ROUNDS / 2]
+            times[rounds / 2]
         })
         .collect()
 }
