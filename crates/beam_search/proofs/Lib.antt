@@ -1,3 +1,4 @@
 mod Taking
+mod Full
 mod Walking
 mod Ending

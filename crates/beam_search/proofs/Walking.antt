@@ -1,16 +1,18 @@
 -- Steps of the walk: where the frontier is empty, where it ends before an expansion, and where a node is expanded; and all steps one after the other.
 -- Assumes nothing.
 use mathlib.Core.Path.{_≡_, refl, sym, ap, ap₂, _∙_, subst}
-use mathlib.Core.Bool.{Bool, true, false, _&&_}
+use mathlib.Core.Logic.{_⊎_, inl, inr}
+use mathlib.Core.Bool.{Bool, true, false, _&&_, _||_}
 use mathlib.Core.List.{List, [], _∷_}
 use mathlib.Core.List.{List·Memᴰ as In, List·Memᴰ·tail as there}
 use Prim.Native.Nat.{ℕ, suc, _-_, _*_, _≤_, _<_}
 use native.Mathlib.Omega.{arith}
-use lib.Dec.{leb, ltb}
+use lib.Dec.{T, leb, ltb, leb→le}
 use lib.ListN.{length, drop, length-drop}
 use lib.Seq.{length-take-le}
 use lib.Ieee.{Float, binary32, mul, lt}
-use Rattle.basics.specs.Choice.{pick-true, pick-false}
+use Rattle.basics.specs.Choice.{pick, pick-true, pick-false}
+use Rattle.basics.proofs.Tests.{one-true, both-false}
 use Rattle.walk.specs.Walk.{State, expand, walk}
 use Rattle.beam.specs.KeepClosest.{heldOf}
 use Rattle.beam.specs.Beam.{stopFactor, stopMultiplier, toFrontier, tooFar, tooMany}
@@ -22,6 +24,7 @@ use Rattle.beam_state.specs.declared.Walk.{Walk}
 use Rattle.beam_state.proofs.Parts.{lay, part-here, part-after, take-before}
 use Rattle.beam_search.specs.Steps.{Between, Expanding, walkOn, Stepping, Walking}
 use Rattle.beam_search.proofs.Taking.{same-mark}
+use Rattle.beam_search.proofs.Full.{all-seen, same, walk-full}
 
 module _ (far : ℕ → Float) (n b : ℕ) (list : ℕ → List ℕ) (words x : List ℕ) (floats : List Float) (nodes : List ℕ) (w : Walk) (long : 11 * n ≤ length words)
     (lx : length x ≡ length (part (2 * n) (6 * n) words)) where
@@ -97,16 +100,17 @@ module _ (far : ℕ → Float) (n b : ℕ) (list : ℕ → List ℕ) (words x : 
         goes = λ f. absurd (mathlib.Core.Bool.true≢false f);
       }
 
-      pub step-on : (words′ : List ℕ) (floats′ : List Float) (nodes′ : List ℕ) (r : Walk) (done : Bool) → stop ≡ false → Expanding far n b list v words₁ words′ floats floats′ nodes nodes′ w r
-          → done ≡ ltb (stopMultiplier * b) (r .scored) → Stepping far n b list words words′ floats floats′ nodes nodes′ w r done
+      pub step-on : (words′ : List ℕ) (floats′ : List Float) (nodes′ : List ℕ) (r : Walk) (done : Bool) → stop ≡ false → ((u y : ℕ) → In y (list u) → y < n)
+          → Expanding far n b list v words₁ words′ floats floats′ nodes nodes′ w r → done ≡ (ltb (stopMultiplier * b) (r .scored) || leb n (r .scored))
+          → Stepping far n b list words words′ floats floats′ nodes nodes′ w r done
       unfolding walk tooMany
-      step-on words′ floats′ nodes′ r done s expanding di nodes₀ seen [] t = absurd (not-both d v (taken nodes₀ seen [] t .0) got)
-      step-on words′ floats′ nodes′ r done s expanding di nodes₀ seen (u ∷ rest) t = record {
+      step-on words′ floats′ nodes′ r done s below expanding di nodes₀ seen [] t = absurd (not-both d v (taken nodes₀ seen [] t .0) got)
+      step-on words′ floats′ nodes′ r done s below expanding di nodes₀ seen (u ∷ rest) t = record {
         seen′ = next .seen;
         front′ = next .front;
         stands = there′;
-        ends = λ f more. on more ∙ pick-true (next .seen) (walkOn far b list more (next .seen) (next .front)) (many ∙ f);
-        goes = λ f more. on more ∙ pick-false (next .seen) (walkOn far b list more (next .seen) (next .front)) (many ∙ f);
+        ends = λ f more. on more ∙ ended f more (one-true _ _ (sym di ∙ f));
+        goes = λ f more. on more ∙ pick-false (next .seen) (walkOn far b list more (next .seen) (next .front)) (many ∙ both-false _ _ (sym di ∙ f) .0);
       }
         where
           next : State
@@ -119,11 +123,21 @@ module _ (far : ℕ → Float) (n b : ℕ) (list : ℕ → List ℕ) (words x : 
           there′ = subst (λ (y : ℕ). Between far n b nodes₀ words′ floats′ nodes′ r (expand (toFrontier far) (record { seen = seen; front = rest }) (list y) .seen) (expand (toFrontier far) (record { seen = seen; front = rest }) (list y) .front)) at
               (expanding nodes₀ seen rest (after-pop nodes₀ seen (u ∷ rest) rest t (taken nodes₀ seen (u ∷ rest) t .1) (λ y m. there m)))
 
-          many : tooMany b (next .seen) ≡ done
-          many = sym (di ∙ ap (ltb (stopMultiplier * b)) (there′ .standing .scored-is))
+          many : tooMany b (next .seen) ≡ ltb (stopMultiplier * b) (r .scored)
+          many = ap (ltb (stopMultiplier * b)) (sym (there′ .standing .scored-is))
 
-          on : (more : ℕ) → walkOn far b list (suc more) seen (u ∷ rest) ≡ Rattle.basics.specs.Choice.pick (tooMany b (next .seen)) (next .seen) (walkOn far b list more (next .seen) (next .front))
+          on : (more : ℕ) → walkOn far b list (suc more) seen (u ∷ rest) ≡ pick (tooMany b (next .seen)) (next .seen) (walkOn far b list more (next .seen) (next .front))
           on more = pick-false _ _ (too-far-is nodes₀ seen rest u t ∙ s)
+
+          -- too many are scored, or all
+          ended : done ≡ true → (more : ℕ) → (ltb (stopMultiplier * b) (r .scored) ≡ true) ⊎ (leb n (r .scored) ≡ true)
+              → pick (tooMany b (next .seen)) (next .seen) (walkOn far b list more (next .seen) (next .front)) ≡ next .seen
+          ended f more (inl e) = pick-true (next .seen) (walkOn far b list more (next .seen) (next .front)) (many ∙ e)
+          ended f more (inr e) =
+              let all : n ≤ length (next .seen) = omega (arith, leb→le n (r .scored) (subst T (sym e) tt), there′ .standing .scored-is) in
+              same (tooMany b (next .seen)) (next .seen) _ (next .seen) refl
+              (walk-full list (toFrontier far) (tooFar far b) (tooMany b) (next .seen)
+              (λ a y m. all-seen n (next .seen) (there′ .standing .once) (there′ .standing .inside) all y (below a y m)) more (next .front))
 
 -- ---- all steps
 

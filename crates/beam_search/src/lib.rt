@@ -3,14 +3,15 @@
 // The walk starts at the entry node and goes on from the nearest node whose list it has not looked at. What
 // is fresh in a list is marked and gathered, then scored eight at a time, then pushed in order: into the
 // frontier, among the held, into the answer. It ends where everything left lies well beyond the cutoff,
-// where many nodes are scored, or where the frontier is empty. The answer is kept in order from the first
+// where many nodes are scored, or where the frontier is empty; and where all nodes are scored, since what is
+// left of the definition's walk finds nothing then. The answer is kept in order from the first
 // node on, so that nothing is sorted at the end.
 //
 // What it gives is the walk and the answer of `beam`; specs/Search says of which graph: the entries of the
 // lists that are below the number of nodes. Scratch is 11 words and a float for each node; its old content
 // does not show.
 ghost use mathlib.Core.Path.{_≡_};
-ghost use mathlib.Core.Bool.{_&&_};
+ghost use mathlib.Core.Bool.{_&&_, _||_};
 ghost use Prim.Native.Nat.{_*_, _≤_, min};
 ghost use lib.Dec.{leb, ltb};
 ghost use lib.Ieee.{binary32, mul, lt};
@@ -119,11 +120,11 @@ fn too_far(walk: Walk, places: u32, distance: f32) -> bool
     (places <= walk.held) & (walk.cutoff * STOP_FACTOR < distance)
 }
 
-// After.
-fn too_many(walk: Walk, places: u32) -> bool
-    ensures { λ r. ⌜ r ≡ ltb (stopMultiplier * places) (walk .scored) ⌝ }
+// After: many nodes are scored, or all of them, so that nothing is left to be found.
+fn ends_after(walk: Walk, places: u32, size: usize) -> bool
+    ensures { λ r. ⌜ r ≡ (ltb (stopMultiplier * places) (walk .scored) || leb size (walk .scored)) ⌝ }
 {
-    STOP_MULTIPLIER * (places as u64) < (walk.scored as u64)
+    (STOP_MULTIPLIER * (places as u64) < (walk.scored as u64)) | (size <= walk.scored as usize)
 }
 
 // Takes the nearest node from the frontier and looks at its list, unless the walk ends before.
@@ -168,7 +169,7 @@ fn step(
         walk,
         node,
     );
-    let done = too_many(next, places);
+    let done = ends_after(next, places, size);
     Went { walk: next, done }
 }
 

@@ -11,7 +11,8 @@ use native.Mathlib.Decide.{ℕ-discrete}
 use borrow.Author.Tests.{eq-eqb, ne-eqb, lt-ltb, le-ltb}
 use lib.Dec.{T, eqb}
 use lib.ListN.{length, getD, take, drop, set, length-append, length-drop}
-use lib.Seq.{getD-set-same, getD-set-other, take-all, take-suc, take-suc-set, drop-set-lt, drop-set-add, getD-take, getD-drop}
+use lib.Seq.{getD-set-same, getD-set-other, take-all, take-suc, take-suc-set, take-set-le, drop-set-lt, drop-set-add, getD-take, getD-drop}
+use mir.Val.{boolByte}
 use Rattle.basics.specs.Choice.{pick, pick-true, pick-false}
 use Rattle.basics.specs.Nodes.{has, Below}
 use Rattle.basics.specs.Lists.{pieces}
@@ -20,6 +21,10 @@ use Rattle.basics.proofs.Counting.{in-has, at-most}
 use Rattle.basics.proofs.Pieces.{pieces-more}
 use Rattle.store.specs.View.{bridgeIn}
 use Rattle.gathering.specs.Gathering.{Fresh, visitOne, gatherAll, Gathered, Gathering}
+
+pub at-most-one : (b : Bool) → boolByte b ≤ 1
+at-most-one true = omega arith
+at-most-one false = omega arith
 
 -- a list in two parts
 pub gather-append : (n : ℕ) (xs ys : List ℕ) (g : Fresh) → gatherAll n (xs ++ ys) g ≡ gatherAll n ys (gatherAll n xs g)
@@ -63,6 +68,11 @@ module _ (n count v : ℕ) (words : List ℕ) where
   no-mark′ true e = absurd (omega arith)
   no-mark′ false e = refl
 
+  marked : (t : Bool) (m : ℕ) → (m ≡ 0 → ⊥) → m ≡ pick {X = ℕ} t 1 0 → m ≡ 1
+  unfolding pick
+  marked true m ne e = e
+  marked false m ne e = absurd (ne e)
+
   pub visit-again : v < n → (getD words v 0 ≡ 0 → ⊥) → Gathering n count (v ∷ []) words words count
   unfolding visitOne
   visit-again l ne =
@@ -87,10 +97,38 @@ module _ (n count v : ℕ) (words : List ℕ) where
   room g tail l z h =
       omega (arith, at-most n (v ∷ g .seen) (out g tail l z h, h .once) (below g tail l h), h .count-is, h .fewer)
 
-  pub visit-full : v < n → getD words v 0 ≡ 0 → n ≤ count → Gathering n count (v ∷ []) words words count
-  visit-full l z f tail g h = absurd (let r = room g tail l z h in omega arith)
+  -- as many are fresh as there are nodes: the node is one of them
+  pub visit-full : v < n → n ≤ count → Gathering n count (v ∷ []) words words count
+  visit-full l f = elim (ℕ-discrete (getD words v 0) 0) [
+    | yes z ↦ λ tail g h. absurd (let r = room g tail l z h in omega arith)
+    | no z ↦ visit-again l z
+  ]
 
-  pub visit-new : n + n ≤ length words → v < n → getD words v 0 ≡ 0 → Gathering n count (v ∷ []) words (set (set words v 1) (n + count) v) (count + 1)
+  -- a node seen before: its mark stands, and what is put behind the fresh ones is none of them
+  visit-old : n + n ≤ length words → v < n → count < n → (getD words v 0 ≡ 0 → ⊥) → Gathering n count (v ∷ []) words (set (set words v 1) (n + count) v) count
+  visit-old long l few ne tail g h = record {
+    marks = λ w k. getD-set-other (set words v 1) (n + count) w v 0 (λ e. omega arith) ∙ mark w k ∙ x .marks w k;
+    buffer =
+        ap (take count) (drop-set-add n (set words v 1) count v ∙ ap (λ (y : List ℕ). set y count v) (drop-set-lt n words v 1 l))
+        ∙ take-set-le count (drop n words) count v (omega arith)
+        ∙ x .buffer;
+    count-is = x .count-is;
+    behind = drop-set-lt (n + n) (set words v 1) (n + count) v (omega arith) ∙ drop-set-lt (n + n) words v 1 (omega arith) ∙ x .behind;
+    once = x .once;
+    inside = x .inside;
+    fewer = x .fewer;
+  }
+    where
+      x : Gathered n tail words count (gatherAll n (v ∷ []) g)
+      x = visit-again l ne tail g h
+
+      mark : (w : ℕ) → w < n → getD (set words v 1) w 0 ≡ getD words w 0
+      mark w k = elim (ℕ-discrete w v) [
+        | yes e ↦ ap (λ (y : ℕ). getD (set words v 1) y 0) e ∙ getD-set-same words v 1 0 (omega arith) ∙ sym (ap (λ (y : ℕ). getD words y 0) e ∙ marked (has v (g .seen)) (getD words v 0) ne (h .marks v l))
+        | no e ↦ getD-set-other words v w 1 0 e
+      ]
+
+  visit-new : n + n ≤ length words → v < n → getD words v 0 ≡ 0 → Gathering n count (v ∷ []) words (set (set words v 1) (n + count) v) (count + 1)
   unfolding gatherAll visitOne
   visit-new long l z tail g h =
       subst (Gathered n tail (set (set words v 1) (n + count) v) (count + 1))
@@ -129,6 +167,16 @@ module _ (n count v : ℕ) (words : List ℕ) where
           ∙ ap (take (suc count)) (drop-set-add n (set words v 1) count v ∙ ap (λ (x : List ℕ). set x count v) (drop-set-lt n words v 1 l))
           ∙ take-suc-set (drop n words) count v (omega (arith, few, length-drop n words))
           ∙ ap (λ (x : List ℕ). x ++ (v ∷ [])) (h .buffer)
+
+  -- marked and put behind the fresh ones, and one of them if the mark was 0
+  pub visit-here : n + n ≤ length words → v < n → count < n → Gathering n count (v ∷ []) words (set (set words v 1) (n + count) v) (count + boolByte (eqb (getD words v 0) 0))
+  visit-here long l few = elim (ℕ-discrete (getD words v 0) 0) [
+    | yes z ↦ subst (λ (b : Bool). Gathering n count (v ∷ []) words (set (set words v 1) (n + count) v) (count + boolByte b)) (sym (eq-eqb (getD words v 0) 0 z)) (visit-new long l z)
+    | no z ↦ subst (λ (b : Bool). Gathering n count (v ∷ []) words (set (set words v 1) (n + count) v) (count + boolByte b)) (sym (ne-eqb (getD words v 0) 0 z)) (subst (Gathering n count (v ∷ []) words (set (set words v 1) (n + count) v)) none (visit-old long l few z))
+  ]
+    where
+      none : count ≡ count + boolByte false
+      none = omega arith
 
 -- ---- bridges
 

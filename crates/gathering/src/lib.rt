@@ -12,8 +12,9 @@ ghost use Rattle.basics.specs.Graph.{otherEnd, otherEnds, listOf};
 ghost use Rattle.lists.specs.Words.{rowLists, bridgeList};
 ghost use Rattle.gathering.specs.Gathering.{Gathering, GatheringAll};
 
-// Marks a node that is not marked, and puts it behind the `count` fresh ones that are there. Gives how many
-// there are then.
+// Marks a node, and puts it behind the `count` fresh ones that are there; it stays there as one of them if it
+// was not marked. Gives how many there are then. Which nodes are fresh cannot be foretold, so there is no
+// branch on it.
 fn visit(words: &mut [u32], size: usize, count: usize, node: u32) -> usize
     requires { ⌜ size + size ≤ length (now words) ⌝ }
     ensures { λ r. ⌜ Gathering size count (node ∷ []) (now (words .entry)) (now (words .exit)) r ⌝ }
@@ -22,16 +23,14 @@ fn visit(words: &mut [u32], size: usize, count: usize, node: u32) -> usize
     if at >= size {
         return count;
     }
-    if words[at] != 0 {
-        return count;
-    }
-    // never: there are no more fresh nodes than nodes
+    // where as many are fresh as there are nodes, each node is marked
     if count >= size {
         return count;
     }
+    let fresh = words[at] == 0;
     words[at] = 1;
     words[size + count] = node;
-    count + 1
+    count + fresh as usize
 }
 
 fn visit_all(words: &mut [u32], size: usize, count: usize, list: &[u32]) -> usize

@@ -26,21 +26,21 @@ use Rattle.queues.proofs.Ranks.{front-order, front-below, front-one, he
 -- ---- the id that stands first
 
 module _ (a b : ℕ → ℕ) (n : ℕ) (tree : List ℕ) where
-  pub first-id : (u : ℕ) (l : List ℕ) → ((v : ℕ) → v < n → rankOf (a v) (b v) < nothing) → b u < 4294967296 → getD tree 3 0 < 4294967296
+  pub first-id : (u : ℕ) (l : List ℕ) → ((v : ℕ) → v < n → rankOf (a v) (b v) < nothing) → b u < 4294967296 → getD tree 2 0 < 4294967296
       → Queue (λ v. rankOf (a v) (b v)) n (u ∷ l) tree → firstOf tree .id ≡ b u
   unfolding firstOf
   first-id u l below h k q =
       let low : u < n = q .inside u (here refl) in
       let size : length tree / 4 ≡ n = queue-size (λ v. rankOf (a v) (b v)) n (u ∷ l) tree q in
       ap (λ (p : Pair). p .id) (pick-false _ _ (le-ltb (length tree) 4 (omega arith)))
-      ∙ rank-id (getD tree 2 0) (getD tree 3 0) (a u) (b u) k h (first-node (λ v. rankOf (a v) (b v)) n u l tree below q)
+      ∙ rank-id (getD tree 3 0) (getD tree 2 0) (a u) (b u) k h (first-node (λ v. rankOf (a v) (b v)) n u l tree below q)
 
-  pub none-id : getD tree 2 0 < 4294967296 → getD tree 3 0 < 4294967296 → Queue (λ v. rankOf (a v) (b v)) n [] tree → firstOf tree .id ≡ 0xffff_ffff
+  pub none-id : getD tree 3 0 < 4294967296 → getD tree 2 0 < 4294967296 → Queue (λ v. rankOf (a v) (b v)) n [] tree → firstOf tree .id ≡ 0xffff_ffff
   unfolding firstOf
   none-id j k q = elim (decLt 0 n) [
     | yes h ↦
         let size : length tree / 4 ≡ n = queue-size (λ v. rankOf (a v) (b v)) n [] tree q in
-        let all : rankOf (getD tree 2 0) (getD tree 3 0) ≡ nothing = none-first (λ v. rankOf (a v) (b v)) n tree h q in
+        let all : rankOf (getD tree 3 0) (getD tree 2 0) ≡ nothing = none-first (λ v. rankOf (a v) (b v)) n tree h q in
         ap (λ (p : Pair). p .id) (pick-false _ _ (le-ltb (length tree) 4 (omega arith))) ∙ omega arith
     | no h ↦
         let size : length tree / 4 ≡ n = queue-size (λ v. rankOf (a v) (b v)) n [] tree q in
@@ -60,7 +60,7 @@ entering v floats tree tree′ d k e f put far n front known low out q =
     (λ w h s. front-one far (known .f32s) v w (omega arith) (omega arith) s)
     out (subst (λ (j : ℕ). Putting v (rankOf j v) tree tree′) same put) q
 
-module _ (floats : List Float) (tree tree′ : List ℕ) (id : ℕ) (first : id ≡ firstOf tree .id) (j : getD tree 2 0 < 4294967296) (k : getD tree 3 0 < 4294967296) where
+module _ (floats : List Float) (tree tree′ : List ℕ) (id : ℕ) (first : id ≡ firstOf tree .id) (j : getD tree 3 0 < 4294967296) (k : getD tree 2 0 < 4294967296) where
   front-id : (far : ℕ → Float) (n u : ℕ) (l : List ℕ) → Known far n (u ∷ l) floats → Queue (frontRank far) n (u ∷ l) tree → id ≡ u
   front-id far n u l known q =
       let few : n ≤ 1024 = known .few in
@@ -100,7 +100,7 @@ holding v floats tree tree′ d k e f put far n held known low out q =
 pub none-held : (v : ℕ) (floats : List Float) (tree : List ℕ) → v ≡ 0xffff_ffff → Holding v floats tree tree
 none-held v floats tree e far n held known low out q = let few : n ≤ 1024 = known .few in absurd (omega arith)
 
-module _ (floats : List Float) (tree : List ℕ) (id : ℕ) (first : id ≡ firstOf tree .id) (j : getD tree 2 0 < 4294967296) (k : getD tree 3 0 < 4294967296) where
+module _ (floats : List Float) (tree : List ℕ) (id : ℕ) (first : id ≡ firstOf tree .id) (j : getD tree 3 0 < 4294967296) (k : getD tree 2 0 < 4294967296) where
   held-id : (far : ℕ → Float) (n u : ℕ) (l : List ℕ) → Known far n (u ∷ l) floats → Queue (heldRank far) n (u ∷ l) tree → 0xffff_fffe - id ≡ u
   held-id far n u l known q =
       let few : n ≤ 1024 = known .few in

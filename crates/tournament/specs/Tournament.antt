@@ -1,10 +1,9 @@
 -- A tournament over places 0 up, in a list of words, four for each place (01, "Rust forms to replace": `BinaryHeap`). A pair of a key and an id is
 -- one number, its rank, and pairs stand in the order of their ranks.
 use mathlib.Core.Path.{_≡_}
-use mathlib.Core.Bool.{Bool, false}
 use mathlib.Core.List.{List}
-use Prim.Native.Nat.{ℕ, _+_, _*_, _/_, _≤_, _<_, min}
-use lib.Dec.{leb, ltb}
+use Prim.Native.Nat.{ℕ, _+_, _*_, _/_, _%_, _≤_, _<_, min}
+use lib.Dec.{ltb}
 use lib.ListN.{length, getD, set}
 use Rattle.basics.specs.Choice.{pick}
 use Rattle.tournament.specs.declared.Pair.{Pair}
@@ -16,9 +15,9 @@ rankOf key id = key * 4294967296 + id
 abbrev pub nothing : ℕ
 nothing = 18446744073709551615
 
--- the rank of pair p
+-- the rank of pair p, whose id stands before its key
 abbrev pub rankAt : List ℕ → ℕ → ℕ
-rankAt tree p = rankOf (getD tree (2 * p) 0) (getD tree (2 * p + 1) 0)
+rankAt tree p = rankOf (getD tree (2 * p + 1) 0) (getD tree (2 * p) 0)
 
 -- The words stand for so many places, with these ranks: below, pair by pair, the places; above, the lesser of each two.
 pub record Tournament (leaves tree : List ℕ) : Type 0 where
@@ -33,20 +32,13 @@ Putting place rank tree tree′ = (leaves : List ℕ) → Tournament leaves tree
 -- the pair that stands first
 unfoldable pub firstOf : List ℕ → Pair
 unfolding pick
-firstOf tree = pick (ltb (length tree) 4) (record { key = 0xffff_ffff; id = 0xffff_ffff }) (record { key = getD tree 2 0; id = getD tree 3 0 })
+firstOf tree = pick (ltb (length tree) 4) (record { key = 0xffff_ffff; id = 0xffff_ffff }) (record { key = getD tree 3 0; id = getD tree 2 0 })
 
 -- ---- inside this crate
 
--- where the lesser of the two pairs below pair p stands
-unfoldable pub lesserOf : List ℕ → ℕ → ℕ
-unfolding pick
-lesserOf tree p = pick (leb (rankAt tree (2 * p)) (rankAt tree (2 * p + 1))) (4 * p) (4 * p + 2)
-
--- pair p is now the lesser of the two below it, and no other changed; nor did p where the answer is no
-pub record Settled (p : ℕ) (tree tree′ : List ℕ) (changed : Bool) : Type 0 where
-  pub least : rankAt tree′ p ≡ min (rankAt tree (2 * p)) (rankAt tree (2 * p + 1))
-  pub others : (q : ℕ) → (q ≡ p → ⊥) → rankAt tree′ q ≡ rankAt tree q
-  pub same : changed ≡ false → rankAt tree′ p ≡ rankAt tree p
+-- pair p gets a rank
+abbrev pub laid : List ℕ → ℕ → ℕ → List ℕ
+laid tree p rank = set (set tree (2 * p) (rank % 4294967296)) (2 * p + 1) (rank / 4294967296)
 
 -- a tournament but for the pair above pair q
 pub record Open (leaves : List ℕ) (q : ℕ) (tree : List ℕ) : Type 0 where

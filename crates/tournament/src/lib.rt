@@ -2,18 +2,18 @@
 // hand at any time. The Rust's `BinaryHeap` of src/pipnn/mod.rs and src/graph_utils.rs; here the places are
 // node numbers, so that a pair is put, replaced and removed by its place.
 //
-// A slice of u32 holds it, four words a place: with `size` places, pair p stands at words 2p and 2p + 1, and
-// the pair of place i is pair size + i. Every pair p from 1 to size - 1 is the lesser of pairs 2p and 2p + 1,
-// by key and then id, so that pair 1 is the first of all. An empty place has all ones, which no pair comes
-// after. A put goes up from its place and stops where a pair stays as it was: taking in a pair costs a few
-// steps on average, removing the first one a step for each halving of the size.
+// A slice of u32 holds it, four words a place: with `size` places, pair p stands at words 2p and 2p + 1, its id
+// and then its key, and the pair of place i is pair size + i. Every pair p from 1 to size - 1 is the lesser of
+// pairs 2p and 2p + 1, by key and then id, so that pair 1 is the first of all. An empty place has all ones,
+// which no pair comes after. A put goes up from its place to pair 1, a step for each halving of the size, and
+// takes the lesser of two in each step without a branch: id and key are one number of 64 bits, its rank.
 //
 // Every function is total. What a tree stands for is `Tournament` of specs/Tournament; proofs/Laws says that
 // its first pair is one of the places' and that no place's comes before it.
 ghost use mathlib.Core.Path.{_≡_};
-ghost use Prim.Native.Nat.{_*_, _+_, _/_, _<_};
+ghost use Prim.Native.Nat.{_*_, _+_, _-_, _/_, _%_, _<_, _≤_, min};
 ghost use lib.ListN.{length, replicate};
-ghost use Rattle.tournament.specs.Tournament.{rankOf, rankAt, nothing, Tournament, firstOf, Putting, Open, Climbing, Settled, lesserOf};
+ghost use Rattle.tournament.specs.Tournament.{rankOf, rankAt, laid, nothing, Tournament, firstOf, Putting, Climbing};
 
 const NOTHING: u32 = 0xffff_ffff;
 
@@ -29,6 +29,12 @@ fn rank(key: u32, id: u32) -> u64
     (key as u64) * 4294967296 + (id as u64)
 }
 
+fn lesser(a: u64, b: u64) -> u64
+    ensures { λ r. ⌜ r ≡ min a b ⌝ }
+{
+    if a < b { a } else { b }
+}
+
 // Leaves every place empty.
 pub fn clear(tree: &mut [u32])
     ensures { λ _. ⌜ Tournament (replicate (length (now (tree .entry)) / 4) nothing) (now (tree .exit)) ⌝ }
@@ -40,48 +46,35 @@ pub fn clear(tree: &mut [u32])
     }
 }
 
-// Which of the two pairs below pair p is the lesser.
-fn lesser(tree: &[u32], p: usize) -> usize
-    requires { ⌜ 4 * p + 3 < length (now tree) ⌝ }
-    ensures { λ r. ⌜ r ≡ lesserOf (now (tree .entry)) p ⌝ }
+// The rank of pair p.
+fn rank_at(tree: &[u32], p: usize) -> u64
+    requires { ⌜ 2 * p + 1 < length (now tree) ⌝ }
+    ensures { λ r. ⌜ r ≡ rankAt (now (tree .entry)) p ⌝ }
 {
-    let left = 4 * p;
-    let right = 4 * p + 2;
-    if rank(tree[left], tree[left + 1]) <= rank(tree[right], tree[right + 1]) {
-        return left;
-    }
-    right
+    rank(tree[2 * p + 1], tree[2 * p])
 }
 
-// Makes pair p the lesser of the two below it, and says whether it was another before.
-fn settle(tree: &mut [u32], p: usize) -> bool
-    requires { ⌜ 4 * p + 3 < length (now tree) ⌝ }
-    ensures { λ r. ⌜ Settled p (now (tree .entry)) (now (tree .exit)) r ⌝ }
+// Gives pair p a rank.
+fn lay(tree: &mut [u32], p: usize, rank: u64)
+    requires { ⌜ 2 * p + 1 < length (now tree) ⌝ }
+    ensures { λ _. ⌜ now (tree .exit) ≡ laid (now (tree .entry)) p rank ⌝ }
 {
-    let child = lesser(tree, p);
-    let key = tree[child];
-    let id = tree[child + 1];
-    let at = 2 * p;
-    if (tree[at] == key) & (tree[at + 1] == id) {
-        return false;
-    }
-    tree[at] = key;
-    tree[at + 1] = id;
-    true
+    tree[2 * p] = (rank % 4294967296) as u32;
+    tree[2 * p + 1] = (rank / 4294967296) as u32;
 }
 
-// Settles the pairs above pair `from`, which alone was changed, from below; above a pair that stays as it was
-// nothing changes.
-fn climb(tree: &mut [u32], from: usize)
-    requires { ⌜ from < 2 * (length (now tree) / 4) ⌝ }
+// Settles the pairs above pair `from`, which alone was changed and has this rank, from below.
+fn climb(tree: &mut [u32], from: usize, rank: u64)
+    requires { ⌜ (from < 2 * (length (now tree) / 4)) × (rankAt (now tree) from ≡ rank) ⌝ }
     ensures { λ _. ⌜ Climbing from (now (tree .entry)) (now (tree .exit)) ⌝ }
 {
     let mut p = from;
+    let mut least = rank;
     while p > 1 {
+        let beside = p + 1 - 2 * (p % 2);
+        least = lesser(least, rank_at(tree, beside));
         p = p / 2;
-        if !settle(tree, p) {
-            return;
-        }
+        lay(tree, p, least);
     }
 }
 
@@ -95,10 +88,9 @@ pub fn put(tree: &mut [u32], place: u32, key: u32, id: u32)
         return;
     }
     let p = size + at;
-    let w = 2 * p;
-    tree[w] = key;
-    tree[w + 1] = id;
-    climb(tree, p);
+    let new = rank(key, id);
+    lay(tree, p, new);
+    climb(tree, p, new);
 }
 
 // The first pair of all, (0xffff_ffff, 0xffff_ffff) where all places are empty or there is none.
@@ -112,7 +104,7 @@ pub fn first(tree: &[u32]) -> Pair
         };
     }
     Pair {
-        key: tree[2],
-        id: tree[3],
+        key: tree[3],
+        id: tree[2],
     }
 }

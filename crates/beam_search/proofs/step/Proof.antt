@@ -3,6 +3,7 @@ use Rattle.vectors.specs.Vectors.{vectorsIn}
 use Rattle.beam.specs.Beam.{farFrom}
 use Rattle.beam_search.specs.Search.{listIn}
 use Rattle.beam_search.proofs.Walking.{step-empty, step-far, step-on}
+use Rattle.beam_search.proofs.Full.{within-below}
 use borrow.Author.Needs.{needs}
 use Rattle.beam_search.proofs.step.Statement.{statement}
 use Rattle.beam_search.proofs.step.Tie as tie
@@ -58,8 +59,8 @@ returns-2 c = let a = (c .before .before .before .before .before .before .before
 expand-requires : tie.Need-expand-requires
 expand-requires c κs = search needs
 
-too-many-requires : tie.Need-too-many-requires
-too-many-requires c κs = search needs
+ends-after-requires : tie.Need-ends-after-requires
+ends-after-requires c κs = search needs
 
 same-length-5 : tie.Need-same-length-5
 same-length-5 c = search needs
@@ -71,7 +72,7 @@ same-length-7 : tie.Need-same-length-7
 same-length-7 c = search needs
 
 returns-3 : tie.Need-returns-3
-returns-3 c = let a = (c .before .before .before .before .before .before .before .before .before .before .before .before .before .before .before .before .before .before .before .before .before .before .before .before .before .before .before .before) .args in step-on (farFrom (a .query .now) (vectorsIn (a .dimension) (a .vectors .now))) (a .size) (a .places) (listIn (a .size) (a .degree) (a .rows .now) (a .bridges .now)) (a .words .now) (c .before .before .before .before .before .before .before .before .before .before .before .before .before .before .before .before .before .before .pop .last .0) (a .floats .now) (a .nodes .now) (a .walk) ((c .before .before .before .before .before .before .before .before .before .before .before .before .before .before .before .before .before .before .before .before .before .before .before .before .before .before .before .before) .pre) (c .before .before .before .before .before .before .before .before .before .before .before .before .before .before .before .before .before .before .pop .kept .0) (c .before .before .before .before .before .before .before .before .before .before .before .before .before .before .before .before .before .before .pop .result) (c .before .before .before .before .before .before .before .before .before .before .before .before .before .before .before .before .before .before .pop .ensures) (c .before .before .before .before .before .before .before .before .before .before .before .before .before .before .popped .given .0 .0) (c .before .before .before .before .before .before .before .before .before .before .before .before .before .before .popped .given .0 .1 .0) (c .before .before .before .before .before .before .before .before .before .before .before .before .before .before .popped .given .1) (c .before .before .before .before .before .before .before .before .before .before .before .before .too-far .result) (c .before .before .before .before .before .before .before .before .before .before .before .before .too-far .ensures) (c .before .before .before .before .before .before .before .expand .last .0) (c .before .before .before .before .before .before .before .expand .last .1 .0) (c .before .before .before .before .before .before .before .expand .last .1 .1 .0) (c .before .before .before .before .before .before .before .expand .result) (c .too-many .result) (c .before .before .before .before .before .before .before .before .before .before .before .if1 .left) (c .before .before .before .before .before .before .before .expand .ensures) (c .too-many .ensures)
+returns-3 c = let a = (c .before .before .before .before .before .before .before .before .before .before .before .before .before .before .before .before .before .before .before .before .before .before .before .before .before .before .before .before) .args in step-on (farFrom (a .query .now) (vectorsIn (a .dimension) (a .vectors .now))) (a .size) (a .places) (listIn (a .size) (a .degree) (a .rows .now) (a .bridges .now)) (a .words .now) (c .before .before .before .before .before .before .before .before .before .before .before .before .before .before .before .before .before .before .pop .last .0) (a .floats .now) (a .nodes .now) (a .walk) ((c .before .before .before .before .before .before .before .before .before .before .before .before .before .before .before .before .before .before .before .before .before .before .before .before .before .before .before .before) .pre) (c .before .before .before .before .before .before .before .before .before .before .before .before .before .before .before .before .before .before .pop .kept .0) (c .before .before .before .before .before .before .before .before .before .before .before .before .before .before .before .before .before .before .pop .result) (c .before .before .before .before .before .before .before .before .before .before .before .before .before .before .before .before .before .before .pop .ensures) (c .before .before .before .before .before .before .before .before .before .before .before .before .before .before .popped .given .0 .0) (c .before .before .before .before .before .before .before .before .before .before .before .before .before .before .popped .given .0 .1 .0) (c .before .before .before .before .before .before .before .before .before .before .before .before .before .before .popped .given .1) (c .before .before .before .before .before .before .before .before .before .before .before .before .too-far .result) (c .before .before .before .before .before .before .before .before .before .before .before .before .too-far .ensures) (c .before .before .before .before .before .before .before .expand .last .0) (c .before .before .before .before .before .before .before .expand .last .1 .0) (c .before .before .before .before .before .before .before .expand .last .1 .1 .0) (c .before .before .before .before .before .before .before .expand .result) (c .ends-after .result) (c .before .before .before .before .before .before .before .before .before .before .before .if1 .left) (λ u y m. within-below (a .size) _ y m) (c .before .before .before .before .before .before .before .expand .ensures) (c .ends-after .ensures)
 
 pub step-spec : {M : Type 1} → statement M
 step-spec =
@@ -94,7 +95,7 @@ step-spec =
     same-length-4
     returns-2
     expand-requires
-    too-many-requires
+    ends-after-requires
     same-length-5
     same-length-6
     same-length-7

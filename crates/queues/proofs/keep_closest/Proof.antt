@@ -26,7 +26,7 @@ returns : tie.Need-returns
 unfolding ofBits
 returns c =
     let a = (c .before .before .before .before .before .before .before) .args in
-    kept-free (a .floats .now) (a .tree .now) (firstOf (a .tree .now) .id) refl (omega (arith, c .before .before .before .before .before .before .slice-known .given 2)) (omega (arith, c .before .before .before .before .before .before .slice-known .given 3)) (a .places) (a .held) (a .node) (c .before .before .hold .last .0) (c .before .before .before .before .if1 .taken) (c .before .before .hold .ensures)
+    kept-free (a .floats .now) (a .tree .now) (firstOf (a .tree .now) .id) refl (omega (arith, c .before .before .before .before .before .before .slice-known .given 3)) (omega (arith, c .before .before .before .before .before .before .slice-known .given 2)) (a .places) (a .held) (a .node) (c .before .before .hold .last .0) (c .before .before .before .before .if1 .taken) (c .before .before .hold .ensures)
 
 first-requires : tie.Need-first-requires
 first-requires c κs = search needs
@@ -42,7 +42,7 @@ returns-2 : tie.Need-returns-2
 unfolding ofBits
 returns-2 c =
     let a = (c .before .before .before .before .before .before) .args in
-    kept-none (a .floats .now) (a .tree .now) (c .before .first .result .id) (ap (λ (p : Pair). p .id) (c .before .first .ensures)) (omega (arith, c .before .before .before .before .before .slice-known .given 2)) (omega (arith, c .before .before .before .before .before .slice-known .given 3)) (a .places) (a .held) (a .node) (c .before .before .before .if1 .left) (c .if2 .taken)
+    kept-none (a .floats .now) (a .tree .now) (c .before .first .result .id) (ap (λ (p : Pair). p .id) (c .before .first .ensures)) (omega (arith, c .before .before .before .before .before .slice-known .given 3)) (omega (arith, c .before .before .before .before .before .slice-known .given 2)) (a .places) (a .held) (a .node) (c .before .before .before .if1 .left) (c .if2 .taken)
 
 sub-worst : tie.Need-sub-worst
 sub-worst c = search needs
@@ -68,7 +68,7 @@ same-length-3 c = search needs
 returns-3 : tie.Need-returns-3
 returns-3 c =
     let a = (c .before .before .before .before .before .before .before .before .before .before .before .before .before .before .before .before .before .before .before) .args in
-    kept-new (a .floats .now) (a .tree .now) (c .before .before .before .before .before .before .before .before .before .before .before .before .before .before .first .result .id) (ap (λ (p : Pair). p .id) (c .before .before .before .before .before .before .before .before .before .before .before .before .before .before .first .ensures)) (omega (arith, c .before .before .before .before .before .before .before .before .before .before .before .before .before .before .before .before .before .before .slice-known .given 2)) (omega (arith, c .before .before .before .before .before .before .before .before .before .before .before .before .before .before .before .before .before .before .slice-known .given 3)) (a .places) (a .held) (a .node) (c .before .before .before .before .before .before .before .before .before .before .before .before .before .before .before .before .if1 .left) (c .before .before .before .before .before .before .before .before .before .before .before .before .before .if2 .left) (c .before .before .before .before .before .before .before .before .before .before .before .before .distance-of .result) (c .before .before .before .before .before .before .before .before .before .before .before .distance-of2 .result) (c .before .before .before .before .before .before .before .before .before .before .before .before .distance-of .ensures) (c .before .before .before .before .before .before .before .before .before .before .before .distance-of2 .ensures)
+    kept-new (a .floats .now) (a .tree .now) (c .before .before .before .before .before .before .before .before .before .before .before .before .before .before .first .result .id) (ap (λ (p : Pair). p .id) (c .before .before .before .before .before .before .before .before .before .before .before .before .before .before .first .ensures)) (omega (arith, c .before .before .before .before .before .before .before .before .before .before .before .before .before .before .before .before .before .before .slice-known .given 3)) (omega (arith, c .before .before .before .before .before .before .before .before .before .before .before .before .before .before .before .before .before .before .slice-known .given 2)) (a .places) (a .held) (a .node) (c .before .before .before .before .before .before .before .before .before .before .before .before .before .before .before .before .if1 .left) (c .before .before .before .before .before .before .before .before .before .before .before .before .before .if2 .left) (c .before .before .before .before .before .before .before .before .before .before .before .before .distance-of .result) (c .before .before .before .before .before .before .before .before .before .before .before .distance-of2 .result) (c .before .before .before .before .before .before .before .before .before .before .before .before .distance-of .ensures) (c .before .before .before .before .before .before .before .before .before .before .before .distance-of2 .ensures)
     (c .before .before .before .before .before .before .before .before .put .last .0) (c .before .before .before .before .hold2 .last .0) (c .worst-of .result) (c .before .before .before .before .before .before .before .before .before .before .if3 .taken) (c .before .before .before .before .before .before .before .before .put .ensures) (c .before .before .before .before .hold2 .ensures) (c .worst-of .ensures)
 
 same-length-4 : tie.Need-same-length-4
@@ -77,7 +77,7 @@ same-length-4 c = search needs
 returns-4 : tie.Need-returns-4
 returns-4 c =
     let a = (c .before .before .before .before .before .before .before .before .before) .args in
-    kept-same (a .floats .now) (a .tree .now) (c .before .before .before .before .first .result .id) (ap (λ (p : Pair). p .id) (c .before .before .before .before .first .ensures)) (omega (arith, c .before .before .before .before .before .before .before .before .slice-known .given 2)) (omega (arith, c .before .before .before .before .before .before .before .before .slice-known .given 3)) (a .places) (a .held) (a .node) (c .before .before .before .before .before .before .if1 .left) (c .before .before .before .if2 .left) (c .before .before .distance-of .result) (c .before .distance-of2 .result) (c .before .before .distance-of .ensures) (c .before .distance-of2 .ensures) (c .if3 .left)
+    kept-same (a .floats .now) (a .tree .now) (c .before .before .before .before .first .result .id) (ap (λ (p : Pair). p .id) (c .before .before .before .before .first .ensures)) (omega (arith, c .before .before .before .before .before .before .before .before .slice-known .given 3)) (omega (arith, c .before .before .before .before .before .before .before .before .slice-known .given 2)) (a .places) (a .held) (a .node) (c .before .before .before .before .before .before .if1 .left) (c .before .before .before .if2 .left) (c .before .before .distance-of .result) (c .before .distance-of2 .result) (c .before .before .distance-of .ensures) (c .before .distance-of2 .ensures) (c .if3 .left)
 
 pub keep-closest-spec : {M : Type 1} → statement M
 keep-closest-spec =

@@ -16,7 +16,7 @@ same-length c = search needs
 returns : tie.Need-returns
 returns c =
     let a = (c .before .before .before .before .before) .args in
-    pop-empty (a .floats .now) (a .tree .now) (a .tree .now) (c .before .first .result .id) (ap (λ (p : Pair). p .id) (c .before .first .ensures)) (omega (arith, c .before .before .before .before .slice-known .given 2)) (omega (arith, c .before .before .before .before .slice-known .given 3)) (c .if1 .taken)
+    pop-empty (a .floats .now) (a .tree .now) (a .tree .now) (c .before .first .result .id) (ap (λ (p : Pair). p .id) (c .before .first .ensures)) (omega (arith, c .before .before .before .before .slice-known .given 3)) (omega (arith, c .before .before .before .before .slice-known .given 2)) (c .if1 .taken)
 
 put-requires : tie.Need-put-requires
 put-requires c κs = search needs
@@ -30,7 +30,7 @@ same-length-2 c = search needs
 returns-2 : tie.Need-returns-2
 returns-2 c =
     let a = (c .before .before .before .before .before .before .before .before .before .before) .args in
-    pop-at (a .floats .now) (a .tree .now) (c .before .before .before .put .last .0) (c .before .before .before .before .before .before .first .result .id) (ap (λ (p : Pair). p .id) (c .before .before .before .before .before .before .first .ensures)) (omega (arith, c .before .before .before .before .before .before .before .before .before .slice-known .given 2)) (omega (arith, c .before .before .before .before .before .before .before .before .before .slice-known .given 3)) (c .before .before .before .before .before .if1 .left) (c .distance-of .result) (c .distance-of .ensures) (c .before .before .before .put .ensures)
+    pop-at (a .floats .now) (a .tree .now) (c .before .before .before .put .last .0) (c .before .before .before .before .before .before .first .result .id) (ap (λ (p : Pair). p .id) (c .before .before .before .before .before .before .first .ensures)) (omega (arith, c .before .before .before .before .before .before .before .before .before .slice-known .given 3)) (omega (arith, c .before .before .before .before .before .before .before .before .before .slice-known .given 2)) (c .before .before .before .before .before .if1 .left) (c .distance-of .result) (c .distance-of .ensures) (c .before .before .before .put .ensures)
 
 pub pop-spec : {M : Type 1} → statement M
 pop-spec =

@@ -19,7 +19,7 @@ returns : tie.Need-returns
 unfolding ofBits
 returns c =
     let a = (c .before .before .before .before) .args in
-    worst-none (a .floats .now) (a .tree .now) (c .before .first .result .id) (ap (λ (p : Pair). p .id) (c .before .first .ensures)) (omega (arith, c .before .before .before .shared-slice-known .given 2)) (omega (arith, c .before .before .before .shared-slice-known .given 3)) (c .if1 .taken)
+    worst-none (a .floats .now) (a .tree .now) (c .before .first .result .id) (ap (λ (p : Pair). p .id) (c .before .first .ensures)) (omega (arith, c .before .before .before .shared-slice-known .given 3)) (omega (arith, c .before .before .before .shared-slice-known .given 2)) (c .if1 .taken)
 
 sub-distance-of : tie.Need-sub-distance-of
 sub-distance-of c = search needs
@@ -30,7 +30,7 @@ distance-of-requires c κs = search needs
 returns-2 : tie.Need-returns-2
 returns-2 c =
     let a = (c .before .before .before .before .before) .args in
-    worst-at (a .floats .now) (a .tree .now) (c .before .before .first .result .id) (ap (λ (p : Pair). p .id) (c .before .before .first .ensures)) (omega (arith, c .before .before .before .before .shared-slice-known .given 2)) (omega (arith, c .before .before .before .before .shared-slice-known .given 3)) (c .before .if1 .left) (c .distance-of .result) (c .distance-of .ensures)
+    worst-at (a .floats .now) (a .tree .now) (c .before .before .first .result .id) (ap (λ (p : Pair). p .id) (c .before .before .first .ensures)) (omega (arith, c .before .before .before .before .shared-slice-known .given 3)) (omega (arith, c .before .before .before .before .shared-slice-known .given 2)) (c .before .if1 .left) (c .distance-of .result) (c .distance-of .ensures)
 
 pub worst-of-spec : {M : Type 1} → statement M
 worst-of-spec =

@@ -1,52 +1,54 @@
--- `tournament::climb` meets its contract: the tree is a tournament but for the pair above pair p, so that it is one where p is 1 or a pair stays as it was.
+-- `tournament::climb` meets its contract: the tree is a tournament but for the pair above pair p, whose rank is `least`, so that it is one where p is 1.
 -- The measure is p. Assumes nothing.
-use mathlib.Core.Path.{_≡_, refl, _∙_, subst}
-use mathlib.Core.List.{List}
-use Prim.Native.Nat.{ℕ, _*_, _/_, _<_}
-use lib.ListN.{length}
-use borrow.Author.Tests.{not-true}
-use Rattle.tournament.specs.Tournament.{Open, Settled}
-use Rattle.tournament.proofs.Settling.{open-up, open-stop, open-end}
+use mathlib.Core.Path.{refl}
+use Rattle.tournament.proofs.Settling.{Climbed, climbed-more, open-end}
 use borrow.Author.Needs.{needs}
 use native.Mathlib.Omega.{arith}
 use Rattle.tournament.proofs.climb.Statement.{statement}
 use Rattle.tournament.proofs.climb.Tie as tie
 
 abbrev Inv-loop : tie.InvT-loop
-Inv-loop tree₀ from p₀ tree p = (length tree ≡ length tree₀) × (p < 2 * (length tree₀ / 4)) × ((leaves : List ℕ) → Open leaves from tree₀ → Open leaves p tree)
+Inv-loop tree₀ from rank p₀ least₀ tree p least = Climbed tree₀ from tree p least
 
 abbrev μ-loop : tie.MeasureT-loop
-μ-loop tree₀ from p₀ tree p = p
+μ-loop tree₀ from rank p₀ least₀ tree p least = p
 
 loop-holds : tie.Need-loop-holds Inv-loop μ-loop
-loop-holds c = (refl, c .before .pre, λ leaves o. o)
+loop-holds c = record { kept = refl; inside = c .before .pre .0; rank-is = c .before .pre .1; so-far = λ leaves o. o }
 
-settle-requires : tie.Need-settle-requires Inv-loop μ-loop
-settle-requires c κs = search needs
+add-beside : tie.Need-add-beside Inv-loop μ-loop
+add-beside c = let i = c .before .loop .inv .inside in omega arith
 
-same-length : tie.Need-same-length Inv-loop μ-loop
-same-length c = search needs
+mul-beside : tie.Need-mul-beside Inv-loop μ-loop
+mul-beside c = search needs
 
-returns : tie.Need-returns Inv-loop μ-loop
-returns c =
-    let l = c .before .before .before .before .before .before .loop in
-    let s = c .before .before .before .settle in
-    λ leaves o. open-stop leaves (l .p) (l .tree) (s .last .0) (s .kept .0) (omega arith) (omega (arith, l .inv .0)) (subst (Settled _ _ _) (not-true _ (c .if1 .taken)) (s .ensures)) (l .inv .2 leaves o)
+sub-beside : tie.Need-sub-beside Inv-loop μ-loop
+sub-beside c = search needs
+
+rank-at-requires : tie.Need-rank-at-requires Inv-loop μ-loop
+rank-at-requires c κs = let l = c .before .before .loop .inv in omega (arith, l .inside, l .kept)
+
+lesser-requires : tie.Need-lesser-requires Inv-loop μ-loop
+lesser-requires c κs = search needs
+
+lay-requires : tie.Need-lay-requires Inv-loop μ-loop
+lay-requires c κs = let l = c .before .before .before .before .before .loop .inv in omega (arith, l .inside, l .kept)
 
 loop-less : tie.Need-loop-less Inv-loop μ-loop
 loop-less c = search needs
 
 loop-again : tie.Need-loop-again Inv-loop μ-loop
 loop-again c =
-    let l = c .before .before .before .before .before .before .loop in
-    let s = c .before .before .before .settle in
-    (s .kept .0 ∙ l .inv .0, omega (arith, l .inv .1), λ leaves o. open-up leaves (l .p) (l .tree) (s .last .0) (s .kept .0) _ (omega arith) (omega (arith, l .inv .0)) (s .ensures) (l .inv .2 leaves o))
+    let x = c .before .before .before .before .before .before .before .before in
+    let a = c .before .before .before .before .before .before .before .before .before .before .args in
+    climbed-more (a .tree .now) (x .loop .tree) (c .before .before .lay .last .0) (a .from) (x .loop .p) (x .loop .least) (c .before .before .before .before .before .rank-at .result) (c .before .before .before .before .lesser .result) (x .loop .inv)
+    (c .before .before .before .before .before .before .before .loop-test .taken) (c .before .before .before .before .before .rank-at .ensures) (c .before .before .before .before .lesser .ensures) (c .before .before .lay .ensures)
 
-same-length-2 : tie.Need-same-length-2 Inv-loop μ-loop
-same-length-2 c = c .before .loop .inv .0
+same-length : tie.Need-same-length Inv-loop μ-loop
+same-length c = c .before .loop .inv .kept
 
-returns-2 : tie.Need-returns-2 Inv-loop μ-loop
-returns-2 c = λ leaves o. open-end leaves (c .before .loop .p) (c .before .loop .tree) (omega arith) (c .before .loop .inv .2 leaves o)
+returns : tie.Need-returns Inv-loop μ-loop
+returns c = λ leaves o. open-end leaves (c .before .loop .p) (c .before .loop .tree) (omega arith) (c .before .loop .inv .so-far leaves o)
 
 pub climb-spec : {M : Type 1} → statement M
 climb-spec =
@@ -55,10 +57,13 @@ climb-spec =
     Inv-loop
     μ-loop
     loop-holds
-    settle-requires
-    same-length
-    returns
+    add-beside
+    mul-beside
+    sub-beside
+    rank-at-requires
+    lesser-requires
+    lay-requires
     loop-less
     loop-again
-    same-length-2
-    returns-2)
+    same-length
+    returns)

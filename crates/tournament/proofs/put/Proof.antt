@@ -1,7 +1,10 @@
 -- `tournament::put` meets its contract: the pair written leaves open the pair above it, which `climb` settles. Assumes nothing.
-use mathlib.Core.Path.{_∙_}
-use lib.ListN.{length-set}
-use Rattle.tournament.proofs.Settling.{open-put}
+use mathlib.Core.Path.{_∙_, ap, sym, subst}
+use mathlib.Core.List.{List}
+use Prim.Native.Nat.{ℕ, _+_, _/_}
+use lib.ListN.{length, set}
+use Rattle.tournament.specs.Tournament.{rankAt, laid, Open}
+use Rattle.tournament.proofs.Settling.{open-put, laid-here, laid-length}
 use native.Mathlib.Omega.{arith}
 use borrow.Author.Needs.{needs}
 use Rattle.tournament.proofs.put.Statement.{statement}
@@ -13,47 +16,33 @@ returns c = search needs
 add-p : tie.Need-add-p
 add-p c = search needs
 
-mul-w : tie.Need-mul-w
-mul-w c = search needs
+rank-requires : tie.Need-rank-requires
+rank-requires c κs = search needs
 
-mul-tree : tie.Need-mul-tree
-mul-tree c = search needs
-
-slice-write-tree : tie.Need-slice-write-tree
-slice-write-tree c = search needs
-
-add-tree : tie.Need-add-tree
-add-tree c = search needs
-
-mul-tree-2 : tie.Need-mul-tree-2
-mul-tree-2 c = search needs
-
-slice-write-tree-2 : tie.Need-slice-write-tree-2
-slice-write-tree-2 c = simp length-set (omega arith)
+lay-requires : tie.Need-lay-requires
+lay-requires c κs = search needs
 
 climb-requires : tie.Need-climb-requires
-climb-requires c κs = simp (length-set, length-set) (omega arith)
+climb-requires c κs =
+    let t = c .before .before .before .before .before .before .before .before .args .tree .now in
+    let p : ℕ = length t / 4 + c .before .before .before .before .before .before .before .before .args .place in
+    let r = c .before .before .before .before .before .rank .result in
+    let l = c .before .before .before .lay in
+    (omega (arith, c .before .before .before .before .before .before .if1 .left, ap length (l .ensures) ∙ laid-length t p r),
+    ap (λ (x : List ℕ). rankAt x p) (l .ensures) ∙ laid-here t p r (omega (arith, c .before .before .before .before .before .before .if1 .left)))
 
 same-length : tie.Need-same-length
-same-length c = c .before .before .climb .kept .0 ∙ simp (length-set, length-set)
+same-length c = c .before .before .climb .kept .0 ∙ c .before .before .before .before .before .before .lay .kept .0
 
 returns-2 : tie.Need-returns-2
 returns-2 c =
-    let s = c .before .before .before .before .before .before in
-    λ leaves t h. c .before .before .climb .ensures _ (open-put leaves (s .args .tree .now) (s .args .place) (s .args .key) (s .args .id) t h)
+    let a = c .before .before .before .before .before .before .before .before .before .before .before .args in
+    let t = a .tree .now in
+    let k = c .before .before .before .before .before .before .before .before .rank .ensures in
+    let l = c .before .before .before .before .before .before .lay .ensures in
+    λ leaves x h. c .before .before .climb .ensures _ (subst (Open (set leaves (a .place) _) (length t / 4 + a .place)) (sym (l ∙ ap (laid t (length t / 4 + a .place)) k)) (open-put leaves t (a .place) _ x h))
 
 pub put-spec : {M : Type 1} → statement M
 put-spec =
     tie.close
-    (tie.spec
-    returns
-    add-p
-    mul-w
-    mul-tree
-    slice-write-tree
-    add-tree
-    mul-tree-2
-    slice-write-tree-2
-    climb-requires
-    same-length
-    returns-2)
+    (tie.spec returns add-p rank-requires lay-requires climb-requires same-length returns-2)

@@ -1,0 +1,63 @@
+-- A walk that has seen every node sees no more, whatever is left in its frontier. Assumes nothing.
+use mathlib.Core.Path.{_≡_, refl, sym, ap, _∙_, subst}
+use mathlib.Core.Logic.{_⊎_, inl, inr}
+use mathlib.Core.Bool.{Bool, true, false}
+use mathlib.Core.List.{List, [], _∷_}
+use mathlib.Core.List.{List·Memᴰ as In, List·Memᴰ·head as here, List·Memᴰ·tail as there, List·Memᴰ·not-nil as in-nil, List·Memᴰ·cases-cons as in-cons}
+use Prim.Native.Nat.{ℕ, zero, suc, _≤_, _<_}
+use native.Mathlib.Omega.{arith}
+use lib.Dec.{T, ltb, ltb→lt}
+use lib.ListN.{length}
+use Rattle.basics.specs.Choice.{pick, pick-ind, pick-yes}
+use Rattle.basics.specs.Nodes.{has, NoDup, Below}
+use Rattle.basics.proofs.Counting.{in-has, in-or-not, at-most}
+use Rattle.walk.specs.Walk.{State, visit, expand, walk}
+use Rattle.beam_search.specs.Search.{within}
+
+-- the entries of a graph's lists are nodes of it
+pub within-below : (n : ℕ) (l : List ℕ) → Below n (within n l)
+unfolding within
+within-below n [] x m = absurd (in-nil m)
+within-below n (v ∷ l) x m = pick-ind (λ (k : List ℕ). In x k → x < n) (ltb v n) (λ t i. go (within-below n l x) t (in-cons i)) (λ _ i. within-below n l x i) m
+  where
+    go : (In x (within n l) → x < n) → T (ltb v n) → (x ≡ v) ⊎ In x (within n l) → x < n
+    go rec t (inl e) = subst (λ (k : ℕ). k < n) (sym e) (ltb→lt v n t)
+    go rec t (inr i) = rec i
+
+-- n different nodes below n are all of them
+pub all-seen : (n : ℕ) (seen : List ℕ) → NoDup seen → Below n seen → n ≤ length seen → (v : ℕ) → v < n → In v seen
+all-seen n seen once inside h v low = go (in-or-not v seen)
+  where
+    both : Below n (v ∷ seen)
+    both x m = case (in-cons m)
+      where
+        case : (x ≡ v) ⊎ In x seen → x < n
+        case (inl e) = omega arith
+        case (inr i) = inside x i
+
+    go : In v seen ⊎ (In v seen → ⊥) → In v seen
+    go (inl m) = m
+    go (inr out) = absurd (omega (arith, at-most n (v ∷ seen) (out, once) both))
+
+-- a list of nodes seen adds nothing
+expand-seen : (push : ℕ → List ℕ → List ℕ) (s : State) (l : List ℕ) → ((v : ℕ) → In v l → In v (s .seen)) → expand push s l ≡ s
+unfolding expand visit
+expand-seen push s [] f = refl
+expand-seen push s (v ∷ l) f =
+    ap (λ (z : State). expand push z l) (pick-yes (has v (s .seen)) s _ (in-has (f v (here refl))))
+    ∙ expand-seen push s l (λ w m. f w (there m))
+
+-- two ways to one outcome
+pub same : {X : Type 0} (b : Bool) (x y z : X) → x ≡ z → y ≡ z → pick b x y ≡ z
+same b x y z p q = pick-ind (λ k. k ≡ z) b (λ _. p) (λ _. q)
+
+pub walk-full : (list : ℕ → List ℕ) (push : ℕ → List ℕ → List ℕ) (far : List ℕ → ℕ → Bool) (many : List ℕ → Bool) (seen : List ℕ)
+    → ((u v : ℕ) → In v (list u) → In v seen) → (more : ℕ) (front : List ℕ) → walk list push far many more seen front ≡ seen
+unfolding walk
+walk-full list push far many seen f zero front = refl
+walk-full list push far many seen f (suc more) [] = refl
+walk-full list push far many seen f (suc more) (u ∷ front) =
+    let e : expand push (record { seen = seen; front = front }) (list u) ≡ record { seen = seen; front = front } = expand-seen push (record { seen = seen; front = front }) (list u) (f u) in
+    same (far seen u) seen _ seen refl
+    (same (many (expand push (record { seen = seen; front = front }) (list u) .seen)) _ _ seen (ap (λ (s : State). s .seen) e)
+    (ap (λ (s : State). walk list push far many more (s .seen) (s .front)) e ∙ walk-full list push far many seen f more front))
