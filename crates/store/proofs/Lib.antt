@@ -3,3 +3,4 @@ pub mod Header
 pub mod Opened
 pub mod Reading
 pub mod Sizes
+mod Flat

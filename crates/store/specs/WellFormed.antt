@@ -34,9 +34,12 @@ abbrev pub isNode : ℕ → ℕ → Bool
 isNode n e = ltb e n
 
 -- a row counts at most D entries, each a node
+abbrev pub countOk : ℕ → List ℕ → Bool
+countOk D row = leb (getD row 0 0) D
+
 unfoldable pub rowOk : ℕ → ℕ → List ℕ → Bool
 unfolding every
-rowOk D n row = leb (getD row 0 0) D && every (isNode n) (entriesIn row)
+rowOk D n row = countOk D row && every (isNode n) (entriesIn row)
 
 -- a bridge has two different nodes for its ends
 abbrev pub bridgeOk : ℕ → List ℕ → Bool

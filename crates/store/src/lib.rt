@@ -36,7 +36,7 @@ ghost use Rattle.store.specs.Layout.{
   dimensionAt,
 };
 ghost use Rattle.store.specs.View.{paramsOf};
-ghost use Rattle.store.specs.WellFormed.{isNode, headerOk, rowOk, bridgeOk, restOk};
+ghost use Rattle.store.specs.WellFormed.{isNode, headerOk, rowOk, countOk, bridgeOk, restOk};
 ghost use Rattle.store.specs.Opening.{storeShort, scratchShort, tooShort, opening};
 use ids::DocId;
 use ids::Node;
@@ -236,8 +236,8 @@ fn row_ok(row: &[u32], degree: u16, n: u32) -> bool
     all_nodes(&row[1..end], n)
 }
 
-// Whether each of the n rows from `from` on is.
-fn rows_ok(words: &[u32], from: usize, degree: u16, n: u32) -> bool
+// Whether each of the n rows from `from` on is, row by row.
+fn each_row_ok(words: &[u32], from: usize, degree: u16, n: u32) -> bool
     requires { ⌜ from + n * rowSize degree ≤ length (now words) ⌝ }
     ensures { λ r. ⌜ r ≡ every (rowOk degree n) (pieces (rowSize degree) n (drop from (now (words .entry)))) ⌝ }
 {
@@ -252,6 +252,37 @@ fn rows_ok(words: &[u32], from: usize, degree: u16, n: u32) -> bool
         i += 1;
     }
     ok
+}
+
+// Whether each of them counts at most D entries.
+fn counts_ok(words: &[u32], from: usize, degree: u16, n: u32) -> bool
+    requires { ⌜ from + n * rowSize degree ≤ length (now words) ⌝ }
+    ensures { λ r. ⌜ r ≡ every (countOk degree) (pieces (rowSize degree) n (drop from (now (words .entry)))) ⌝ }
+{
+    let size = row_size(degree);
+    let mut ok = true;
+    let mut at = from;
+    let mut i: u32 = 0;
+    while i < n {
+        ok = ok & (words[at] <= degree as u32);
+        at += size;
+        i += 1;
+    }
+    ok
+}
+
+// Whether each of the n rows from `from` on is well formed. In rows as the calls leave them no word is a node
+// that there is not, neither a count nor what stands past it, if there are more nodes than D: then one pass
+// over all words of the rows tells. Where it does not, each row is looked at by itself.
+fn rows_ok(words: &[u32], from: usize, degree: u16, n: u32) -> bool
+    requires { ⌜ from + n * rowSize degree ≤ length (now words) ⌝ }
+    ensures { λ r. ⌜ r ≡ every (rowOk degree n) (pieces (rowSize degree) n (drop from (now (words .entry)))) ⌝ }
+{
+    let end = from + n as usize * row_size(degree);
+    if counts_ok(words, from, degree, n) & all_nodes(&words[from..end], n) {
+        return true;
+    }
+    each_row_ok(words, from, degree, n)
 }
 
 // Whether each of the bridges from `from` on has two different nodes for its ends.

@@ -171,4 +171,3 @@ all-empty tree = record {
 
     empty : (p : ℕ) → 2 * p + 1 < length tree → rankAt (replicate (length tree) 0xffff_ffff) p ≡ nothing
     empty p h = ap₂ rankOf (getD-replicate (length tree) (2 * p + 1) 0xffff_ffff 0 h) (getD-replicate (length tree) (2 * p) 0xffff_ffff 0 (omega arith))
-

@@ -1,97 +1,79 @@
--- `store::rows_ok` meets its contract: what is gathered so far, and the rows from the i-th on, make the whole test. Assumes nothing.
-use mathlib.Core.Path.{_≡_}
-use mathlib.Core.Bool.{_&&_}
-use Prim.Native.Nat.{_+_, _-_, _*_, _≤_}
+-- `store::rows_ok` meets its contract: where one pass over all words says yes, each row is well formed (`rows-flat`), and otherwise each is looked at.
+-- Assumes nothing.
+use mathlib.Core.Path.{_≡_, sym, ap, _∙_, subst}
+use mathlib.Core.Bool.{true}
+use mathlib.Core.List.{List}
+use Prim.Native.Nat.{ℕ, _+_, _-_, _*_, _≤_}
 use native.Mathlib.Omega.{arith}
-use lib.ListN.{length, drop, length-take, length-drop}
+use lib.ListN.{length, take, drop}
 use borrow.Author.Needs.{needs}
-use Rattle.basics.specs.Lists.{every, pieces}
-use Rattle.basics.proofs.Every.{gather-first, gather-piece, gather-last}
+use Rattle.basics.specs.Lists.{every}
+use Rattle.basics.proofs.Tests.{both-true}
 use Rattle.store.specs.Layout.{rowSize}
-use Rattle.store.specs.WellFormed.{rowOk}
-use Rattle.store.proofs.Sizes.{product-le}
+use Rattle.store.specs.WellFormed.{isNode}
+use Rattle.store.proofs.Flat.{rows-flat}
 use Rattle.store.proofs.rows_ok.Statement.{statement}
 use Rattle.store.proofs.rows_ok.Tie as tie
 
-abbrev Inv-loop : tie.InvT-loop
-Inv-loop words from degree n size ok₀ at₀ i₀ ok at i =
-    (i ≤ n) × (at ≡ from + i * rowSize degree)
-    × ((ok && every (rowOk degree n) (pieces (rowSize degree) (n - i) (drop at words))) ≡ every (rowOk degree n) (pieces (rowSize degree) n (drop from words)))
+-- the rows end within the words
+fits : (c : tie.After-row-size) → c .before .before .args .from + c .before .before .args .n * c .row-size .result ≤ length (c .before .before .args .words .now)
+fits c = let s = c .before .before in omega (arith, s .pre, ap (λ (k : ℕ). s .args .n * k) (c .row-size .ensures))
 
-abbrev μ-loop : tie.MeasureT-loop
-μ-loop words from degree n size ok₀ at₀ i₀ ok at i = n - i
-
--- the row that starts at `at` lies within
-fits : (c : tie.In-loop Inv-loop μ-loop) → c .before .loop .at + c .before .before .row-size .result ≤ length (c .before .before .before .before .args .words .now)
-fits c =
-    let s = c .before .before .before .before in
-    omega (arith, product-le (c .before .loop .i + 1) (rowSize (s .args .degree)) (s .args .n) (rowSize (s .args .degree)) (omega arith) (omega arith))
-
-row-size-requires : tie.Need-row-size-requires Inv-loop μ-loop
+row-size-requires : tie.Need-row-size-requires
 row-size-requires c κs = search needs
 
-loop-holds : tie.Need-loop-holds Inv-loop μ-loop
-loop-holds c =
-    let s = c .before .before in
-    (omega arith, omega arith, gather-first (rowOk (s .args .degree) (s .args .n)) (s .args .words .now) (rowSize (s .args .degree)) (s .args .n) (s .args .from))
+mul-end : tie.Need-mul-end
+mul-end c = omega (arith, fits c)
 
-add-end : tie.Need-add-end Inv-loop μ-loop
+add-end : tie.Need-add-end
 add-end c = omega (arith, fits c)
 
-mul-row-ok : tie.Need-mul-row-ok Inv-loop μ-loop
-mul-row-ok c = omega (arith, fits c)
+counts-ok-requires : tie.Need-counts-ok-requires
+counts-ok-requires c κs = search needs
 
-sub-row-ok : tie.Need-sub-row-ok Inv-loop μ-loop
-sub-row-ok c = search needs
+mul-all-nodes : tie.Need-mul-all-nodes
+mul-all-nodes c = search needs
 
-part-row-ok-start : tie.Need-part-row-ok-start Inv-loop μ-loop
-part-row-ok-start c = search needs
+sub-all-nodes : tie.Need-sub-all-nodes
+sub-all-nodes c = search needs
 
-part-row-ok-end : tie.Need-part-row-ok-end Inv-loop μ-loop
-part-row-ok-end c = fits c
+part-all-nodes-start : tie.Need-part-all-nodes-start
+part-all-nodes-start c = search needs
 
-row-ok-requires : tie.Need-row-ok-requires Inv-loop μ-loop
-row-ok-requires c κs = simp (length-take, length-drop) (omega (arith, fits (c .before)))
+part-all-nodes-end : tie.Need-part-all-nodes-end
+part-all-nodes-end c = fits (c .before)
 
-add-i : tie.Need-add-i Inv-loop μ-loop
-add-i c = search needs
+all-nodes-requires : tie.Need-all-nodes-requires
+all-nodes-requires c κs = search needs
 
-loop-less : tie.Need-loop-less Inv-loop μ-loop
-loop-less c = search needs
-
-loop-again : tie.Need-loop-again Inv-loop μ-loop
-loop-again c =
-    let s = c .before .before .before .before .before .before in
-    let l = c .before .before .before .loop in
-    let size : c .before .before .before .before .row-size .result ≡ rowSize (s .args .degree) = c .before .before .before .before .row-size .ensures in
-    let part : l .at + rowSize (s .args .degree) - l .at ≡ rowSize (s .args .degree) = omega arith in (
-      omega arith,
-      rw size (omega arith),
-      rw size (gather-piece (rowOk (s .args .degree) (s .args .n)) (s .args .words .now) (rowSize (s .args .degree)) (s .args .n) (l .i) (l .at) (l .ok) _ _ (omega arith)
-          (rw (size, part) at (c .row-ok .ensures)) (l .inv .2)),
-    )
-
-returns : tie.Need-returns Inv-loop μ-loop
+returns : tie.Need-returns
 returns c =
-    let s = c .before .before .before .before in
-    let l = c .before .loop in
-    gather-last (rowOk (s .args .degree) (s .args .n)) (s .args .words .now) (rowSize (s .args .degree)) (s .args .n) (l .i) (l .at) (l .ok) _ (omega arith) (l .inv .2)
+    let a = c .before .before .before .before .before .before .args in
+    let t = both-true _ _ (c .if1 .taken) in
+    let size : c .before .before .before .before .row-size .result ≡ rowSize (a .degree) = c .before .before .before .before .row-size .ensures in
+    let many : a .from + a .n * c .before .before .before .before .row-size .result - a .from ≡ a .n * rowSize (a .degree) = omega (arith, ap (λ (k : ℕ). a .n * k) size) in
+    sym (rows-flat (a .degree) (a .n) (rowSize (a .degree)) (a .n) (drop (a .from) (a .words .now)) (sym (c .before .before .before .counts-ok .ensures) ∙ t .0)
+    (ap (λ (k : ℕ). every (isNode (a .n)) (take k (drop (a .from) (a .words .now)))) (sym many) ∙ sym (c .before .all-nodes .ensures) ∙ t .1))
+
+each-row-ok-requires : tie.Need-each-row-ok-requires
+each-row-ok-requires c κs = search needs
+
+returns-2 : tie.Need-returns-2
+returns-2 c = c .each-row-ok .ensures
 
 pub rows-ok-spec : {M : Type 1} → statement M
 rows-ok-spec =
     tie.close
     (tie.spec
-    Inv-loop
-    μ-loop
     row-size-requires
-    loop-holds
+    mul-end
     add-end
-    mul-row-ok
-    sub-row-ok
-    part-row-ok-start
-    part-row-ok-end
-    row-ok-requires
-    add-i
-    loop-less
-    loop-again
-    returns)
+    counts-ok-requires
+    mul-all-nodes
+    sub-all-nodes
+    part-all-nodes-start
+    part-all-nodes-end
+    all-nodes-requires
+    returns
+    each-row-ok-requires
+    returns-2)

@@ -27,9 +27,10 @@ climb-requires c κs =
     let t = c .before .before .before .before .before .before .before .before .args .tree .now in
     let p : ℕ = length t / 4 + c .before .before .before .before .before .before .before .before .args .place in
     let r = c .before .before .before .before .before .rank .result in
-    let l = c .before .before .before .lay in
-    (omega (arith, c .before .before .before .before .before .before .if1 .left, ap length (l .ensures) ∙ laid-length t p r),
-    ap (λ (x : List ℕ). rankAt x p) (l .ensures) ∙ laid-here t p r (omega (arith, c .before .before .before .before .before .before .if1 .left)))
+    let l = c .before .before .before .lay in (
+      omega (arith, c .before .before .before .before .before .before .if1 .left, ap length (l .ensures) ∙ laid-length t p r),
+      ap (λ (x : List ℕ). rankAt x p) (l .ensures) ∙ laid-here t p r (omega (arith, c .before .before .before .before .before .before .if1 .left)),
+    )
 
 same-length : tie.Need-same-length
 same-length c = c .before .before .climb .kept .0 ∙ c .before .before .before .before .before .before .lay .kept .0
