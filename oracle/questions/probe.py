@@ -48,6 +48,19 @@ def good():
                             bits='2')
 
 
+def evening():
+    """a household's evening, which examples/README.md tells: features that a reader can follow"""
+    def features(*xs):
+        return ','.join(floats(map(single, xs)))
+
+    phones = {101: (1, 0, 0.5, 0), 102: (0, 1, 0, 0.5), 103: (0.5, 0.5, -1, 0), 104: (1, 0, 0.5, 0.25)}
+    asked = [(1, 10, (1, 0.0625, 0.5, 0)), (1, 10, (0, 0.75, 0.0625, 0.5)), (2, 10, (1, 0, 0.5, 0.125)), (1, 10, (-1, 0, 0, 1))]
+    lines = header(dim='4', leaf='2048', min='64', fraction='3f947ae147ae147b', degree='32', bits='12', ef='100', cap='8')
+    lines += [f'add={doc},{features(*xs)}' for doc, xs in phones.items()]
+    lines += [BUILD] + [f'find={k},{ef},{features(*xs)}' for k, ef, xs in asked]
+    yield 'evening', text(lines + [f'add=105,{features(0, 0, 1, 0)}', f'find=1,10,{features(1, 0, 0)}'])
+
+
 def refused():
     for number, changes in ((1, dict(dim='0')), (1, dict(dim='65', leaf='0')), (2, dict(final='2')), (2, dict(cap='0')),
                             (2, dict(alpha='7fc00000'))):
@@ -85,5 +98,5 @@ def ending():
 
 
 def inputs():
-    for part in (good, refused, ending):
+    for part in (good, evening, refused, ending):
         yield from part()
