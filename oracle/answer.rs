@@ -2,6 +2,7 @@
 use crate::distance::cosine_distance_normalized;
 use crate::order::{bits, compare};
 use crate::pipnn::{PipnnIndex, PipnnParams};
+use crate::recognising::{decide, household, score, Recognised};
 use crate::simd;
 use crate::stores::{Asked, Stores};
 use crate::trace;
@@ -27,6 +28,10 @@ impl Question<'_> {
 
     fn words(&mut self, count: usize) -> Vec<u32> {
         (0..count).map(|_| self.word()).collect()
+    }
+
+    fn longs(&mut self, count: usize) -> Vec<u64> {
+        (0..count).map(|_| self.long()).collect()
     }
 
     fn float(&mut self) -> f32 {
@@ -60,6 +65,15 @@ impl Answer {
 
     fn floats(&mut self, xs: &[f32]) {
         xs.iter().for_each(|&x| self.float(x));
+    }
+
+    /// 1 for Known with its doc id, 0 for New, then the score
+    fn recognised(&mut self, recognised: Recognised) {
+        let tokens = match recognised {
+            Recognised::Known(doc, score) => vec![1, doc, score],
+            Recognised::New(score) => vec![0, score],
+        };
+        tokens.into_iter().for_each(|x| self.number(x));
     }
 }
 
@@ -98,10 +112,11 @@ fn answer(state: &mut State, line: &str) -> Option<Answer> {
             set(state, kind, q);
             return None;
         }
-        "new" | "add" | "adds" | "build" | "find" => call(state, kind, q, &mut a),
+        "new" | "add" | "adds" | "build" | "find" | "recognise" => call(state, kind, q, &mut a),
         "sum" | "words" => look(state, kind, q, &mut a),
         "leaves" | "leavesof" => leaves(kind, q, &mut a),
         "leaders" | "draw" => draws(kind, q, &mut a),
+        "score" | "decide" | "household" => recognising(kind, q, &mut a),
         _ => number(kind, q, &mut a),
     }
     assert!(q.0.next().is_none(), "too many tokens: {line}");
@@ -206,6 +221,25 @@ fn leaves(kind: &str, q: &mut Question, a: &mut Answer) {
     match kind {
         "leaves" => flat.iter().for_each(|&x| a.number(x)),
         _ => a.number(checksum(&flat)),
+    }
+}
+
+fn recognising(kind: &str, q: &mut Question, a: &mut Answer) {
+    match kind {
+        "score" => a.number(score(q.float())),
+        "decide" => a.recognised(decide(q.word(), q.float(), q.float())),
+        _ => {
+            let (day, count) = (q.long(), q.size());
+            let seconds = q.longs(count);
+            let count = q.size();
+            match household(day, &seconds, &q.words(count)) {
+                Ok(phones) => {
+                    a.number(0);
+                    a.number(phones);
+                }
+                Err(refusal) => a.number(refusal),
+            }
+        }
     }
 }
 
@@ -319,6 +353,17 @@ fn call(state: &mut State, kind: &str, q: &mut Question, a: &mut Answer) {
             a.number(adds(&mut stores, count, seed, style));
         }
         "build" => a.number(stores.build((q.size(), q.size())).0),
+        "recognise" => {
+            let scratch = (q.size(), q.size());
+            let (ef, limit, length) = (q.word(), q.float(), q.size());
+            match stores.recognise(scratch, ef, limit, &q.words(length)) {
+                Ok(recognised) => {
+                    a.number(0);
+                    a.recognised(recognised);
+                }
+                Err(refusal) => a.number(refusal),
+            }
+        }
         _ => {
             let scratch = (q.size(), q.size());
             let (k, ef, outputs, length) = (q.word(), q.word(), (q.size(), q.size()), q.size());

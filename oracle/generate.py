@@ -1,8 +1,8 @@
 #!/usr/bin/env python3
 """Makes the questions of the recorded answers, the same at every run.
 
-usage: generate.py numbers|sorting|store|build|search    prints the questions of that file
-       generate.py probe FOLDER                  writes inputs of the program probe, FOLDER/NAME.in
+usage: generate.py numbers|sorting|store|build|search|recognise    prints the questions of that file
+       generate.py probe FOLDER                                    writes inputs of the program probe, FOLDER/NAME.in
 """
 import importlib
 import pathlib

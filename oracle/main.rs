@@ -13,6 +13,7 @@ mod order;
 mod pipnn;
 mod prefetch;
 mod probe;
+mod recognising;
 mod simd;
 mod stores;
 mod trace;

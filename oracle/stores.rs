@@ -1,6 +1,7 @@
 //! The two stores of 01 and the calls on them: layout, well-formedness, sizes and refusals in 01's words. Vectors, lists, bridges, entry
 //! nodes and answers come from the published code.
 use crate::pipnn::{PipnnIndex, PipnnParams};
+use crate::recognising::{decide, Recognised};
 use crate::trace::{self, Trace};
 
 const HEADER: usize = 16;
@@ -351,5 +352,20 @@ impl Stores<'_> {
                 scored: trace.scored,
             },
         )
+    }
+
+    /// A search with k = 1 into outputs that have room, then 13 for a limit that is not finite. A refusal is its number.
+    pub fn recognise(
+        &self,
+        scratch: Scratch,
+        ef: u32,
+        limit: f32,
+        query: &[u32],
+    ) -> Result<Recognised, u32> {
+        let (number, found) = self.find(scratch, 1, ef, (1, 1), query);
+        match first(&[(number != 0, number), (!limit.is_finite(), 13)]) {
+            0 => Ok(decide(found.docs[0], found.distances[0], limit)),
+            refusal => Err(refusal),
+        }
     }
 }

@@ -27,16 +27,22 @@ mostNodes = 1024
 abbrev pub mostBeam : ℕ
 mostBeam = 1024
 
+-- what is asked, of whatever is written: 10, 6, 7, 11. Recognising begins with these too.
+abbrev pub askingChecks : List ℕ → List Float → ℕ → ℕ → List Check
+askingChecks w query k ef =
+    check (not (eqb (word w stateAt) builtState)) 10
+    ∷ check (not (eqb (length query) (word w dimensionAt))) 6
+    ∷ check (not (every finite query)) 7
+    ∷ check (ltb mostNodes k || ltb mostBeam ef) 11
+    ∷ []
+
 module _ (w : List ℕ) (query : List Float) (k ef : ℕ) (docs : List ℕ) (distances : List Float) where
+  -- then the room of the two outputs, 12
   unfoldable pub ownSearchChecks : List Check
   unfolding every
   ownSearchChecks =
-      check (not (eqb (word w stateAt) builtState)) 10
-      ∷ check (not (eqb (length query) (word w dimensionAt))) 6
-      ∷ check (not (every finite query)) 7
-      ∷ check (ltb mostNodes k || ltb mostBeam ef) 11
-      ∷ check (ltb (length docs) (min k (word w nodesAt)) || ltb (length distances) (min k (word w nodesAt))) 12
-      ∷ []
+      askingChecks w query k ef
+      ++ (check (ltb (length docs) (min k (word w nodesAt)) || ltb (length distances) (min k (word w nodesAt))) 12 ∷ [])
 
   -- scratch of ws words and fs floats is lent
   unfoldable pub searchChecks : (ws fs : ℕ) → List Float → List Check

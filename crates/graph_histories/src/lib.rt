@@ -16,11 +16,11 @@ use search::Found;
 const OLD: u64 = 0x9e37_79b9;
 
 // Scratch of the size that the largest index needs, 64·1,024 words and 16·1,024 + 256 floats.
-const SCRATCH_WORDS: usize = 65536;
+pub const SCRATCH_WORDS: usize = 65536;
 
-const SCRATCH_FLOATS: usize = 16640;
+pub const SCRATCH_FLOATS: usize = 16640;
 
-fn scratch_words() -> [u32; SCRATCH_WORDS]
+pub fn scratch_words() -> [u32; SCRATCH_WORDS]
     ensures { λ r. ⌜ 65536 ≡ length r ⌝ }
 {
     let mut words = [0u32; SCRATCH_WORDS];
@@ -28,7 +28,7 @@ fn scratch_words() -> [u32; SCRATCH_WORDS]
     words
 }
 
-fn scratch_floats() -> [f32; SCRATCH_FLOATS]
+pub fn scratch_floats() -> [f32; SCRATCH_FLOATS]
     ensures { λ r. ⌜ 16640 ≡ length r ⌝ }
 {
     let mut floats = [0.0f32; SCRATCH_FLOATS];

@@ -210,6 +210,19 @@ pub fn floats(tokens: &[u64], from: usize, n: usize, out: &mut [f32]) -> usize
     count
 }
 
+// The same for words.
+pub fn words(tokens: &[u64], from: usize, n: usize, out: &mut [u32]) -> usize
+    ensures { λ r. ⌜ r ≤ length (now (out .exit)) ⌝ }
+{
+    let count = lesser(n, out.len());
+    let mut i: usize = 0;
+    while i < count {
+        out[i] = word(tokens, from, i);
+        i += 1;
+    }
+    count
+}
+
 pub fn lesser(a: usize, b: usize) -> usize
     ensures { λ r. ⌜ (r ≤ a) × (r ≤ b) ⌝ }
 {
@@ -225,6 +238,13 @@ pub fn front(xs: &[f32], n: usize) -> &[f32] {
 }
 
 pub fn front_words(xs: &[u32], n: usize) -> &[u32] {
+    if xs.len() <= n {
+        return xs;
+    }
+    &xs[..n]
+}
+
+pub fn front_tokens(xs: &[u64], n: usize) -> &[u64] {
     if xs.len() <= n {
         return xs;
     }

@@ -2,8 +2,8 @@
 // with the oracle's, and so are both stores afterwards, by their checksums and word by word.
 //
 // `replay_input` takes all of standard input and prints for each kind of line how many cases there were and
-// how many differ. The programs replay_store, replay_build and replay_search are that, each on its own
-// recorded text. Everything here is proved safe on every text, and nothing more.
+// how many differ. The programs replay_store, replay_build, replay_search and replay_recognise are that, each
+// on its own recorded text. Everything here is proved safe on every text, and nothing more.
 ghost use Prim.Native.Nat.{_≤_};
 ghost use mathlib.Core.Path.{_≡_};
 ghost use lib.ListN.{length};
@@ -32,22 +32,30 @@ const LEAVES: usize = 7;
 
 const LEAVESOF: usize = 8;
 
-const NO_KIND: usize = 9;
+const RECOGNISE: usize = 9;
 
-const FILL: usize = 10;
+const SCORE: usize = 10;
 
-const LEND: usize = 11;
+const DECIDE: usize = 11;
 
-const WORD: usize = 12;
+const HOUSEHOLD: usize = 12;
 
-const FLOAT: usize = 13;
+const NO_KIND: usize = 13;
 
-const NOT_COMPARED: usize = 14;
+const FILL: usize = 14;
 
-const KINDS: usize = 15;
+const LEND: usize = 15;
+
+const WORD: usize = 16;
+
+const FLOAT: usize = 17;
+
+const NOT_COMPARED: usize = 18;
+
+const KINDS: usize = 19;
 
 fn call_kind_at(text: &[u8], at: usize) -> usize
-    ensures { λ r. ⌜ r ≤ 9 ⌝ }
+    ensures { λ r. ⌜ r ≤ 13 ⌝ }
 {
     if replay::starts(text, at, b"new ") {
         return NEW;
@@ -67,8 +75,26 @@ fn call_kind_at(text: &[u8], at: usize) -> usize
     NO_KIND
 }
 
+fn recognising_kind_at(text: &[u8], at: usize) -> usize
+    ensures { λ r. ⌜ r ≤ 13 ⌝ }
+{
+    if replay::starts(text, at, b"recognise ") {
+        return RECOGNISE;
+    }
+    if replay::starts(text, at, b"score ") {
+        return SCORE;
+    }
+    if replay::starts(text, at, b"decide ") {
+        return DECIDE;
+    }
+    if replay::starts(text, at, b"household ") {
+        return HOUSEHOLD;
+    }
+    call_kind_at(text, at)
+}
+
 fn asking_kind_at(text: &[u8], at: usize) -> usize
-    ensures { λ r. ⌜ r ≤ 9 ⌝ }
+    ensures { λ r. ⌜ r ≤ 13 ⌝ }
 {
     if replay::starts(text, at, b"sum ") {
         return SUM;
@@ -82,11 +108,11 @@ fn asking_kind_at(text: &[u8], at: usize) -> usize
     if replay::starts(text, at, b"leavesof ") {
         return LEAVESOF;
     }
-    call_kind_at(text, at)
+    recognising_kind_at(text, at)
 }
 
 fn kind_at(text: &[u8], at: usize) -> usize
-    ensures { λ r. ⌜ r ≤ 13 ⌝ }
+    ensures { λ r. ⌜ r ≤ 17 ⌝ }
 {
     if replay::starts(text, at, b"fill ") {
         return FILL;
@@ -114,6 +140,10 @@ fn write_kind(kind: usize) {
         6 => io::write_all(STDOUT_FILENO, b"words"),
         7 => io::write_all(STDOUT_FILENO, b"leaves"),
         8 => io::write_all(STDOUT_FILENO, b"leavesof"),
+        9 => io::write_all(STDOUT_FILENO, b"recognise"),
+        10 => io::write_all(STDOUT_FILENO, b"score"),
+        11 => io::write_all(STDOUT_FILENO, b"decide"),
+        12 => io::write_all(STDOUT_FILENO, b"household"),
         _ => io::write_all(STDOUT_FILENO, b"of no kind"),
     }
     ;
@@ -138,6 +168,10 @@ fn is_same(
         5 => histories::sum_is_same(tokens, asked, words, floats, h),
         6 => histories::words_is_same(tokens, asked, words),
         7 => graph_histories::leaves_is_same(tokens, asked, vector),
+        9 => recognise_histories::recognise_is_same(tokens, asked, words, floats, vector, h),
+        10 => recognise_histories::score_is_same(tokens, asked),
+        11 => recognise_histories::decide_is_same(tokens, asked),
+        12 => recognise_histories::household_is_same(tokens, asked),
         _ => false,
     }
 }
@@ -174,7 +208,7 @@ fn bump(tallies: &mut [u64], i: usize, by: u64) {
 
 // Counts a line at place `kind`, and a case that differs KINDS places further on too.
 fn count(tallies: &mut [u64], kind: usize, same: bool)
-    requires { ⌜ kind ≤ 14 ⌝ }
+    requires { ⌜ kind ≤ 18 ⌝ }
 {
     bump(tallies, kind, 1);
     bump(tallies, KINDS + kind, (!same) as u64);
@@ -200,7 +234,7 @@ fn replay_tokens(
     tallies: &mut [u64],
     h: History,
 ) -> History
-    requires { ⌜ kind ≤ 13 ⌝ }
+    requires { ⌜ kind ≤ 17 ⌝ }
 {
     if kind == LEAVESOF {
         let outcome = graph_histories::leavesof_is_same(tokens, asked, vector);
@@ -215,14 +249,6 @@ fn replay_tokens(
     prepared(kind, tokens, words, floats, h)
 }
 
-// The first n tokens, or all if there are fewer.
-fn front_tokens(tokens: &[u64], n: usize) -> &[u64] {
-    if tokens.len() <= n {
-        return tokens;
-    }
-    &tokens[..n]
-}
-
 // Replays a line that was read: its tokens are the first ones.
 fn replay_line(
     kind: usize,
@@ -234,9 +260,9 @@ fn replay_line(
     tallies: &mut [u64],
     h: History,
 ) -> History
-    requires { ⌜ kind ≤ 13 ⌝ }
+    requires { ⌜ kind ≤ 17 ⌝ }
 {
-    let own = front_tokens(tokens, line.count);
+    let own = replay::front_tokens(tokens, line.count);
     replay_tokens(kind, own, line.asked, words, floats, vector, tallies, h)
 }
 
@@ -348,7 +374,7 @@ pub fn replay_input() {
     let mut words = word_store();
     let mut floats = float_store();
     let mut vector = components();
-    let mut tallies = [0u64; 30];
+    let mut tallies = [0u64; 38];
     replay_all(
         &mut text,
         &mut tokens,

@@ -6,11 +6,11 @@ use Rattle.replay_histories.proofs.write_tallies.Tie as tie
 
 abbrev Inv-loop : tie.InvT-loop
 Inv-loop tallies kind₀ kind =
-    kind ≤ 10
+    kind ≤ 14
 
 abbrev μ-loop : tie.MeasureT-loop
 μ-loop tallies kind₀ kind =
-    10 - kind
+    14 - kind
 
 loop-holds : tie.Need-loop-holds Inv-loop μ-loop
 loop-holds c = search needs

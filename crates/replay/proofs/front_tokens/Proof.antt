@@ -3,14 +3,14 @@ use mathlib.Core.Path.{sym}
 use lib.Seq.{length-take-le}
 use native.Mathlib.Omega.{arith}
 use borrow.Author.Needs.{needs}
-use Rattle.replay_histories.proofs.front_tokens.Statement.{statement}
-use Rattle.replay_histories.proofs.front_tokens.Tie as tie
+use Rattle.replay.proofs.front_tokens.Statement.{statement}
+use Rattle.replay.proofs.front_tokens.Tie as tie
 
 returns : tie.Need-returns
 returns c = search needs
 
 slice-aggregate-result : tie.Need-slice-aggregate-result
-slice-aggregate-result c = sym (length-take-le (c .before .before .args .n) (c .before .before .args .tokens .now) (omega arith))
+slice-aggregate-result c = sym (length-take-le (c .before .before .args .n) (c .before .before .args .xs .now) (omega arith))
 
 returns-2 : tie.Need-returns-2
 returns-2 c = search needs

@@ -1,0 +1,85 @@
+-- What a reader expects of the call: the number that it returns is that of the first check that fails, since Known and New return 0; and a call that
+-- is not turned back has a node to go by. Assumes nothing.
+use mathlib.Core.Path.{_≡_, refl, sym, _∙_}
+use mathlib.Core.Logic.{⊎-elim}
+use mathlib.Core.Bool.{not}
+use mathlib.Core.List.{List, [], _∷_, _++_, reverse}
+use mathlib.Core.List.{List·Memᴰ as In, List·Memᴰ·head as here, List·Memᴰ·not-nil as in-nil}
+use Prim.Native.Nat.{ℕ, _<_}
+use native.Mathlib.Omega.{arith}
+use lib.Dec.{eqb, eqb→eq}
+use lib.ListN.{length, length-reverse, length-take}
+use lib.Ieee.{Float, le}
+use lib.Ieee.Scale.{finite}
+use borrow.Author.Tests.{eqb-true, not-false}
+use Rattle.basics.specs.Choice.{pick-ind}
+use Rattle.basics.specs.Refusals.{Check, check, firstRefusal}
+use Rattle.basics.proofs.Refusals.{passes, both-none}
+use Rattle.ids.specs.declared.DocId.{DocId}
+use Rattle.sorting.specs.Sorting.{sortBy}
+use Rattle.sorting.proofs.Laws.{length-sort}
+use Rattle.store.specs.declared.Lent.the-variants.{Scratch}
+use Rattle.store.specs.Layout.{word, builtState, stateAt, nodesAt, entryAt}
+use Rattle.store.specs.View.{view, listIn}
+use Rattle.store.specs.Opening.{opening}
+use Rattle.store.proofs.Header.{Built}
+use Rattle.store.proofs.Opened.{Opened, opened, opening-numbered}
+use Rattle.beam.specs.KeepClosest.{keyAt}
+use Rattle.beam.specs.Beam.{placesFor, walked, beamSearch, answerOf}
+use Rattle.beam.proofs.Laws.{ended}
+use Rattle.calls.specs.Search.{askingChecks, farIn, scoredIn, foundIn}
+use Rattle.search.proofs.Inside.{lists-inside}
+use Rattle.score.specs.declared.Recognised.{Recognised}
+use Rattle.score.specs.Recognised.{recognisedAs, numberOf}
+use Rattle.recognise.specs.Recognise.{recogniseChecks, nearestOf, docIn, recogniseSpec}
+
+decided : (doc : DocId) (d limit : Float) → numberOf (recognisedAs doc d limit) ≡ 0
+unfolding recognisedAs
+decided doc d limit = pick-ind (λ (r : Recognised). numberOf r ≡ 0) (le d limit) (λ _. refl) (λ _. refl)
+
+nearest : (doc : ℕ → DocId) (far : ℕ → Float) (limit : Float) (found : List ℕ) → numberOf (nearestOf doc far limit found) ≡ 0
+nearest doc far limit [] = refl
+nearest doc far limit (node ∷ _) = decided (doc node) (far node) limit
+
+pub number-is : (ws fs : ℕ) (w : List ℕ) (f query : List Float) (ef : ℕ) (limit : Float)
+    → numberOf (recogniseSpec ws fs w f query ef limit) ≡ firstRefusal (recogniseChecks ws fs w f query ef limit)
+unfolding recogniseSpec
+number-is ws fs w f query ef limit =
+    let refusal : ℕ = firstRefusal (recogniseChecks ws fs w f query ef limit) in
+    pick-ind (λ (r : Recognised). numberOf r ≡ refusal) (eqb refusal 0) (λ t. nearest (docIn (view w f)) (farIn (view w f) query) limit (foundIn (view w f) query 1 ef) ∙ sym (eqb→eq refusal 0 t)) (λ _. refl)
+
+-- ---- a call that is not turned back has one node to go by: the entry node is always scored
+
+some : (x : ℕ) (l : List ℕ) → In x l → 0 < length l
+some x [] m = absurd (in-nil m)
+some x (y ∷ l) m = omega arith
+
+module _ (ws fs : ℕ) (w : List ℕ) (f query : List Float) (ef : ℕ) (limit : Float) (e : firstRefusal (recogniseChecks ws fs w f query ef limit) ≡ 0) where
+  abbrev asking : List Check
+  asking = askingChecks w query 1 ef ++ (check (not (finite limit)) 13 ∷ [])
+
+  lists : (firstRefusal (opening (Scratch ws fs) w f) ≡ 0) × (firstRefusal asking ≡ 0)
+  unfolding recogniseChecks
+  lists = both-none (opening (Scratch ws fs) w f) asking (opening-numbered (Scratch ws fs) w f) e
+
+  state : word w stateAt ≡ builtState
+  state = let t = passes asking (omega arith) (lists .1) in eqb-true _ _ (not-false _ (t .0))
+
+  stores : Opened (Scratch ws fs) w f
+  stores = opened (Scratch ws fs) w f (lists .0)
+
+  built : Built w
+  built = ⊎-elim (λ o. absurd (omega (arith, o .state, state))) (λ b. b) (stores .header .state)
+
+  abbrev far : ℕ → Float
+  far = farIn (view w f) query
+
+  abbrev seen : List ℕ
+  seen = walked (listIn (view w f)) (word w nodesAt) (word w entryAt) far (placesFor ef 1)
+
+  pub one-found : length (foundIn (view w f) query 1 ef) ≡ 1
+  unfolding foundIn scoredIn answerOf beamSearch view
+  one-found =
+      let scored : List ℕ = reverse seen in
+      let kept = ended (listIn (view w f)) (word w nodesAt) (word w entryAt) (built .entry) (lists-inside w f (stores .rest)) far (placesFor ef 1) .keeps in
+      omega (arith, length-take 1 (sortBy (keyAt far) scored), length-sort (keyAt far) scored, length-reverse seen, some (word w entryAt) seen (kept (word w entryAt) (here refl)))

@@ -1,0 +1,55 @@
+// `recognise`: whether a phone is one of those stored, as one call (01, "Recognising"). The Rust has no such
+// call.
+//
+// It is `search_with_ef` with k = 1 and the caller's ef into two places of its own, so no output of the
+// caller's can be too short; then the limit has to be finite (13); then `score::decide` says Known or New
+// by the nearest node's distance, with its score. The enum is the whole answer: a refusal gives only its
+// number.
+//
+// It promises one equation for the answer, refusals included, for every content and length of what it is
+// lent: `recogniseSpec` of specs/Recognise. The stores stay as they are, and what scratch held before never
+// shows. proofs/Laws has what a reader expects of that definition, proofs/Examples what it gives for 01's
+// three phones.
+//
+// It leans on `search` for the checks and the walk, on `score` for the answer at a distance.
+ghost use mathlib.Core.Path.{_≡_};
+ghost use lib.ListN.{length};
+ghost use Rattle.recognise.specs.Recognise.{recogniseSpec};
+use ids::DocId;
+use score::Recognised;
+
+pub fn recognise(
+    words: &[u32],
+    floats: &[f32],
+    query: &[f32],
+    ef: u32,
+    limit: f32,
+    scratch_words: &mut [u32],
+    scratch_floats: &mut [f32],
+) -> Recognised
+    ensures { λ r. ⌜ r ≡ recogniseSpec (length (now («scratch_words» .entry))) (length (now («scratch_floats» .entry))) (now (words .entry)) (now (floats .entry)) (now (query .entry)) ef limit ⌝ }
+{
+    let mut doc = [0u32; 1];
+    let mut distance = [0.0f32; 1];
+    let found = search::search_with_ef(
+        words,
+        floats,
+        query,
+        1,
+        ef,
+        &mut doc,
+        &mut distance,
+        scratch_words,
+        scratch_floats,
+    );
+    if found.number != 0 {
+        return Recognised::Refused(found.number);
+    }
+    if !finite::is_finite(limit) {
+        return Recognised::Refused(13);
+    }
+    if found.count == 0 {
+        return Recognised::New(0);
+    }
+    score::decide(DocId(doc[0]), distance[0], limit)
+}
