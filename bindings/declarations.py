@@ -1,0 +1,310 @@
+#!/usr/bin/env python3
+"""Compares what the library's source exports with what C and Rust are told of it.
+
+    declarations.py          in the repository, from any folder
+
+The source is crates/drintelbok/src/lib.rt: its functions marked `pub extern "C"` and its `#[repr(C)]` structs. Declared are they in
+include/pipnn.h and in bindings/rust/src/sys.rs. Every function must stand in all three, with the same parameters in the same order, of
+the same names and types, and the same result; every struct with the same fields. A slice x of the source is a pointer x and a length
+x_length. Names of structs are snake case in C. Refusals and limits are compared with the definitions and constants of the library.
+
+Then it tries edits of these files, one at a time and in memory, and fails if one goes unnoticed.
+"""
+import itertools
+import pathlib
+import re
+import sys
+
+HOME = pathlib.Path(__file__).resolve().parent.parent
+SOURCE = "crates/drintelbok/src/lib.rt"
+HEADER = "include/pipnn.h"
+RUST = "bindings/rust/src/sys.rs"
+ERRORS = "bindings/rust/src/error.rs"
+LIMITS = "bindings/rust/src/params.rs"
+LIMIT_SOURCES = ["crates/params/src/lib.rt", "crates/search/src/lib.rt", "crates/household/src/lib.rt"]
+
+NUMBERS = {"u32", "u64", "usize", "f32", "f64"}
+C_NUMBERS = {"uint32_t": "u32", "uint64_t": "u64", "size_t": "usize", "float": "f32", "double": "f64"}
+
+
+class Unreadable(Exception):
+    """A declaration that the comparison does not know how to read: it is not passed over."""
+
+
+def camel(snake):
+    return "".join(word.capitalize() for word in snake.lower().split("_"))
+
+
+def parts(text):
+    return [part.strip() for part in text.split(",") if part.strip()]
+
+
+def field(text, where):
+    found = re.fullmatch(r"pub (\w+): (\w+)", text)
+    if not found or found[2] not in NUMBERS:
+        raise Unreadable(f"{where}: field '{text}'")
+    return found.groups()
+
+
+def once(pairs, where):
+    names = [name for name, _ in pairs]
+    twice = {name for name in names if names.count(name) > 1}
+    if twice:
+        raise Unreadable(f"{where}: declared twice: {sorted(twice)}")
+    return dict(pairs)
+
+
+# ---- the source
+
+
+def source_parameter(text):
+    name, kind = re.fullmatch(r"(\w+): (.+)", text).groups()
+    lent = re.fullmatch(r"&(mut )?\[(\w+)\]", kind)
+    if lent and lent[2] in NUMBERS:
+        return [(name, f"*{'mut' if lent[1] else 'const'} {lent[2]}"), (f"{name}_length", "usize")]
+    if kind in NUMBERS:
+        return [(name, kind)]
+    raise Unreadable(f"{SOURCE}: parameter '{text}'")
+
+
+def of_source(text):
+    text = re.sub(r"//.*", "", text)
+    structs = [
+        (name, [field(f, SOURCE) for f in parts(body)])
+        for name, body in re.findall(r"#\[repr\(C\)\]\s*pub struct (\w+) \{(.*?)\}", text, re.S)
+    ]
+    functions = [
+        (name, ([p for q in parts(arguments) for p in source_parameter(q)], result))
+        for name, arguments, result in re.findall(
+            r'#\[no_mangle\]\s*pub extern "C" fn (\w+)\((.*?)\)\s*->\s*(\w+)', text, re.S
+        )
+    ]
+    if len(functions) != text.count('extern "C"') or len(structs) != text.count("struct "):
+        raise Unreadable(f"{SOURCE}: a function or a struct that is not read")
+    return once(structs, SOURCE), once(functions, SOURCE)
+
+
+# ---- the header
+
+
+def c_parameter(text):
+    found = re.fullmatch(r"(const )?(\w+) (\*?)(\w+)", text)
+    if not found or found[2] not in C_NUMBERS or (found[1] and not found[3]):
+        raise Unreadable(f"{HEADER}: parameter '{text}'")
+    kind = C_NUMBERS[found[2]]
+    if found[3]:
+        kind = f"*{'const' if found[1] else 'mut'} {kind}"
+    return found[4], kind
+
+
+def c_result(text):
+    if text in C_NUMBERS:
+        return C_NUMBERS[text]
+    if text.startswith("struct "):
+        return camel(text[len("struct ") :])
+    raise Unreadable(f"{HEADER}: result '{text}'")
+
+
+def of_header(text):
+    text = re.sub(r"/\*.*?\*/", " ", text, flags=re.S)
+    text = re.sub(r"^\s*#.*$|^\s*extern \"C\" \{$|^\}$", "", text, flags=re.M)
+    structs, functions = [], []
+    for declaration in re.split(r";(?![^{]*\})", text):
+        declaration = " ".join(declaration.split())
+        if not declaration or declaration.startswith("enum "):
+            continue
+        struct = re.fullmatch(r"struct (\w+) \{(.*)\}", declaration)
+        if struct:
+            fields = [c_parameter(" ".join(f.split())) for f in struct[2].split(";") if f.strip()]
+            structs.append((camel(struct[1]), fields))
+            continue
+        function = re.fullmatch(r"((?:struct )?\w+) (\w+)\((.*)\)", declaration)
+        if not function:
+            raise Unreadable(f"{HEADER}: '{declaration}'")
+        functions.append((function[2], ([c_parameter(p) for p in parts(function[3])], c_result(function[1]))))
+    return once(structs, HEADER), once(functions, HEADER)
+
+
+# ---- the Rust declarations
+
+
+def rust_parameter(text):
+    name, kind = re.fullmatch(r"(\w+): (.+)", text).groups()
+    pointer = re.fullmatch(r"\*(mut|const) (\w+)", kind)
+    if (pointer[2] if pointer else kind) not in NUMBERS:
+        raise Unreadable(f"{RUST}: parameter '{text}'")
+    return name, kind
+
+
+def of_rust(text):
+    text = re.sub(r"//.*", "", text)
+    structs = [
+        (name, [field(f, RUST) for f in parts(body)])
+        for name, body in re.findall(r"#\[repr\(C\)\]\s*(?:#\[.*?\]\s*)*pub struct (\w+) \{(.*?)\}", text, re.S)
+    ]
+    block = re.findall(r'extern "C" \{(.*?)\}', text, re.S)
+    if len(block) != 1:
+        raise Unreadable(f"{RUST}: not one extern block")
+    functions = [
+        (name, ([rust_parameter(p) for p in parts(arguments)], result))
+        for name, arguments, result in re.findall(r"pub fn (\w+)\((.*?)\)\s*->\s*(\w+);", block[0], re.S)
+    ]
+    if len(functions) != block[0].count("fn ") or len(structs) != text.count("pub struct "):
+        raise Unreadable(f"{RUST}: a function or a struct that is not read")
+    return once(structs, RUST), once(functions, RUST)
+
+
+# ---- refusals and limits
+
+
+def closing(text, at):
+    """Past the bracket that closes one opened just before `at`."""
+    depth = 1
+    while depth:
+        depth += {"(": 1, ")": -1}.get(text[at], 0)
+        at += 1
+    return at
+
+
+def refusals(files):
+    """Of the definitions: each `check (..) N` and each `(Refused N)`."""
+    numbers = set()
+    for name, text in files.items():
+        if re.fullmatch(r"crates/\w+/specs/\w+\.antt", name):
+            for test in re.finditer(r"\bcheck \(", text):
+                number = re.match(r" (\d+)\b", text[closing(text, test.end()) :])
+                if not number:
+                    raise Unreadable(f"{name}: a check without a number: '{text[test.start():test.end() + 40]}'")
+                numbers.add(int(number[1]))
+            numbers |= {int(n) for n in re.findall(r"\(Refused (\d+)\)", text)}
+    return numbers
+
+
+def named_refusals(files):
+    header = once(re.findall(r"^    PIPNN_(\w+) = (\d+)", files[HEADER], re.M), HEADER)
+    rust = once(re.findall(r"^    (\w+) = (\d+), \"", files[ERRORS], re.M), ERRORS)
+    return (
+        {camel(name): int(number) for name, number in header.items()},
+        {"Ok": 0} | {name: int(number) for name, number in rust.items()},
+    )
+
+
+def limits(files):
+    pattern = r"^pub const (MOST_\w+): (?:u32|usize) = (\d+);"
+    source = [pair for name in LIMIT_SOURCES for pair in re.findall(pattern, files[name], re.M)]
+    return (
+        once(source, "limits"),
+        once(re.findall(r"^#define PIPNN_(MOST_\w+) (\d+)\b", files[HEADER], re.M), HEADER),
+        once(re.findall(pattern, files[LIMITS], re.M), LIMITS),
+    )
+
+
+# ---- comparing
+
+
+def flat(declaration):
+    """A declaration as the list of its parts: fields or parameters, and a result."""
+    if isinstance(declaration, tuple):
+        return flat(declaration[0]) + [f"-> {declaration[1]}"]
+    if isinstance(declaration, list):
+        return [f"{name}: {kind}" for name, kind in declaration]
+    return [str(declaration)]
+
+
+def differences(what, there, here, where, source="the source"):
+    for name in sorted(there.keys() | here.keys()):
+        if name not in here or name not in there:
+            yield f"{where}: {what} {name} is {'missing' if name in there else f'not in {source}'}"
+            continue
+        for other, this in itertools.zip_longest(flat(there[name]), flat(here[name]), fillvalue="nothing"):
+            if other != this:
+                yield f"{where}: {what} {name} has '{this}' where {source} has '{other}'"
+                break
+
+
+def compare(files):
+    structs, functions = of_source(files[SOURCE])
+    found = []
+    for where, (other_structs, other_functions) in (
+        (HEADER, of_header(files[HEADER])),
+        (RUST, of_rust(files[RUST])),
+    ):
+        found += differences("struct", structs, other_structs, where)
+        found += differences("function", functions, other_functions, where)
+    in_header, in_rust = named_refusals(files)
+    found += differences("refusal", in_header, in_rust, ERRORS, HEADER)
+    defined = refusals(files) | {0}
+    if sorted(in_header.values()) != sorted(defined):
+        found.append(f"{HEADER}: refusals {sorted(in_header.values())}, but the definitions have {sorted(defined)}")
+    there, in_header, in_rust = limits(files)
+    found += differences("limit", there, in_header, HEADER)
+    found += differences("limit", there, in_rust, LIMITS)
+    return found, (len(functions), len(structs), len(defined), len(there))
+
+
+# Edits that the comparison must notice: the file, what stands there, what is put in its first place.
+EDITS = [
+    (HEADER, "uint32_t k,\n", "uint32_t ef,\n"),
+    (HEADER, "uint32_t max_leaf_size,\n                   uint32_t min_leaf_size", "uint32_t min_leaf_size,\n                   uint32_t max_leaf_size"),
+    (HEADER, "double leader_fraction", "float leader_fraction"),
+    (HEADER, "const float *vector", "float *vector"),
+    (HEADER, "size_t vector_length", "uint32_t vector_length"),
+    (HEADER, "uint64_t day", "uint32_t day"),
+    (HEADER, "size_t pipnn_scratch_floats(uint32_t capacity);\n", ""),
+    (HEADER, "size_t pipnn_words_size", "uint32_t pipnn_words_size"),
+    (HEADER, "struct pipnn_found pipnn_search(", "struct pipnn_household pipnn_search("),
+    (HEADER, "    uint32_t count;", "    uint64_t count;"),
+    (HEADER, "    uint32_t phones;", "    uint32_t people;"),
+    (HEADER, "    uint32_t known;", "    float known;"),
+    (HEADER, "float limit", "double limit"),
+    (HEADER, "PIPNN_FULL = 8", "PIPNN_FULL = 9"),
+    (HEADER, "PIPNN_MOST_DEGREE 32", "PIPNN_MOST_DEGREE 64"),
+    (RUST, "capacity: u32,\n        ) -> u32;", "capacity: usize,\n        ) -> u32;"),
+    (RUST, "k: u32,\n            ef: u32,\n            docs: *mut", "ef: u32,\n            k: u32,\n            docs: *mut"),
+    (RUST, "floats: *const f32", "floats: *mut f32"),
+    (RUST, "pub number: u32,\n    pub count: u32", "pub count: u32,\n    pub number: u32"),
+    (RUST, "day: u64,\n", "day: i64,\n"),
+    (ERRORS, "NotBuilt = 10", "NotBuilt = 9"),
+    (LIMITS, "MOST_CAPACITY: usize = 1024", "MOST_CAPACITY: usize = 2048"),
+    (SOURCE, "min_leaf_size: u32,\n", "min_leaf_size: u64,\n"),
+    (SOURCE, "    pub scored: u32,\n", "    pub scored: u32,\n    pub bridges: u32,\n"),
+    (SOURCE, "query: &[f32]", "query: &mut [f32]"),
+    ("crates/calls/specs/Search.antt", "builtState)) 10", "builtState)) 15"),
+    ("crates/params/src/lib.rt", "MOST_DIMENSION: u32 = 64", "MOST_DIMENSION: u32 = 96"),
+]
+
+
+def unnoticed(files):
+    for name, old, new in EDITS:
+        if old not in files[name]:
+            yield f"{name}: the edit's text is not there: {old!r}"
+            continue
+        edited = dict(files)
+        edited[name] = files[name].replace(old, new, 1)
+        try:
+            found, _ = compare(edited)
+        except Unreadable as unread:
+            found = [str(unread)]
+        if not found:
+            yield f"{name}: {new!r} in place of {old!r} goes unnoticed"
+
+
+def main():
+    names = [SOURCE, HEADER, RUST, ERRORS, LIMITS, *LIMIT_SOURCES]
+    names += [str(path.relative_to(HOME)) for path in sorted(HOME.glob("crates/*/specs/*.antt"))]
+    files = {name: (HOME / name).read_text(encoding="utf-8") for name in names}
+    try:
+        found, (functions, structs, numbers, bounds) = compare(files)
+    except Unreadable as unread:
+        sys.exit(f"cannot be read: {unread}")
+    found = found or list(unnoticed(files))
+    if found:
+        sys.exit("\n".join(found))
+    print(
+        f"declarations: {functions} functions, {structs} structs, {numbers} numbers and {bounds} limits agree; "
+        f"{len(EDITS)} edits of them were noticed"
+    )
+
+
+if __name__ == "__main__":
+    main()

@@ -1,0 +1,45 @@
+-- A final_prune that is neither 0 nor 1 is turned back where the dimension is not; all else is `new`. Assumes nothing.
+use mathlib.Core.Path.{_∙_}
+use Rattle.params.specs.declared.PipnnParams.{PipnnParams}
+use Rattle.pipnn.specs.New.{newSpec}
+use Rattle.drintelbok.specs.New.{paramsFrom}
+use Rattle.drintelbok.proofs.New.{turned-back, passed-on}
+use borrow.Author.Needs.{needs}
+use Rattle.drintelbok.proofs.pipnn_new.Statement.{statement}
+use Rattle.drintelbok.proofs.pipnn_new.Tie as tie
+
+dimension-within-requires : tie.Need-dimension-within-requires
+dimension-within-requires c κs = search needs
+
+returns : tie.Need-returns
+returns c =
+    let a = c .before .before .before .before .args in
+    turned-back (a .dimension) (a .final-prune) _ (a .capacity) (a .words .now) (a .floats .now) (c .before .dimension-within .result) (c .before .dimension-within .ensures) (c .if1 .taken)
+
+new-requires : tie.Need-new-requires
+new-requires c κs = search needs
+
+same-length : tie.Need-same-length
+same-length c = search needs
+
+same-length-2 : tie.Need-same-length-2
+same-length-2 c = search needs
+
+abbrev params : tie.Start → PipnnParams
+params s =
+    let a = s .args in
+    paramsFrom (a .max-leaf-size) (a .min-leaf-size) (a .leader-fraction) (a .max-degree) (a .num-hash-bits) (a .final-prune) (a .alpha) (a .ef-search)
+
+returns-2 : tie.Need-returns-2
+returns-2 c =
+    let s = c .before .before .before .before .before .before .before .before .before .before .before in
+    let a = s .args in
+    let within = c .before .before .before .before .before .before .before .before .dimension-within in
+    _∙_ {b = newSpec (a .dimension) (params s) (a .capacity) (a .words .now) (a .floats .now)}
+    (c .before .before .before .before .new .ensures)
+    (passed-on (a .dimension) (a .final-prune) (params s) (a .capacity) (a .words .now) (a .floats .now) (within .result) (within .ensures) (c .before .before .before .before .before .before .before .if1 .left))
+
+pub pipnn-new-spec : {M : Type 1} → statement M
+pipnn-new-spec =
+    tie.close
+    (tie.spec dimension-within-requires returns new-requires same-length same-length-2 returns-2)

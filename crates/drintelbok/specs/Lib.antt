@@ -1,0 +1,3 @@
+pub mod New
+pub mod Given
+pub mod Sizes
