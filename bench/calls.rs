@@ -1,5 +1,5 @@
-//! Build and search: the published Rust against this library, same inputs, one run. Lists, entry node, answers and scored counts are
-//! compared before anything is measured.
+//! Add, build, search and recognise: the published Rust against this library, same inputs, one run. Answers are compared bit for bit
+//! before anything is measured. Prints a line a measurement, which bench/report.py makes a table and a picture of.
 #[path = "../oracle/target/src/distance.rs"]
 mod distance;
 #[path = "../oracle/target/src/error.rs"]
@@ -8,10 +8,13 @@ mod error;
 mod graph_snapshot;
 #[path = "../oracle/target/src/graph_utils.rs"]
 mod graph_utils;
+#[cfg(counted)]
+mod heap;
 #[path = "../oracle/target/src/memory.rs"]
 mod memory;
 #[path = "../oracle/target/src/order.rs"]
 mod order;
+mod ours;
 #[path = "../oracle/target/src/pipnn/mod.rs"]
 mod pipnn;
 #[path = "../oracle/target/src/prefetch.rs"]
@@ -22,69 +25,17 @@ mod timing;
 mod trace;
 
 pub use error::RetrieveError;
+use ours::Ours;
 use pipnn::{PipnnIndex, PipnnParams};
 use std::hint::black_box;
-use timing::{medians_of, numbers};
-
-extern "C" {
-    fn calls_new(w: *mut u32, wl: usize, f: *mut f32, fl: usize, dimension: u32, capacity: u32, leaf: u32) -> u32;
-    fn calls_add(w: *mut u32, wl: usize, f: *mut f32, fl: usize, doc: u32, v: *const f32, vl: usize) -> u32;
-    fn calls_build(w: *mut u32, wl: usize, f: *const f32, fl: usize, sw: *mut u32, swl: usize, sf: *mut f32, sfl: usize) -> u32;
-    #[allow(clippy::too_many_arguments)]
-    fn calls_search(
-        w: *const u32, wl: usize, f: *const f32, fl: usize, q: *const f32, ql: usize, k: u32, ef: u32, d: *mut u32, dl: usize,
-        x: *mut f32, xl: usize, sw: *mut u32, swl: usize, sf: *mut f32, sfl: usize,
-    ) -> u32;
-}
+use timing::{clusters, compare, numbers, Compared};
 
 const FEATURES: usize = 48;
-const DEGREE: usize = 32;
 /// Noisy copies of stored vectors, half of them, and random directions.
 const QUERIES: usize = 32;
-
-/// The two stores and scratch, of just the sizes that n nodes ask for.
-struct Ours {
-    words: Vec<u32>,
-    floats: Vec<f32>,
-    scratch_words: Vec<u32>,
-    scratch_floats: Vec<f32>,
-}
-
-impl Ours {
-    fn with(n: usize, leaf: usize, vectors: &[f32]) -> Self {
-        let mut ours = Ours {
-            words: vec![7; 16 + n * (4 + DEGREE)],
-            floats: vec![7.0; n * FEATURES],
-            scratch_words: vec![7; 64 * n],
-            scratch_floats: vec![7.0; 16 * n + 256],
-        };
-        let (w, f) = (&mut ours.words, &mut ours.floats);
-        unsafe {
-            assert_eq!(calls_new(w.as_mut_ptr(), w.len(), f.as_mut_ptr(), f.len(), FEATURES as u32, n as u32, leaf as u32), 0);
-            for (i, v) in vectors.chunks_exact(FEATURES).enumerate() {
-                assert_eq!(calls_add(w.as_mut_ptr(), w.len(), f.as_mut_ptr(), f.len(), i as u32, v.as_ptr(), v.len()), 0);
-            }
-        }
-        ours
-    }
-
-    fn build(&mut self) -> u32 {
-        let (w, f) = (black_box(&mut self.words), &self.floats);
-        let (sw, sf) = (&mut self.scratch_words, &mut self.scratch_floats);
-        unsafe { calls_build(w.as_mut_ptr(), w.len(), f.as_ptr(), f.len(), sw.as_mut_ptr(), sw.len(), sf.as_mut_ptr(), sf.len()) }
-    }
-
-    fn search(&mut self, q: &[f32], k: usize, ef: usize, docs: &mut [u32], distances: &mut [f32]) -> u32 {
-        let (w, f) = (&self.words, &self.floats);
-        let (sw, sf) = (&mut self.scratch_words, &mut self.scratch_floats);
-        unsafe {
-            calls_search(
-                w.as_ptr(), w.len(), f.as_ptr(), f.len(), q.as_ptr(), q.len(), k as u32, ef as u32, docs.as_mut_ptr(), docs.len(),
-                distances.as_mut_ptr(), distances.len(), sw.as_mut_ptr(), sw.len(), sf.as_mut_ptr(), sf.len(),
-            )
-        }
-    }
-}
+const DEFAULT_LEAF: usize = 2048;
+/// A distance up to which a phone is known.
+const LIMIT: f32 = 0.25;
 
 fn rust_with(leaf: usize, vectors: &[f32]) -> PipnnIndex {
     let params = PipnnParams { max_leaf_size: leaf, ..PipnnParams::default() };
@@ -95,90 +46,141 @@ fn rust_with(leaf: usize, vectors: &[f32]) -> PipnnIndex {
     index
 }
 
-fn build(n: usize, leaf: usize, vectors: &[f32]) {
-    let mut ours = Ours::with(n, leaf, vectors);
-    let open = ours.words.clone();
-    let times = medians_of(
-        if n < 512 { 51 } else { 21 },
-        &mut [
-            &mut || {
-                let mut index = rust_with(leaf, vectors);
-                index.build().expect("some nodes");
-                black_box(index);
-            },
-            &mut || {
-                black_box(rust_with(leaf, vectors));
-            },
-            &mut || {
-                ours.words.copy_from_slice(&open);
-                assert_eq!(ours.build(), 0);
-            },
-        ],
-    );
-    let rust = times[0] - times[1];
-    println!(
-        "build, {n} nodes, {FEATURES} features, max_leaf_size {leaf}: Rust {:.2} ms, ours {:.2} of that",
-        rust / 1e6,
-        times[2] / rust
-    );
+fn rust_built(leaf: usize, vectors: &[f32]) -> PipnnIndex {
+    let mut index = rust_with(leaf, vectors);
+    index.build().expect("some nodes");
+    index
 }
 
-fn search(n: usize, vectors: &[f32]) {
-    let mut rust = rust_with(2048, vectors);
-    rust.build().expect("some nodes");
-    let mut ours = Ours::with(n, 2048, vectors);
-    assert_eq!(ours.build(), 0);
+fn tell(what: &str, n: usize, leaf: usize, scored: usize, times: Compared) {
+    println!("{what}\t{n}\t{leaf}\t{scored}\t{:.0}\t{:.4}\t{:.4}", times.rust, times.ours, times.again);
+}
+
+/// All nodes into an empty index.
+fn add(n: usize, vectors: &[f32]) {
+    let mut ours = Ours::open(n, FEATURES, DEFAULT_LEAF);
+    let empty = ours.words.clone();
+    let rust = || {
+        black_box(rust_with(DEFAULT_LEAF, vectors));
+    };
+    let times = compare(101, rust, || {
+        ours.words.copy_from_slice(&empty);
+        ours.add_all(vectors);
+    });
+    tell("add", n, DEFAULT_LEAF, 0, times);
+}
+
+fn build(n: usize, leaf: usize, vectors: &[f32]) {
+    let mut ours = Ours::with(n, leaf, FEATURES, vectors);
+    let open = ours.words.clone();
+    let adds = compare(21, || drop(black_box(rust_with(leaf, vectors))), || ());
+    let times = compare(
+        if n < 512 { 51 } else { 21 },
+        || drop(black_box(rust_built(leaf, vectors))),
+        || {
+            ours.words.copy_from_slice(&open);
+            ours.build();
+        },
+    );
+    tell("build", n, leaf, 0, times.without(adds.rust));
+}
+
+fn queries_for(n: usize, vectors: &[f32]) -> Vec<Vec<f32>> {
     let noise = numbers(77, QUERIES * FEATURES);
-    let queries: Vec<Vec<f32>> = (0..QUERIES)
-        .map(|i| {
-            let random = &noise[i * FEATURES..(i + 1) * FEATURES];
-            if i % 2 == 1 {
-                return random.to_vec();
-            }
-            let stored = (i * 131) % n;
-            vectors[stored * FEATURES..(stored + 1) * FEATURES].iter().zip(random).map(|(x, y)| x + 0.05 * y).collect()
-        })
-        .collect();
-    for (k, ef) in [(1, 10), (1, 50), (1, 100), (10, 10), (10, 50), (10, 100)] {
-        let (mut docs, mut distances) = (vec![0u32; k], vec![0f32; k]);
-        let mut scored = 0;
-        for q in &queries {
-            scored += ours.search(q, k, ef, &mut docs, &mut distances);
-            let theirs = rust.search_with_ef(q, k, ef).expect("a built index");
-            let same = theirs.iter().zip(docs.iter().zip(&distances)).all(|(r, (d, x))| r.0 == *d && r.1.to_bits() == x.to_bits());
-            assert!(same && theirs.len() == k.min(n), "an answer differs");
+    let query = |i: usize| {
+        let random = &noise[i * FEATURES..(i + 1) * FEATURES];
+        if i % 2 == 1 {
+            return random.to_vec();
         }
-        let times = medians_of(
+        let stored = (i * 131) % n;
+        vectors[stored * FEATURES..(stored + 1) * FEATURES].iter().zip(random).map(|(x, y)| x + 0.05 * y).collect()
+    };
+    (0..QUERIES).map(query).collect()
+}
+
+/// How many nodes were scored over all queries, if every answer is the Rust's.
+fn compare_answers(rust: &PipnnIndex, ours: &mut Ours, queries: &[Vec<f32>], n: usize, k: usize, ef: usize) -> usize {
+    let (mut docs, mut distances) = (vec![0u32; k], vec![0f32; k]);
+    let mut scored = 0;
+    for q in queries {
+        scored += ours.search(q, k, ef, &mut docs, &mut distances).scored as usize;
+        let theirs = rust.search_with_ef(q, k, ef).expect("a built index");
+        let same = theirs.iter().zip(docs.iter().zip(&distances)).all(|(r, (d, x))| r.0 == *d && r.1.to_bits() == x.to_bits());
+        assert!(same && theirs.len() == k.min(n), "an answer differs");
+    }
+    scored
+}
+
+fn search(n: usize, leaf: usize, vectors: &[f32]) {
+    let rust = rust_built(leaf, vectors);
+    let mut ours = Ours::with(n, leaf, FEATURES, vectors);
+    ours.build();
+    let queries = queries_for(n, vectors);
+    for (k, ef) in [(1, 10), (1, 50), (1, 100), (10, 10), (10, 50), (10, 100)] {
+        let scored = compare_answers(&rust, &mut ours, &queries, n, k, ef);
+        let (mut docs, mut distances) = (vec![0u32; k], vec![0f32; k]);
+        let times = compare(
             101,
-            &mut [
-                &mut || {
-                    for q in &queries {
-                        black_box(rust.search_with_ef(black_box(q), k, ef)).expect("a built index");
-                    }
-                },
-                &mut || {
-                    for q in &queries {
-                        black_box(ours.search(black_box(q), k, ef, &mut docs, &mut distances));
-                    }
-                },
-            ],
+            || queries.iter().for_each(|q| drop(black_box(rust.search_with_ef(black_box(q), k, ef)))),
+            || queries.iter().for_each(|q| drop(black_box(ours.search(black_box(q), k, ef, &mut docs, &mut distances)))),
         );
-        println!(
-            "search, {n} nodes, k {k}, ef {ef}: {} scored on average; Rust {:.1} us, ours {:.2} of that",
-            scored as usize / QUERIES,
-            times[0] / 1e3 / QUERIES as f64,
-            times[1] / times[0]
-        );
+        tell(&format!("search k {k} ef {ef}"), n, leaf, scored / QUERIES, times.each(QUERIES));
+    }
+    let times = compare(
+        101,
+        || queries.iter().for_each(|q| drop(black_box(rust.search_with_ef(black_box(q), 1, 50).map(|r| r[0].1 <= LIMIT)))),
+        || queries.iter().for_each(|q| drop(black_box(ours.recognise(black_box(q), 50, LIMIT)))),
+    );
+    tell("recognise ef 50", n, leaf, 0, times.each(QUERIES));
+}
+
+/// How often a stored vector, asked for as it is, is not in the answer of a search for one: of 1,024 nodes in 16 clusters, and of
+/// as many random directions.
+fn misses(n: usize) {
+    for (name, vectors) in [("clusters", clusters(5, n, FEATURES)), ("random", numbers(5, n * FEATURES))] {
+        let mut ours = Ours::with(n, DEFAULT_LEAF, FEATURES, &vectors);
+        ours.build();
+        for ef in [10, 50, 100, 200, n] {
+            let (mut docs, mut distances) = ([0u32], [0f32]);
+            let missed = (0..n).filter(|i| {
+                let own = &vectors[i * FEATURES..(i + 1) * FEATURES];
+                ours.search(own, 1, ef, &mut docs, &mut distances);
+                docs[0] as usize != *i
+            });
+            println!("missed {name}\t{n}\t{ef}\t{}", missed.count());
+        }
     }
 }
 
+/// Bytes: the Rust's index as it stands built, and the most that was in use at once while it was filled, built and searched; ours by
+/// the sizes that it asks for.
+#[cfg(counted)]
+fn room(n: usize, vectors: &[f32]) {
+    let before = heap::in_use();
+    heap::forget_most();
+    let index = rust_built(DEFAULT_LEAF, vectors);
+    black_box(index.search_with_ef(&vectors[..FEATURES], 10, 100)).expect("a built index");
+    let (standing, most) = (heap::in_use() - before, heap::most() - before);
+    let (stores, scratch) = Ours::open(n, FEATURES, DEFAULT_LEAF).bytes();
+    println!("room\t{n}\t{standing}\t{most}\t{stores}\t{scratch}");
+}
+
+#[cfg(counted)]
+fn main() {
+    for n in [64, 256, 512, 1024] {
+        room(n, &numbers(9, n * FEATURES));
+    }
+}
+
+#[cfg(not(counted))]
 fn main() {
     for n in [64, 256, 512, 1024] {
         let vectors = numbers(9, n * FEATURES);
-        build(n, 2048, &vectors);
-        if n > 64 {
-            build(n, 64, &vectors);
+        add(n, &vectors);
+        for leaf in [DEFAULT_LEAF, 64] {
+            build(n, leaf, &vectors);
+            search(n, leaf, &vectors);
         }
-        search(n, &vectors);
     }
+    misses(1024);
 }

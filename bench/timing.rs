@@ -36,3 +36,43 @@ pub fn medians_of(rounds: usize, candidates: &mut [&mut dyn FnMut()]) -> Vec<f64
         })
         .collect()
 }
+
+/// Vectors in 16 clusters: component j is that of a centre and a twentieth of noise (style 3 of recorded/README.md).
+pub fn clusters(seed: u64, n: usize, dimension: usize) -> Vec<f32> {
+    (0..n as u64)
+        .flat_map(|i| {
+            let centre = numbers(seed + i % 16, dimension);
+            let noise = numbers(seed * 31 + i + 1000, dimension);
+            centre.into_iter().zip(noise).map(|(c, x)| c + 0.05 * x).collect::<Vec<_>>()
+        })
+        .collect()
+}
+
+/// The Rust's median time in nanoseconds, and two shares of it: ours, and the Rust's own when it is measured once more in the same
+/// rounds, which tells how far shares can be trusted.
+pub struct Compared {
+    pub rust: f64,
+    pub ours: f64,
+    pub again: f64,
+}
+
+impl Compared {
+    /// Of one of so many calls.
+    pub fn each(self, calls: usize) -> Self {
+        Compared { rust: self.rust / calls as f64, ..self }
+    }
+
+    /// Without so many nanoseconds that the Rust spends beside what is measured.
+    pub fn without(self, beside: f64) -> Self {
+        let rust = self.rust - beside;
+        Compared { rust, ours: self.ours * self.rust / rust, again: (self.again * self.rust - beside) / rust }
+    }
+}
+
+pub fn compare(rounds: usize, rust: impl FnMut(), mut ours: impl FnMut()) -> Compared {
+    let rust = std::cell::RefCell::new(rust);
+    let mut once = || rust.borrow_mut()();
+    let mut again = || rust.borrow_mut()();
+    let times = medians_of(rounds, &mut [&mut once, &mut ours, &mut again]);
+    Compared { rust: times[0], ours: times[1] / times[0], again: times[2] / times[0] }
+}

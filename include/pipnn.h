@@ -34,7 +34,7 @@
  *   words           16 + C * (4 + D)   the word store: header, doc ids, rows of the graph, bridges
  *   floats          C * dimension      the float store: the phones' vectors, scaled to length 1
  *   scratch_words   64 * C             for build and whatever searches. What it holds before never shows in an answer,
- *   scratch_floats  16 * C + 256       and what it holds afterwards is nobody's business; one piece serves all calls
+ *   scratch_floats  16 * C + 256       and what it holds afterwards is free; one piece serves all calls, one at a time
  *   docs            min(k, n)          outputs of a search among n phones: doc ids,
  *   distances       min(k, n)          and their distances, 1 - cosine: 0 for one direction, 2 for opposite ones, and by
  *                                      rounding a little beside these
@@ -57,9 +57,11 @@
  * A search holds max(ef, k) places. Where that is at least the number of phones in the store, nothing can be missed: the
  * answer is the exact nearest k. With fewer places the walk stops as the published Rust's does: once it has scored more than
  * ten times its places, or when all that is left is far off. It then may miss near phones, and on clustered data, such as
- * many phones of one make, it does: a phone that is stored can be missed by a query for itself. So take ef = 1024, or n,
- * where an answer has to be exact, and a smaller one only after trying it on vectors like your own. 'scored' says how many
- * phones were looked at, which is what a search costs.
+ * many phones of one make, it does: a phone that is stored can be missed by a query for itself. Measured with 1,024 phones
+ * (bench/run): in 16 tight clusters 49 of 100 such queries miss at ef 10, 6 at ef 50 and none at ef 100; of random
+ * directions 1 of 100 at ef 10 and none at ef 50. So take ef = 1024, or n, where an answer has to be exact, and a smaller
+ * one only after trying it on vectors like your own. 'scored' says how many phones were looked at, which is what a search
+ * costs.
  */
 #ifndef PIPNN_H
 #define PIPNN_H
