@@ -3,19 +3,21 @@
 //! usage: oracle probe    reads the probe's lines and prints the probe's lines
 //!        oracle all      the same lines, and prints whatever the published code hands out
 //!        oracle answer   reads questions (recorded/README.md) and prints them with their answers
+//!
+//! compare/ links it as a library, for its stores, its order and what 01 adds.
 mod answer;
 mod distance;
 mod error;
 mod graph_snapshot;
 mod graph_utils;
 mod memory;
-mod order;
+pub mod order;
 mod pipnn;
 mod prefetch;
 mod probe;
-mod recognising;
+pub mod recognising;
 mod simd;
-mod stores;
+pub mod stores;
 mod trace;
 
 pub use error::RetrieveError;

@@ -39,7 +39,7 @@ pub struct Stores<'a> {
 }
 
 impl Asked {
-    fn of_header(w: &[u32]) -> Self {
+    pub fn of_header(w: &[u32]) -> Self {
         Asked {
             dimension: w[1],
             max_leaf_size: w[3],
