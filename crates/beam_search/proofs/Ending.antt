@@ -1,20 +1,21 @@
--- How a walk begins and what it leaves: nothing is marked, the entry node is taken in, and at the end the answer stands with its distances.
--- Assumes nothing.
+-- How a walk begins and what it leaves: there is room, nothing is marked, the entry node is taken in, and at the end the answer stands with its
+-- distances. Assumes nothing.
 use mathlib.Core.Path.{_≡_, refl, sym, ap, ap₂, _∙_, subst}
-use mathlib.Core.Bool.{false}
+use mathlib.Core.Bool.{Bool, true, false, _||_}
 use mathlib.Core.List.{List, [], _∷_, _++_, map, map-append, reverse}
 use mathlib.Core.List.{List·Memᴰ as In, List·Memᴰ·head as here, List·Memᴰ·tail as there, List·Memᴰ·not-nil as in-nil}
 use Prim.Native.Nat.{ℕ, _+_, _-_, _*_, _/_, _≤_, _<_, min}
 use native.Mathlib.Omega.{arith}
 use native.Mathlib.Numerals.{add-one}
-use lib.Dec.{T}
-use borrow.Author.Tests.{lt-ltb}
+use lib.Dec.{T, ltb}
+use borrow.Author.Tests.{lt-ltb, le-ltb, ltb-false}
 use lib.ListN.{length, getD, take, drop, set, replicate, length-take, length-drop, length-map, length-append, length-replicate, length-reverse, getD-replicate, List·getD-append}
 use lib.Seq.{length-take-le, take-all, take-suc, take-nil, take-at}
 use lib.Ieee.{Float, binary32, fits, inf}
 use Rattle.basics.specs.Choice.{pick, pick-true}
 use Rattle.basics.specs.Nodes.{has}
 use Rattle.basics.proofs.Loops.{front-set, front-length}
+use Rattle.basics.proofs.Tests.{both-false}
 use Rattle.basics.proofs.Counting.{at-most}
 use Rattle.sorting.specs.Sorting.{sortBy, both}
 use Rattle.sorting.proofs.Laws.{length-sort, first-in}
@@ -33,6 +34,36 @@ use Rattle.beam_state.proofs.Parts.{lay, lay-length, part-here, part-before, ta
 use Rattle.beam_search.specs.Search.{within, Searched}
 use Rattle.beam_search.specs.Steps.{Between, TakingIn, walkOn, Prepared, Telling}
 use Rattle.beam_search.proofs.Taking.{gathered-in, same-mark}
+
+-- ---- room
+
+-- so many words of scratch, components, nodes and words of bridges do not fit
+abbrev short : ℕ → ℕ → ℕ → ℕ → Bool
+short words query n bridges = ((ltb (words / 11) n || ltb 4294967295 query) || ltb 1024 n) || ltb n (bridges / 2)
+
+pub record Room (words query n bridges : ℕ) : Type 0 where
+  pub scratch : n ≤ words / 11
+  pub components : query ≤ 4294967295
+  pub nodes : n ≤ 1024
+  pub pairs : bridges / 2 ≤ n
+
+module _ (words query n bridges : ℕ) where
+  pub has-room : short words query n bridges ≡ false → Room words query n bridges
+  has-room e =
+      let t3 = both-false ((ltb (words / 11) n || ltb 4294967295 query) || ltb 1024 n) (ltb n (bridges / 2)) e in
+      let t2 = both-false (ltb (words / 11) n || ltb 4294967295 query) (ltb 1024 n) (t3 .0) in
+      let t1 = both-false (ltb (words / 11) n) (ltb 4294967295 query) (t2 .0) in record {
+        scratch = ltb-false (words / 11) n (t1 .0);
+        components = ltb-false 4294967295 query (t1 .1);
+        nodes = ltb-false 1024 n (t2 .1);
+        pairs = ltb-false n (bridges / 2) (t3 .1);
+      }
+
+  pub no-room : short words query n bridges ≡ true → Room words query n bridges → ⊥
+  no-room e r =
+      mathlib.Core.Bool.true≢false
+      (sym e
+      ∙ ap₂ _||_ (ap₂ _||_ (ap₂ _||_ (le-ltb (words / 11) n (r .scratch)) (le-ltb 4294967295 query (r .components))) (le-ltb 1024 n (r .nodes))) (le-ltb n (bridges / 2) (r .pairs)))
 
 -- ---- distances told
 

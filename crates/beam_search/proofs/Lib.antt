@@ -1,3 +1,4 @@
+mod Linking
 mod Taking
 mod Full
 mod Walking

@@ -4,7 +4,7 @@ use mathlib.Core.Path.{_≡_, refl, sym, ap, ap₂, _∙_, subst}
 use mathlib.Core.Logic.{_⊎_, inl, inr}
 use mathlib.Core.Bool.{Bool, true, false, _&&_, _||_}
 use mathlib.Core.List.{List, [], _∷_}
-use mathlib.Core.List.{List·Memᴰ as In, List·Memᴰ·tail as there}
+use mathlib.Core.List.{List·Memᴰ as In, List·Memᴰ·head as here, List·Memᴰ·tail as there}
 use Prim.Native.Nat.{ℕ, suc, _-_, _*_, _≤_, _<_}
 use native.Mathlib.Omega.{arith}
 use lib.Dec.{T, leb, ltb, leb→le}
@@ -19,6 +19,7 @@ use Rattle.beam.specs.Beam.{stopFactor, stopMultiplier, toFrontier, tooFar, too
 use Rattle.queues.specs.Queues.{frontRank, heldRank, Queue, Taken, Popping}
 use Rattle.queues.specs.declared.Popped.{Popped}
 use Rattle.queues.specs.declared.Popped.the-variants.{At, Empty}
+use Rattle.gathering.specs.Gathering.{Linked}
 use Rattle.beam_state.specs.State.{part, Answer}
 use Rattle.beam_state.specs.declared.Walk.{Walk}
 use Rattle.beam_state.proofs.Parts.{lay, part-here, part-after, take-before}
@@ -26,7 +27,7 @@ use Rattle.beam_search.specs.Steps.{Between, Expanding, walkOn, Stepping
 use Rattle.beam_search.proofs.Taking.{same-mark}
 use Rattle.beam_search.proofs.Full.{all-seen, same, walk-full}
 
-module _ (far : ℕ → Float) (n b : ℕ) (list : ℕ → List ℕ) (words x : List ℕ) (floats : List Float) (nodes : List ℕ) (w : Walk) (long : 11 * n ≤ length words)
+module _ (bridges links : List ℕ) (far : ℕ → Float) (n b : ℕ) (list : ℕ → List ℕ) (words x : List ℕ) (floats : List Float) (nodes : List ℕ) (w : Walk) (long : 11 * n ≤ length words)
     (lx : length x ≡ length (part (2 * n) (6 * n) words)) where
   abbrev words₁ : List ℕ
   words₁ = lay (2 * n) (6 * n) x words
@@ -64,16 +65,16 @@ module _ (far : ℕ → Float) (n b : ℕ) (list : ℕ → List ℕ) (words x : 
     not-both : (d : Float) (v : ℕ) → popped ≡ Empty → popped ≡ At d v → ⊥
     not-both d v p q = let z : _≡_ {A = ℕ} 0 1 = cc in omega arith
 
-    pub step-empty : popped ≡ Empty → Stepping far n b list words words₁ floats floats nodes nodes w w true
+    pub step-empty : popped ≡ Empty → Stepping bridges links far n b list words words₁ floats floats nodes nodes w w true
     unfolding walk
-    step-empty e nodes₀ seen [] t = record {
+    step-empty e linked nodes₀ seen [] t = record {
       seen′ = seen;
       front′ = [];
       stands = after-pop nodes₀ seen [] [] t (taken nodes₀ seen [] t .1) (λ y m. m);
       ends = λ _ more. refl;
       goes = λ f. absurd (mathlib.Core.Bool.true≢false f);
     }
-    step-empty e nodes₀ seen (u ∷ rest) t = absurd (not-both (far u) u e (taken nodes₀ seen (u ∷ rest) t .0))
+    step-empty e linked nodes₀ seen (u ∷ rest) t = absurd (not-both (far u) u e (taken nodes₀ seen (u ∷ rest) t .0))
 
     module _ (d : Float) (v : ℕ) (got : popped ≡ At d v) (stop : Bool) (stop-is : stop ≡ (leb b (w .held) && lt (mul binary32 (w .cutoff) stopFactor) d)) where
       same-distance : (u : ℕ) → popped ≡ At (far u) u → d ≡ far u
@@ -89,10 +90,10 @@ module _ (far : ℕ → Float) (n b : ℕ) (list : ℕ → List ℕ) (words x : 
           ∙ ap₂ (λ (p : Bool) (q : Bool). p && q) (ap (leb b) (t .standing .held-count))
           (ap₂ (λ (p : Float) (q : Float). lt (mul binary32 p stopFactor) q) (t .standing .cutoff-is) (same-distance u (taken nodes₀ seen (u ∷ rest) t .0))))
 
-      pub step-far : stop ≡ true → Stepping far n b list words words₁ floats floats nodes nodes w w true
+      pub step-far : stop ≡ true → Stepping bridges links far n b list words words₁ floats floats nodes nodes w w true
       unfolding walk
-      step-far s nodes₀ seen [] t = absurd (not-both d v (taken nodes₀ seen [] t .0) got)
-      step-far s nodes₀ seen (u ∷ rest) t = record {
+      step-far s linked nodes₀ seen [] t = absurd (not-both d v (taken nodes₀ seen [] t .0) got)
+      step-far s linked nodes₀ seen (u ∷ rest) t = record {
         seen′ = seen;
         front′ = rest;
         stands = after-pop nodes₀ seen (u ∷ rest) rest t (taken nodes₀ seen (u ∷ rest) t .1) (λ y m. there m);
@@ -101,11 +102,11 @@ module _ (far : ℕ → Float) (n b : ℕ) (list : ℕ → List ℕ) (words x : 
       }
 
       pub step-on : (words′ : List ℕ) (floats′ : List Float) (nodes′ : List ℕ) (r : Walk) (done : Bool) → stop ≡ false → ((u y : ℕ) → In y (list u) → y < n)
-          → Expanding far n b list v words₁ words′ floats floats′ nodes nodes′ w r → done ≡ (ltb (stopMultiplier * b) (r .scored) || leb n (r .scored))
-          → Stepping far n b list words words′ floats floats′ nodes nodes′ w r done
+          → Expanding bridges links far n b list v words₁ words′ floats floats′ nodes nodes′ w r → done ≡ (ltb (stopMultiplier * b) (r .scored) || leb n (r .scored))
+          → Stepping bridges links far n b list words words′ floats floats′ nodes nodes′ w r done
       unfolding walk tooMany
-      step-on words′ floats′ nodes′ r done s below expanding di nodes₀ seen [] t = absurd (not-both d v (taken nodes₀ seen [] t .0) got)
-      step-on words′ floats′ nodes′ r done s below expanding di nodes₀ seen (u ∷ rest) t = record {
+      step-on words′ floats′ nodes′ r done s below expanding di linked nodes₀ seen [] t = absurd (not-both d v (taken nodes₀ seen [] t .0) got)
+      step-on words′ floats′ nodes′ r done s below expanding di linked nodes₀ seen (u ∷ rest) t = record {
         seen′ = next .seen;
         front′ = next .front;
         stands = there′;
@@ -119,9 +120,12 @@ module _ (far : ℕ → Float) (n b : ℕ) (list : ℕ → List ℕ) (words x : 
           at : v ≡ u
           at = same-node u (taken nodes₀ seen (u ∷ rest) t .0)
 
+          v-below : v < n
+          v-below = subst (λ (y : ℕ). y < n) (sym at) (t .standing .inside u (t .standing .sub u (here refl)))
+
           there′ : Between far n b nodes₀ words′ floats′ nodes′ r (next .seen) (next .front)
           there′ = subst (λ (y : ℕ). Between far n b nodes₀ words′ floats′ nodes′ r (expand (toFrontier far) (record { seen = seen; front = rest }) (list y) .seen) (expand (toFrontier far) (record { seen = seen; front = rest }) (list y) .front)) at
-              (expanding nodes₀ seen rest (after-pop nodes₀ seen (u ∷ rest) rest t (taken nodes₀ seen (u ∷ rest) t .1) (λ y m. there m)))
+              (expanding linked v-below nodes₀ seen rest (after-pop nodes₀ seen (u ∷ rest) rest t (taken nodes₀ seen (u ∷ rest) t .1) (λ y m. there m)))
 
           many : tooMany b (next .seen) ≡ ltb (stopMultiplier * b) (r .scored)
           many = ap (ltb (stopMultiplier * b)) (sym (there′ .standing .scored-is))
@@ -148,49 +152,49 @@ pub record Along (far : ℕ → Float) (n b : ℕ) (list : ℕ → List ℕ) (no
   pub same : whole ≡ walkOn far b list left seen′ front′
 
 -- so many steps are left
-pub record Onward (far : ℕ → Float) (n b : ℕ) (list : ℕ → List ℕ) (words₀ : List ℕ) (floats₀ : List Float) (old : List ℕ) (w₀ : Walk) (words : List ℕ) (floats : List Float) (nodes : List ℕ) (w : Walk) (left : ℕ) : Type 0 where
+pub record Onward (bridges links : List ℕ) (far : ℕ → Float) (n b : ℕ) (list : ℕ → List ℕ) (words₀ : List ℕ) (floats₀ : List Float) (old : List ℕ) (w₀ : Walk) (words : List ℕ) (floats : List Float) (nodes : List ℕ) (w : Walk) (left : ℕ) : Type 0 where
   pub within : left ≤ n
   pub words-kept : length words ≡ length words₀
   pub floats-kept : length floats ≡ length floats₀
   pub nodes-kept : length nodes ≡ length old
-  pub so-far : (nodes₀ seen front : List ℕ) → Between far n b nodes₀ words₀ floats₀ old w₀ seen front
+  pub so-far : Linked n bridges links → (nodes₀ seen front : List ℕ) → Between far n b nodes₀ words₀ floats₀ old w₀ seen front
       → Along far n b list nodes₀ words floats nodes w left (walkOn far b list n seen front)
 
-pub onward-none : (far : ℕ → Float) (n b : ℕ) (list : ℕ → List ℕ) (words : List ℕ) (floats : List Float) (nodes : List ℕ) (w : Walk)
-    → Onward far n b list words floats nodes w words floats nodes w n
-onward-none far n b list words floats nodes w = record {
+pub onward-none : (bridges links : List ℕ) (far : ℕ → Float) (n b : ℕ) (list : ℕ → List ℕ) (words : List ℕ) (floats : List Float) (nodes : List ℕ) (w : Walk)
+    → Onward bridges links far n b list words floats nodes w words floats nodes w n
+onward-none bridges links far n b list words floats nodes w = record {
   within = omega arith;
   words-kept = refl;
   floats-kept = refl;
   nodes-kept = refl;
-  so-far = λ nodes₀ seen front t. record { seen′ = seen; front′ = front; stands = t; same = refl };
+  so-far = λ linked nodes₀ seen front t. record { seen′ = seen; front′ = front; stands = t; same = refl };
 }
 
-module _ {far : ℕ → Float} {n b : ℕ} {list : ℕ → List ℕ} {words₀ : List ℕ} {floats₀ : List Float} {old : List ℕ} {w₀ : Walk} {words : List ℕ} {floats : List Float} {nodes : List ℕ} {w : Walk} {left : ℕ}
-    (o : Onward far n b list words₀ floats₀ old w₀ words floats nodes w left) where
-  pub onward-all : left ≤ 0 → Walking far n b list words₀ words floats₀ floats old nodes w₀ w
+module _ {bridges links : List ℕ} {far : ℕ → Float} {n b : ℕ} {list : ℕ → List ℕ} {words₀ : List ℕ} {floats₀ : List Float} {old : List ℕ} {w₀ : Walk} {words : List ℕ} {floats : List Float} {nodes : List ℕ} {w : Walk} {left : ℕ}
+    (o : Onward bridges links far n b list words₀ floats₀ old w₀ words floats nodes w left) where
+  pub onward-all : left ≤ 0 → Walking bridges links far n b list words₀ words floats₀ floats old nodes w₀ w
   unfolding walk
-  onward-all h nodes₀ seen front t =
-      let a = o .so-far nodes₀ seen front t in
+  onward-all h linked nodes₀ seen front t =
+      let a = o .so-far linked nodes₀ seen front t in
       let none : left ≡ 0 = omega arith in
       let e : walkOn far b list n seen front ≡ a .seen′ = a .same ∙ ap (λ (k : ℕ). walkOn far b list k (a .seen′) (a .front′)) none in
       record { front = a .front′; stands = subst (λ (l : List ℕ). Between far n b nodes₀ words floats nodes w l (a .front′)) (sym e) (a .stands) }
 
   module _ (words′ : List ℕ) (floats′ : List Float) (nodes′ : List ℕ) (r : Walk) (done : Bool) (more : 0 < left)
-      (step : Stepping far n b list words words′ floats floats′ nodes nodes′ w r done) where
+      (step : Stepping bridges links far n b list words words′ floats floats′ nodes nodes′ w r done) where
     one-less : left ≡ suc (left - 1)
     one-less = omega arith
 
     pub onward-more : done ≡ false → length words′ ≡ length words → length floats′ ≡ length floats → length nodes′ ≡ length nodes
-        → Onward far n b list words₀ floats₀ old w₀ words′ floats′ nodes′ r (left - 1)
+        → Onward bridges links far n b list words₀ floats₀ old w₀ words′ floats′ nodes′ r (left - 1)
     onward-more d lw lf ln = record {
       within = omega (arith, o .within);
       words-kept = lw ∙ o .words-kept;
       floats-kept = lf ∙ o .floats-kept;
       nodes-kept = ln ∙ o .nodes-kept;
-      so-far = λ nodes₀ seen front t.
-          let a = o .so-far nodes₀ seen front t in
-          let s = step nodes₀ (a .seen′) (a .front′) (a .stands) in record {
+      so-far = λ linked nodes₀ seen front t.
+          let a = o .so-far linked nodes₀ seen front t in
+          let s = step linked nodes₀ (a .seen′) (a .front′) (a .stands) in record {
             seen′ = s .seen′;
             front′ = s .front′;
             stands = s .stands;
@@ -198,9 +202,9 @@ module _ {far : ℕ → Float} {n b : ℕ} {list : ℕ → List ℕ} {words₀ :
           };
     }
 
-    pub onward-ends : done ≡ true → Walking far n b list words₀ words′ floats₀ floats′ old nodes′ w₀ r
-    onward-ends d nodes₀ seen front t =
-        let a = o .so-far nodes₀ seen front t in
-        let s = step nodes₀ (a .seen′) (a .front′) (a .stands) in
+    pub onward-ends : done ≡ true → Walking bridges links far n b list words₀ words′ floats₀ floats′ old nodes′ w₀ r
+    onward-ends d linked nodes₀ seen front t =
+        let a = o .so-far linked nodes₀ seen front t in
+        let s = step linked nodes₀ (a .seen′) (a .front′) (a .stands) in
         let e : walkOn far b list n seen front ≡ s .seen′ = a .same ∙ ap (λ (k : ℕ). walkOn far b list k (a .seen′) (a .front′)) one-less ∙ s .ends d (left - 1) in
         record { front = s .front′; stands = subst (λ (l : List ℕ). Between far n b nodes₀ words′ floats′ nodes′ r l (s .front′)) (sym e) (s .stands) }

@@ -4,7 +4,7 @@ use mathlib.Core.Path.{_≡_}
 use mathlib.Core.List.{List, [], _∷_, _++_, map}
 use Prim.Native.Nat.{ℕ, _*_, _/_, _+_, _≤_, _<_}
 use lib.Dec.{ltb}
-use lib.ListN.{length, drop}
+use lib.ListN.{length, getD, drop}
 use lib.Ieee.{Float}
 use Rattle.basics.specs.Choice.{pick}
 use Rattle.basics.specs.Graph.{listOf}
@@ -27,11 +27,13 @@ listIn n degree rows bridges u = within n (listOf (rowLists degree rows) (bridge
 abbrev pub nodesIn : ℕ → List ℕ → ℕ
 nodesIn degree rows = length rows / (1 + degree)
 
--- the sizes fit: so many words and floats of scratch
-pub record Fits (n entry : ℕ) (query : List Float) (nodes : List ℕ) (distances : List Float) (words floats : ℕ) : Type 0 where
+-- the sizes fit: bridges between nodes, one for each node at most, and so many words and floats of scratch
+pub record Fits (n entry : ℕ) (query : List Float) (bridges nodes : List ℕ) (distances : List Float) (words floats : ℕ) : Type 0 where
   pub entry-below : entry < n
   pub few : n ≤ 1024
   pub dimension : length query < 4294967296
+  pub bridges-few : length bridges ≤ 2 * n
+  pub ends-below : (i : ℕ) → i < length bridges → getD bridges i 0 < n
   pub told : length nodes ≤ length distances
   pub words-room : 64 * n ≤ words
   pub floats-room : 16 * n ≤ floats
@@ -45,7 +47,7 @@ pub record Searched (far : ℕ → Float) (found scored nodes nodes′ : List �
 
 abbrev pub Searching : List Float → List Float → List ℕ → ℕ → List ℕ → ℕ → ℕ → List ℕ → List ℕ → List Float → List Float → ℕ → ℕ → Walked → Type 0
 Searching query vectors rows degree bridges entry b nodes nodes′ distances distances′ words floats r =
-    Fits (nodesIn degree rows) entry query nodes distances words floats
+    Fits (nodesIn degree rows) entry query bridges nodes distances words floats
     → Searched (farFrom query (vectorsIn (length query) vectors))
     (answerOf (farFrom query (vectorsIn (length query) vectors)) (length nodes)
     (beamSearch (listIn (nodesIn degree rows) degree rows bridges) (nodesIn degree rows) entry (farFrom query (vectorsIn (length query) vectors)) b))

@@ -11,8 +11,18 @@ use Rattle.tournament.specs.Tournament.{nothing, Tournament}
 use Rattle.walk.specs.Walk.{State, expand, walk}
 use Rattle.beam.specs.Beam.{farFrom, toFrontier, tooFar, tooMany}
 use Rattle.queues.specs.Queues.{Known}
+use Rattle.gathering.specs.Gathering.{Linked}
 use Rattle.beam_state.specs.State.{part, Standing, pushed}
 use Rattle.beam_state.specs.declared.Walk.{Walk}
+
+-- bridges between nodes linked, where no node had a link
+abbrev pub Linking : ℕ → List ℕ → List ℕ → List ℕ → Type 0
+Linking n bridges links links′ =
+    n ≤ 1024
+    → 4 * n ≤ length links
+    → ((i : ℕ) → i < 2 * n → getD links i 0 ≡ 0)
+    → ((i : ℕ) → i < length bridges → getD bridges i 0 < n)
+    → Linked n bridges links′
 
 -- a walk between two expansions
 pub record Between (far : ℕ → Float) (n b : ℕ) (nodes₀ words : List ℕ) (floats : List Float) (nodes : List ℕ) (w : Walk) (seen front : List ℕ) : Type 0 where
@@ -40,10 +50,12 @@ TakingIn far n b count words words′ floats floats′ nodes nodes′ w r =
     → Standing far n b nodes₀ words nodes w (s .seen) (s .front)
     → TakenIn far n b nodes₀ words′ floats′ nodes′ r (pushed far fresh s)
 
--- a node's list looked at
-abbrev pub Expanding : (ℕ → Float) → ℕ → ℕ → (ℕ → List ℕ) → ℕ → List ℕ → List ℕ → List Float → List Float → List ℕ → List ℕ → Walk → Walk → Type 0
-Expanding far n b list u words words′ floats floats′ nodes nodes′ w r =
-    (nodes₀ seen front : List ℕ)
+-- a node's list looked at, of linked bridges
+abbrev pub Expanding : List ℕ → List ℕ → (ℕ → Float) → ℕ → ℕ → (ℕ → List ℕ) → ℕ → List ℕ → List ℕ → List Float → List Float → List ℕ → List ℕ → Walk → Walk → Type 0
+Expanding bridges links far n b list u words words′ floats floats′ nodes nodes′ w r =
+    Linked n bridges links
+    → u < n
+    → (nodes₀ seen front : List ℕ)
     → Between far n b nodes₀ words floats nodes w seen front
     → Between far n b nodes₀ words′ floats′ nodes′ r
     (expand (toFrontier far) (record { seen = seen; front = front }) (list u) .seen)
@@ -61,9 +73,10 @@ pub record Stepped (far : ℕ → Float) (n b : ℕ) (list : ℕ → List ℕ) (
   pub ends : done ≡ true → (more : ℕ) → walkOn far b list (suc more) seen front ≡ seen′
   pub goes : done ≡ false → (more : ℕ) → walkOn far b list (suc more) seen front ≡ walkOn far b list more seen′ front′
 
-abbrev pub Stepping : (ℕ → Float) → ℕ → ℕ → (ℕ → List ℕ) → List ℕ → List ℕ → List Float → List Float → List ℕ → List ℕ → Walk → Walk → Bool → Type 0
-Stepping far n b list words words′ floats floats′ nodes nodes′ w r done =
-    (nodes₀ seen front : List ℕ)
+abbrev pub Stepping : List ℕ → List ℕ → (ℕ → Float) → ℕ → ℕ → (ℕ → List ℕ) → List ℕ → List ℕ → List Float → List Float → List ℕ → List ℕ → Walk → Walk → Bool → Type 0
+Stepping bridges links far n b list words words′ floats floats′ nodes nodes′ w r done =
+    Linked n bridges links
+    → (nodes₀ seen front : List ℕ)
     → Between far n b nodes₀ words floats nodes w seen front
     → Stepped far n b list nodes₀ words′ floats′ nodes′ r done seen front
 
@@ -72,9 +85,10 @@ pub record Rested (far : ℕ → Float) (n b : ℕ) (nodes₀ words : List ℕ) 
   pub front : List ℕ
   pub stands : Between far n b nodes₀ words floats nodes w seen front
 
-abbrev pub Walking : (ℕ → Float) → ℕ → ℕ → (ℕ → List ℕ) → List ℕ → List ℕ → List Float → List Float → List ℕ → List ℕ → Walk → Walk → Type 0
-Walking far n b list words words′ floats floats′ nodes nodes′ w r =
-    (nodes₀ seen front : List ℕ)
+abbrev pub Walking : List ℕ → List ℕ → (ℕ → Float) → ℕ → ℕ → (ℕ → List ℕ) → List ℕ → List ℕ → List Float → List Float → List ℕ → List ℕ → Walk → Walk → Type 0
+Walking bridges links far n b list words words′ floats floats′ nodes nodes′ w r =
+    Linked n bridges links
+    → (nodes₀ seen front : List ℕ)
     → Between far n b nodes₀ words floats nodes w seen front
     → Rested far n b nodes₀ words′ floats′ nodes′ r (walkOn far b list n seen front)
 

@@ -9,16 +9,17 @@
 //
 // What it gives is the walk and the answer of `beam`; specs/Search says of which graph: the entries of the
 // lists that are below the number of nodes. Scratch is 11 words and a float for each node; its old content
-// does not show.
+// does not show. Before the walk goes on from the entry node, bridges are linked (`chains`) in a local array of
+// 16 KB, so that an expansion looks at its node's own bridges alone.
 ghost use mathlib.Core.Path.{_≡_};
 ghost use mathlib.Core.Bool.{_&&_, _||_};
-ghost use Prim.Native.Nat.{_*_, _≤_, min};
+ghost use Prim.Native.Nat.{_*_, _/_, _≤_, min};
 ghost use lib.Dec.{leb, ltb};
 ghost use lib.Ieee.{binary32, mul, lt};
 ghost use lib.ListN.{length, take};
 ghost use Rattle.vectors.specs.Vectors.{vectorsIn};
 ghost use Rattle.beam.specs.Beam.{farFrom, stopFactor, stopMultiplier};
-ghost use Rattle.beam_search.specs.Steps.{TakingIn, Expanding, Stepping, Walking, Prepared, Starting, Telling};
+ghost use Rattle.beam_search.specs.Steps.{Linking, TakingIn, Expanding, Stepping, Walking, Prepared, Starting, Telling};
 ghost use Rattle.beam_search.specs.Search.{listIn, Searching};
 use beam_state::Walk;
 use ids::Node;
@@ -56,6 +57,19 @@ fn small(count: usize) -> u32
     0xffff_ffff
 }
 
+// Links the ends of bridges whose links are all zero.
+fn link_bridges(links: &mut [u32], n: u32, bridges: &[u32])
+    requires { ⌜ length (now bridges) / 2 ≤ n ⌝ }
+    ensures { λ _. ⌜ Linking n (now (bridges .entry)) (now (links .entry)) (now (links .exit)) ⌝ }
+{
+    let many = bridges.len() / 2;
+    let mut j = 0;
+    while j < many {
+        chains::chain_bridge(links, n, j as u32, bridges[2 * j], bridges[2 * j + 1]);
+        j += 1;
+    }
+}
+
 // Scores the fresh nodes, and pushes them.
 fn take_in(
     words: &mut [u32],
@@ -90,15 +104,16 @@ fn expand(
     rows: &[u32],
     degree: u16,
     bridges: &[u32],
+    links: &[u32],
     size: usize,
     places: u32,
     walk: Walk,
     node: u32,
 ) -> Walk
     requires { ⌜ 11 * size ≤ length (now words) ⌝ }
-    ensures { λ r. ⌜ Expanding (farFrom (now (query .entry)) (vectorsIn dimension (now (vectors .entry)))) size places (listIn size degree (now (rows .entry)) (now (bridges .entry))) node (now (words .entry)) (now (words .exit)) (now (floats .entry)) (now (floats .exit)) (now (nodes .entry)) (now (nodes .exit)) walk r ⌝ }
+    ensures { λ r. ⌜ Expanding (now (bridges .entry)) (now (links .entry)) (farFrom (now (query .entry)) (vectorsIn dimension (now (vectors .entry)))) size places (listIn size degree (now (rows .entry)) (now (bridges .entry))) node (now (words .entry)) (now (words .exit)) (now (floats .entry)) (now (floats .exit)) (now (nodes .entry)) (now (nodes .exit)) walk r ⌝ }
 {
-    let count = gathering::gather(words, size, rows, degree, bridges, node);
+    let count = gathering::gather(words, size, rows, degree, bridges, links, node);
     take_in(
         words,
         floats,
@@ -138,12 +153,13 @@ fn step(
     rows: &[u32],
     degree: u16,
     bridges: &[u32],
+    links: &[u32],
     size: usize,
     places: u32,
     walk: Walk,
 ) -> Went
     requires { ⌜ 11 * size ≤ length (now words) ⌝ }
-    ensures { λ r. ⌜ Stepping (farFrom (now (query .entry)) (vectorsIn dimension (now (vectors .entry)))) size places (listIn size degree (now (rows .entry)) (now (bridges .entry))) (now (words .entry)) (now (words .exit)) (now (floats .entry)) (now (floats .exit)) (now (nodes .entry)) (now (nodes .exit)) walk (r .walk) (r .done) ⌝ }
+    ensures { λ r. ⌜ Stepping (now (bridges .entry)) (now (links .entry)) (farFrom (now (query .entry)) (vectorsIn dimension (now (vectors .entry)))) size places (listIn size degree (now (rows .entry)) (now (bridges .entry))) (now (words .entry)) (now (words .exit)) (now (floats .entry)) (now (floats .exit)) (now (nodes .entry)) (now (nodes .exit)) walk (r .walk) (r .done) ⌝ }
 {
     let front = 2 * size;
     let held = 6 * size;
@@ -164,6 +180,7 @@ fn step(
         rows,
         degree,
         bridges,
+        links,
         size,
         places,
         walk,
@@ -184,12 +201,13 @@ fn walk_on(
     rows: &[u32],
     degree: u16,
     bridges: &[u32],
+    links: &[u32],
     size: usize,
     places: u32,
     walk: Walk,
 ) -> Walk
     requires { ⌜ 11 * size ≤ length (now words) ⌝ }
-    ensures { λ r. ⌜ Walking (farFrom (now (query .entry)) (vectorsIn dimension (now (vectors .entry)))) size places (listIn size degree (now (rows .entry)) (now (bridges .entry))) (now (words .entry)) (now (words .exit)) (now (floats .entry)) (now (floats .exit)) (now (nodes .entry)) (now (nodes .exit)) walk r ⌝ }
+    ensures { λ r. ⌜ Walking (now (bridges .entry)) (now (links .entry)) (farFrom (now (query .entry)) (vectorsIn dimension (now (vectors .entry)))) size places (listIn size degree (now (rows .entry)) (now (bridges .entry))) (now (words .entry)) (now (words .exit)) (now (floats .entry)) (now (floats .exit)) (now (nodes .entry)) (now (nodes .exit)) walk r ⌝ }
 {
     let mut now = walk;
     let mut left = size;
@@ -205,6 +223,7 @@ fn walk_on(
             rows,
             degree,
             bridges,
+            links,
             size,
             places,
             now,
@@ -283,6 +302,7 @@ fn tell(distances: &mut [f32], nodes: &[u32], floats: &[f32], count: usize)
 // first, with their distances, as many as `nodes` has places for. Says how many there are, and how many nodes
 // were scored. `vectors` has the nodes' vectors, `rows` their rows as words hold them, of so many entries,
 // `bridges` the bridges, a pair of words each. `words` and `floats` are scratch, 64 and 16 for each node.
+// Nothing is found where scratch is too short, of more than 1,024 nodes, or of more bridges than nodes.
 pub fn beam_search(
     query: &[f32],
     vectors: &[f32],
@@ -300,7 +320,11 @@ pub fn beam_search(
 {
     let size = rows.len() / (1 + degree as usize);
     let from = entry.0;
-    if (words.len() / 11 < size) | (query.len() > 4294967295) {
+    if (words.len() / 11 < size)
+        | (query.len() > 4294967295)
+        | (size > 1024)
+        | (bridges.len() / 2 > size)
+    {
         return Walked {
             count: 0,
             scored: 0,
@@ -318,6 +342,8 @@ pub fn beam_search(
         places,
         from,
     );
+    let mut links = [0u32; 4096];
+    link_bridges(&mut links[..], size as u32, bridges);
     let last = walk_on(
         words,
         floats,
@@ -328,6 +354,7 @@ pub fn beam_search(
         rows,
         degree,
         bridges,
+        &links[..],
         size,
         places,
         first,

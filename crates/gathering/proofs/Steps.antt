@@ -1,26 +1,31 @@
--- One node looked at, a list piece by piece, and bridges read from words. Assumes nothing.
-use mathlib.Core.Path.{_≡_, refl, sym, ap, _∙_, subst}
+-- One node looked at, a list piece by piece, and the other ends of bridges by their chain. Assumes nothing.
+use mathlib.Core.Path.{_≡_, refl, sym, ap, ap₂, _∙_, subst}
 use mathlib.Core.Logic.{_⊎_, inl, inr}
 use mathlib.Core.Bool.{Bool, true, false, _||_}
-use mathlib.Core.List.{List, [], _∷_, _++_, map, map-append, append-assoc}
+use mathlib.Core.List.{List, [], _∷_, _++_}
 use mathlib.Core.List.{List·Memᴰ as In, List·Memᴰ·cases-cons as in-cons}
-use Prim.Native.Nat.{ℕ, suc, _+_, _*_, _/_, _≤_, _<_}
+use Prim.Native.Nat.{ℕ, suc, _+_, _/_, _≤_, _<_}
 use native.Mathlib.Omega.{arith}
 use native.Mathlib.Numerals.{add-one}
 use native.Mathlib.Decide.{ℕ-discrete}
 use borrow.Author.Tests.{eq-eqb, ne-eqb, lt-ltb, le-ltb}
 use lib.Dec.{T, eqb}
-use lib.ListN.{length, getD, take, drop, set, length-append, length-drop}
-use lib.Seq.{getD-set-same, getD-set-other, take-all, take-suc, take-suc-set, take-set-le, drop-set-lt, drop-set-add, getD-take, getD-drop}
+use lib.ListN.{length, getD, take, drop, set, length-append, length-drop, length-map}
+use lib.Seq.{getD-set-same, getD-set-other, take-all, take-suc, take-suc-set, take-set-le, drop-set-lt, drop-set-add}
 use mir.Val.{boolByte}
 use Rattle.basics.specs.Choice.{pick, pick-true, pick-false}
 use Rattle.basics.specs.Nodes.{has, Below}
 use Rattle.basics.specs.Lists.{pieces}
-use Rattle.basics.specs.Graph.{Bridge, otherEnd, otherEnds}
+use Rattle.basics.specs.Graph.{otherEnds}
 use Rattle.basics.proofs.Counting.{in-has, at-most}
-use Rattle.basics.proofs.Pieces.{pieces-more}
+use Rattle.basics.proofs.Pieces.{length-pieces}
+use Rattle.store.specs.Layout.{bridgeSize}
 use Rattle.store.specs.View.{bridgeIn}
-use Rattle.gathering.specs.Gathering.{Fresh, visitOne, gatherAll, Gathered, Gathering}
+use Rattle.lists.specs.Words.{bridgeList}
+use Rattle.chains.specs.Chains.{otherEndAt, firstLink, nextLink, linkedEnds, bridgesIn}
+use Rattle.chains.proofs.Reading.{first-place, next-place, linked-none, linked-step}
+use Rattle.chains.proofs.Laws.{chained-ends}
+use Rattle.gathering.specs.Gathering.{Fresh, visitOne, gatherAll, Gathered, Gathering, Linked}
 
 pub at-most-one : (b : Bool) → boolByte b ≤ 1
 at-most-one true = omega arith
@@ -178,43 +183,6 @@ module _ (n count v : ℕ) (words : List ℕ) where
       none : count ≡ count + boolByte false
       none = omega arith
 
--- ---- bridges
-
-ends-append : (xs ys : List Bridge) (u : ℕ) → otherEnds (xs ++ ys) u ≡ otherEnds xs u ++ otherEnds ys u
-unfolding otherEnds
-ends-append [] ys u = refl
-ends-append (x ∷ xs) ys u = ap (λ (l : List ℕ). otherEnd x u ++ l) (ends-append xs ys u) ∙ sym (append-assoc (otherEnd x u) (otherEnds xs u) (otherEnds ys u))
-
--- the first i bridges of some words
-abbrev pub firstBridges : ℕ → List ℕ → List Bridge
-firstBridges i ws = map bridgeIn (pieces 2 i ws)
-
-pub one-more-bridge : (i : ℕ) (ws : List ℕ) (u : ℕ) → i < length ws / 2
-    → otherEnds (firstBridges (i + 1) ws) u ≡ otherEnds (firstBridges i ws) u ++ otherEnd (record { near = getD ws (2 * i) 0; far = getD ws (2 * i + 1) 0 }) u
-unfolding otherEnds
-one-more-bridge i ws u h =
-    ap (λ (k : ℕ). otherEnds (firstBridges k ws) u) (add-one i)
-    ∙ ap (λ (l : List (List ℕ)). otherEnds (map bridgeIn l) u) (pieces-more 2 i ws)
-    ∙ ap (λ (l : List Bridge). otherEnds l u) (map-append bridgeIn (pieces 2 i ws) (take 2 (drop (i * 2) ws) ∷ []))
-    ∙ ends-append (firstBridges i ws) (bridgeIn (take 2 (drop (i * 2) ws)) ∷ []) u
-    ∙ ap (λ (l : List ℕ). otherEnds (firstBridges i ws) u ++ l) (mathlib.Core.List.append-nil (otherEnd (bridgeIn (take 2 (drop (i * 2) ws))) u)
-    ∙ ap (λ (b : Bridge). otherEnd b u) (λ j. record { near = word 0 (2 * i) (omega arith) (omega arith) j; far = word 1 (2 * i + 1) (omega arith) (omega arith) j }))
-  where
-    word : (k w : ℕ) → k < 2 → i * 2 + k ≡ w → getD (take 2 (drop (i * 2) ws)) k 0 ≡ getD ws w 0
-    word k w l e = getD-take 2 (drop (i * 2) ws) k 0 l ∙ getD-drop (i * 2) ws k 0 ∙ ap (λ (x : ℕ). getD ws x 0) e
-
-pub near-end : (u a b : ℕ) → u ≡ a → b ∷ [] ≡ otherEnd (record { near = a; far = b }) u
-unfolding otherEnd
-near-end u a b e = sym (pick-true (b ∷ []) (pick (eqb u b) (a ∷ []) []) (eq-eqb u a e))
-
-pub far-end : (u a b : ℕ) → (u ≡ a → ⊥) → u ≡ b → a ∷ [] ≡ otherEnd (record { near = a; far = b }) u
-unfolding otherEnd
-far-end u a b n e = sym (pick-false (b ∷ []) (pick (eqb u b) (a ∷ []) []) (ne-eqb u a n) ∙ pick-true (a ∷ []) [] (eq-eqb u b e))
-
-pub no-end : (u a b : ℕ) → (u ≡ a → ⊥) → (u ≡ b → ⊥) → [] ≡ otherEnd (record { near = a; far = b }) u
-unfolding otherEnd
-no-end u a b n m = sym (pick-false (b ∷ []) (pick (eqb u b) (a ∷ []) []) (ne-eqb u a n) ∙ pick-false (a ∷ []) [] (ne-eqb u b m))
-
 -- ---- loops
 
 -- the first i of a list have been looked at
@@ -238,28 +206,48 @@ passed-more {n} {i} {count₀} {count} {r} {list} {words₀} {words} {words′} 
 pub passed-all : {n i count₀ count : ℕ} {list words₀ words : List ℕ} → Passed n list i words₀ count₀ words count → length list ≤ i → Gathering n count₀ list words₀ words count
 passed-all {n} {i} {count₀} {count} {list} {words₀} {words} p h = subst (λ (l : List ℕ). Gathering n count₀ l words₀ words count) (take-all i list h) (p .so-far)
 
--- the first i bridges
-pub record Crossed (n u : ℕ) (bridges : List ℕ) (i : ℕ) (words₀ : List ℕ) (count₀ : ℕ) (words : List ℕ) (count : ℕ) : Type 0 where
-  pub within : i ≤ length bridges / 2
+-- the links up to here have been followed: what is gathered from this one on is gathered from the first on
+pub record Followed (n : ℕ) (bridges links : List ℕ) (first link : ℕ) (words₀ : List ℕ) (count₀ : ℕ) (words : List ℕ) (count : ℕ) : Type 0 where
+  pub place : link ≤ length links
   pub kept : length words ≡ length words₀
-  pub so-far : Gathering n count₀ (otherEnds (firstBridges i bridges) u) words₀ words count
+  pub onward : (words′ : List ℕ) (r : ℕ) → Gathering n count (linkedEnds n bridges links link) words words′ r → Gathering n count₀ (linkedEnds n bridges links first) words₀ words′ r
 
-pub crossed-none : (n u : ℕ) (bridges words : List ℕ) (count : ℕ) → Crossed n u bridges 0 words count words count
-unfolding otherEnds pieces
-crossed-none n u bridges words count = record { within = omega arith; kept = refl; so-far = gathering-none n count words }
+module _ (n : ℕ) (bridges links : List ℕ) where
+  pub followed-none : (u link : ℕ) (words : List ℕ) (count : ℕ) → link ≡ firstLink n links u → Followed n bridges links (firstLink n links u) link words count words count
+  followed-none u link words count e = record {
+    place = omega (arith, first-place n links u);
+    kept = refl;
+    onward = λ words′ r g. subst (λ (k : ℕ). Gathering n count (linkedEnds n bridges links k) words words′ r) e g;
+  }
 
-pub crossed-more : {n u i count₀ count r : ℕ} {bridges words₀ words words′ : List ℕ} → Crossed n u bridges i words₀ count₀ words count → i < length bridges / 2
-    → length words′ ≡ length words → Gathering n count (otherEnd (record { near = getD bridges (2 * i) 0; far = getD bridges (2 * i + 1) 0 }) u) words words′ r
-    → Crossed n u bridges (i + 1) words₀ count₀ words′ r
-crossed-more {n} {u} {i} {count₀} {count} {r} {bridges} {words₀} {words} {words′} p h k g = record {
-  within = omega arith;
-  kept = k ∙ p .kept;
-  so-far = subst (λ (l : List ℕ). Gathering n count₀ l words₀ words′ r) (sym (one-more-bridge i bridges u h))
-      (gathering-then (otherEnds (firstBridges i bridges) u) (otherEnd (record { near = getD bridges (2 * i) 0; far = getD bridges (2 * i + 1) 0 }) u) (p .so-far) g);
-}
+  module _ {first link count₀ count : ℕ} {words₀ words : List ℕ} (p : Followed n bridges links first link words₀ count₀ words count) where
+    pub followed-more : (next node r : ℕ) (words′ : List ℕ) → (link ≡ 0 → ⊥) → next ≡ nextLink n links link → node ≡ otherEndAt bridges link → length words′ ≡ length words
+        → Gathering n count (node ∷ []) words words′ r → Followed n bridges links first next words₀ count₀ words′ r
+    followed-more next node r words′ some e at k g = record {
+      place = omega (arith, next-place n links link);
+      kept = k ∙ p .kept;
+      onward = λ words″ r′ rest.
+          p .onward words″ r′ (subst (λ (l : List ℕ). Gathering n count l words words″ r′) (sym whole) (gathering-then (node ∷ []) (linkedEnds n bridges links next) g rest));
+    }
+      where
+        whole : linkedEnds n bridges links link ≡ node ∷ linkedEnds n bridges links next
+        whole = linked-step n bridges links link some (p .place) ∙ ap₂ (λ (v : ℕ) (m : ℕ). v ∷ linkedEnds n bridges links m) (sym at) (sym e)
 
-pub crossed-all : {n u i count₀ count : ℕ} {bridges words₀ words : List ℕ} → Crossed n u bridges i words₀ count₀ words count → length bridges / 2 ≤ i
-    → Gathering n count₀ (otherEnds (firstBridges (length bridges / 2) bridges) u) words₀ words count
-crossed-all {n} {u} {i} {count₀} {count} {bridges} {words₀} {words} p h =
-    let all : i ≡ length bridges / 2 = omega (arith, p .within) in
-    subst (λ (k : ℕ). Gathering n count₀ (otherEnds (firstBridges k bridges) u) words₀ words count) all (p .so-far)
+    pub followed-less : (next : ℕ) → (link ≡ 0 → ⊥) → next ≡ nextLink n links link → length (linkedEnds n bridges links next) < length (linkedEnds n bridges links link)
+    followed-less next some e =
+        omega (
+          arith,
+          ap (λ (l : List ℕ). length l) (linked-step n bridges links link some (p .place)),
+          ap (λ (m : ℕ). length (linkedEnds n bridges links m)) e,
+        )
+
+    pub followed-all : link ≡ 0 → Gathering n count₀ (linkedEnds n bridges links first) words₀ words count
+    followed-all e =
+        p .onward words count
+        (subst (λ (l : List ℕ). Gathering n count l words words count) (sym (ap (linkedEnds n bridges links) e ∙ linked-none n bridges links)) (gathering-none n count words))
+
+-- what is read from a node's first link on is the other ends of its bridges
+pub linked-ends : (n : ℕ) (bridges links : List ℕ) (u : ℕ) → Linked n bridges links → u < n → linkedEnds n bridges links (firstLink n links u) ≡ otherEnds (bridgeList bridges) u
+linked-ends n bridges links u l h =
+    let many : length (bridgeList bridges) ≡ length bridges / bridgeSize = length-map (pieces bridgeSize (length bridges / bridgeSize) bridges) bridgeIn ∙ length-pieces bridgeSize (length bridges / bridgeSize) bridges in
+    chained-ends n (bridgeList bridges) bridges links (l .chained) (ap (λ (k : ℕ). bridgesIn k bridges) (sym many)) u h

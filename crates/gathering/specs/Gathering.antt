@@ -5,7 +5,10 @@ use Prim.Native.Nat.{ℕ, _+_, _≤_, _<_}
 use lib.Dec.{ltb}
 use lib.ListN.{length, getD, take, drop}
 use Rattle.basics.specs.Choice.{pick}
+use Rattle.basics.specs.Graph.{listOf}
 use Rattle.basics.specs.Nodes.{has, NoDup, Below}
+use Rattle.lists.specs.Words.{rowLists, bridgeList}
+use Rattle.chains.specs.Chains.{Chained}
 
 -- the nodes seen, latest first, and those of them that are fresh, in order
 pub record Fresh : Type 0 where
@@ -42,3 +45,13 @@ Gathering n count list words words′ r =
 -- from the first fresh node on
 abbrev pub GatheringAll : ℕ → List ℕ → List ℕ → List ℕ → ℕ → Type 0
 GatheringAll n list words words′ r = n + n ≤ length words → Gathering n 0 list words words′ r
+
+-- the links of some bridges among n nodes, which chains know by 32 bits
+pub record Linked (n : ℕ) (bridges links : List ℕ) : Type 0 where
+  pub few : n ≤ 4294967295
+  pub chained : Chained n (bridgeList bridges) links
+
+-- words in which the list of node u has been looked at, of rows and linked bridges
+abbrev pub GatheringList : ℕ → ℕ → List ℕ → List ℕ → List ℕ → ℕ → List ℕ → List ℕ → ℕ → Type 0
+GatheringList n degree rows bridges links u words words′ r =
+    Linked n bridges links → u < n → GatheringAll n (listOf (rowLists degree rows) (bridgeList bridges) u) words words′ r

@@ -4,13 +4,13 @@
 //
 // A slice of words has a mark for each of the first n nodes, 0 or 1, and behind the marks n places for the
 // fresh nodes. Entries that are no node of the n are skipped. A node's list is its row and then the other
-// ends of its bridges, as `listOf` of `basics` says.
+// ends of its bridges, as `listOf` of `basics` says; chains link them, so that a node's own bridges are looked
+// at and no others.
 ghost use mathlib.Core.List.{[], _∷_};
 ghost use Prim.Native.Nat.{_+_, _≤_};
 ghost use lib.ListN.{length};
-ghost use Rattle.basics.specs.Graph.{otherEnd, otherEnds, listOf};
-ghost use Rattle.lists.specs.Words.{rowLists, bridgeList};
-ghost use Rattle.gathering.specs.Gathering.{Gathering, GatheringAll};
+ghost use Rattle.chains.specs.Chains.{firstLink, linkedEnds};
+ghost use Rattle.gathering.specs.Gathering.{Gathering, GatheringAll, GatheringList};
 
 // Marks a node, and puts it behind the `count` fresh ones that are there; it stays there as one of them if it
 // was not marked. Gives how many there are then. Which nodes are fresh cannot be foretold, so there is no
@@ -46,51 +46,49 @@ fn visit_all(words: &mut [u32], size: usize, count: usize, list: &[u32]) -> usiz
     fresh
 }
 
-// The other end of a bridge, if the node is one end.
-fn visit_end(words: &mut [u32], size: usize, count: usize, node: u32, near: u32, far: u32) -> usize
-    requires { ⌜ size + size ≤ length (now words) ⌝ }
-    ensures { λ r. ⌜ Gathering size count (otherEnd (record { near = near; far = far }) node) (now (words .entry)) (now (words .exit)) r ⌝ }
+// The other ends of a node's bridges, by its chain.
+fn visit_ends(
+    words: &mut [u32],
+    n: u32,
+    count: usize,
+    bridges: &[u32],
+    links: &[u32],
+    node: u32,
+) -> usize
+    requires { ⌜ n + n ≤ length (now words) ⌝ }
+    ensures { λ r. ⌜ Gathering n count (linkedEnds n (now (bridges .entry)) (now (links .entry)) (firstLink n (now (links .entry)) node)) (now (words .entry)) (now (words .exit)) r ⌝ }
 {
-    if node == near {
-        return visit(words, size, count, far);
-    }
-    if node == far {
-        return visit(words, size, count, near);
-    }
-    count
-}
-
-fn visit_ends(words: &mut [u32], size: usize, count: usize, bridges: &[u32], node: u32) -> usize
-    requires { ⌜ size + size ≤ length (now words) ⌝ }
-    ensures { λ r. ⌜ Gathering size count (otherEnds (bridgeList (now (bridges .entry))) node) (now (words .entry)) (now (words .exit)) r ⌝ }
-{
-    let many = bridges.len() / 2;
     let mut fresh = count;
-    let mut i = 0;
-    while i < many {
-        fresh = visit_end(words, size, fresh, node, bridges[2 * i], bridges[2 * i + 1]);
-        i += 1;
+    let mut link = chains::first_link(links, n, node);
+    while link != 0 {
+        fresh = visit(words, n as usize, fresh, chains::other_end(bridges, link));
+        link = chains::next_link(links, n, link);
     }
     fresh
 }
 
-// Gathers the fresh nodes of a node's list, of rows and bridges, and gives how many there are.
+// Gathers the fresh nodes of a node's list, of rows and linked bridges, and gives how many there are.
 pub fn gather(
     words: &mut [u32],
     size: usize,
     rows: &[u32],
     degree: u16,
     bridges: &[u32],
+    links: &[u32],
     node: u32,
 ) -> usize
-    ensures { λ r. ⌜ GatheringAll size (listOf (rowLists degree (now (rows .entry))) (bridgeList (now (bridges .entry))) node) (now (words .entry)) (now (words .exit)) r ⌝ }
+    ensures { λ r. ⌜ GatheringList size degree (now (rows .entry)) (now (bridges .entry)) (now (links .entry)) node (now (words .entry)) (now (words .exit)) r ⌝ }
 {
     if words.len() / 2 < size {
         return 0;
     }
+    // chains know nodes by 32 bits
+    if size > 4294967295 {
+        return 0;
+    }
     let row = lists::row_of(rows, degree, node);
     let count = visit_all(words, size, 0, row);
-    visit_ends(words, size, count, bridges, node)
+    visit_ends(words, size as u32, count, bridges, links, node)
 }
 
 // Marks the one node that a walk starts at: the first fresh node.

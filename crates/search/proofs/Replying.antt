@@ -39,7 +39,7 @@ use Rattle.search.specs.Docs.{docAt}
 use Rattle.search.specs.declared.Parts.{Parts}
 use Rattle.search.specs.Giving.{PartsIn, Ready, replyBy}
 use Rattle.search.proofs.Answer.{answer-room}
-use Rattle.search.proofs.Inside.{lists-inside}
+use Rattle.search.proofs.Inside.{lists-inside, bridge-words, bridge-nodes}
 
 -- ---- lists
 
@@ -121,11 +121,13 @@ module _ (w : List ℕ) (f scaled : List Float) (k ef : ℕ) (docs : List ℕ) (
       (omega (arith, words, stores .header .nodes), omega (arith, floats, stores .header .nodes))
 
   module _ (nodes nodes′ : List ℕ) (far-off far-off′ : List Float) (r : Walked) (nodes-many : length nodes ≡ min k n) (distances-many : length far-off ≡ min k n) where
-    fits : Fits n (word w entryAt) scaled nodes far-off ws fs
+    fits : Fits n (word w entryAt) scaled (bridgePart w f (stores .room)) nodes far-off ws fs
     fits = record {
       entry-below = built .entry;
       few = omega (arith, stores .header .nodes, stores .header .capacity .most);
       dimension = omega (arith, ready .components, stores .header .dimension .most);
+      bridges-few = omega (arith, bridge-words w f (stores .rest) (stores .room), built .bridges);
+      ends-below = bridge-nodes w f (stores .rest) (stores .room);
       told = omega (arith, nodes-many, distances-many);
       words-room = rooms .0;
       floats-room = rooms .1;
@@ -148,7 +150,7 @@ module _ (w : List ℕ) (f scaled : List Float) (k ef : ℕ) (docs : List ℕ) (
         let D : ℕ = word w degreeAt in
         let at : ℕ → Float = farFrom scaled (vectorsIn (length scaled) (vectorPart w f (stores .room))) in
         let counted : Left n (listWithin n D rows bridges) at (length nodes) =
-        subst (λ (m : ℕ). Fits m (word w entryAt) scaled nodes far-off ws fs → Left m (listWithin m D rows bridges) at (length nodes)) rows-many walk fits in
+        subst (λ (m : ℕ). Fits m (word w entryAt) scaled bridges nodes far-off ws fs → Left m (listWithin m D rows bridges) at (length nodes)) rows-many walk fits in
         let listed : Left n (listIn (view w f)) at (length nodes) = subst (λ (l : ℕ → List ℕ). Left n l at (length nodes)) lists-same counted in
         let measured : Left n (listIn (view w f)) far (length nodes) = subst (λ (g : ℕ → Float). Left n (listIn (view w f)) g (length nodes)) far-same listed in
         let limited : Left n (listIn (view w f)) far (min k n) = subst (λ (m : ℕ). Left n (listIn (view w f)) far m) nodes-many measured in

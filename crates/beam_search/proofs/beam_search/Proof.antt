@@ -1,36 +1,26 @@
--- `beam_search::beam_search` meets its contract: the entry node is taken in, the walk goes on to its end, and the answer's distances are told.
+-- `beam_search::beam_search` meets its contract: the entry node is taken in, bridges are linked, the walk goes on to its end, and the answer's distances are told.
 -- Assumes nothing.
 use mathlib.Core.Path.{_≡_, subst}
-use mathlib.Core.Logic.{_⊎_, ⊎-elim, inl, inr}
-use lib.Dec.{ltb}
 use mathlib.Core.List.{List, [], _∷_}
-use Prim.Native.Nat.{ℕ, _/_, _≤_, _<_}
-use borrow.Author.Tests.{ltb-true, ltb-false}
-use lib.ListN.{length}
+use Prim.Native.Nat.{ℕ}
+use lib.ListN.{length, length-replicate, getD-replicate}
 use lib.Ieee.{Float}
-use Rattle.basics.proofs.Tests.{one-true, both-false}
 use Rattle.vectors.specs.Vectors.{vectorsIn}
 use Rattle.beam.specs.Beam.{farFrom, beamSearch, answerOf}
 use Rattle.beam_search.specs.Search.{listIn, nodesIn, Searched}
 use Rattle.beam_search.specs.declared.Walked.{Walked}
-use Rattle.beam_search.proofs.Ending.{searched}
+use Rattle.beam_search.proofs.Ending.{Room, has-room, no-room, searched}
 use native.Mathlib.Omega.{arith}
 use borrow.Author.Needs.{needs}
 use Rattle.beam_search.proofs.beam_search.Statement.{statement}
 use Rattle.beam_search.proofs.beam_search.Tie as tie
 
 -- what the test said
-fitting : (c : tie.Else1) → (nodesIn ((c .before .before .before .before .before .before .before .before .before) .args .degree) ((c .before .before .before .before .before .before .before .before .before) .args .rows .now) ≤ length ((c .before .before .before .before .before .before .before .before .before) .args .words .now) / 11) × (length ((c .before .before .before .before .before .before .before .before .before) .args .query .now) ≤ 4294967295)
-fitting c =
-    let a = (c .before .before .before .before .before .before .before .before .before) .args in
-    let t = both-false (ltb (length (a .words .now) / 11) (nodesIn (a .degree) (a .rows .now))) (ltb 4294967295 (length (a .query .now))) (c .if1 .left) in
-    (ltb-false (length (a .words .now) / 11) (nodesIn (a .degree) (a .rows .now)) (t .0), ltb-false 4294967295 (length (a .query .now)) (t .1))
+abbrev Fitting : tie.Else1 → Type 0
+Fitting c = let a = (c .before .before .before .before .before .before .before .before .before) .args in Room (length (a .words .now)) (length (a .query .now)) (nodesIn (a .degree) (a .rows .now)) (length (a .bridges .now))
 
-not-fitting : (c : tie.Then1) → (length ((c .before .before .before .before .before .before .before .before .before) .args .words .now) / 11 < nodesIn ((c .before .before .before .before .before .before .before .before .before) .args .degree) ((c .before .before .before .before .before .before .before .before .before) .args .rows .now)) ⊎ (4294967295 < length ((c .before .before .before .before .before .before .before .before .before) .args .query .now))
-not-fitting c =
-    let a = (c .before .before .before .before .before .before .before .before .before) .args in
-    ⊎-elim (λ e. inl (ltb-true (length (a .words .now) / 11) (nodesIn (a .degree) (a .rows .now)) e)) (λ e. inr (ltb-true 4294967295 (length (a .query .now)) e))
-    (one-true (ltb (length (a .words .now) / 11) (nodesIn (a .degree) (a .rows .now))) (ltb 4294967295 (length (a .query .now))) (c .if1 .taken))
+fitting : (c : tie.Else1) → Fitting c
+fitting c = let a = (c .before .before .before .before .before .before .before .before .before) .args in has-room (length (a .words .now)) (length (a .query .now)) (nodesIn (a .degree) (a .rows .now)) (length (a .bridges .now)) (c .if1 .left)
 
 -- the dimension as a u32 is the query's length
 at-dimension : (query vectors : List Float) (rows : List ℕ) (degree : ℕ) (bridges : List ℕ) (entry b : ℕ) (nodes nodes′ : List ℕ) (distances distances′ : List Float) (r : Walked) (d : ℕ) → d ≡ length query
@@ -53,19 +43,32 @@ div-size c = search needs
 
 returns : tie.Need-returns
 returns c =
+    let a = (c .before .before .before .before .before .before .before .before .before) .args in
     λ fits.
-    let room = fits .words-room in
-    let few = fits .dimension in
-    absurd (⊎-elim (λ e. omega (arith, e, room)) (λ e. omega (arith, e, few)) (not-fitting c))
+    absurd
+    (no-room (length (a .words .now)) (length (a .query .now)) (nodesIn (a .degree) (a .rows .now)) (length (a .bridges .now)) (c .if1 .taken)
+    (record { scratch = omega (arith, fits .words-room); components = omega (arith, fits .dimension); nodes = fits .few; pairs = omega (arith, fits .bridges-few) }))
 
 small-requires : tie.Need-small-requires
 small-requires c κs = search needs
 
 start-requires : tie.Need-start-requires
-start-requires c κs = let h = fitting (c .before .before .before .before) .0 in omega (arith, h)
+start-requires c κs = omega (arith, fitting (c .before .before .before .before) .scratch)
+
+slice-aggregate-link-bridges : tie.Need-slice-aggregate-link-bridges
+slice-aggregate-link-bridges c = search needs
+
+cast-link-bridges : tie.Need-cast-link-bridges
+cast-link-bridges c = omega (arith, fitting (c .before .before .before .before .before .before .before .before .before .before .before .before) .nodes)
+
+link-bridges-requires : tie.Need-link-bridges-requires
+link-bridges-requires c κs = fitting (c .before .before .before .before .before .before .before .before .before .before .before .before) .pairs
+
+slice-aggregate-walk-on : tie.Need-slice-aggregate-walk-on
+slice-aggregate-walk-on c = search needs
 
 walk-on-requires : tie.Need-walk-on-requires
-walk-on-requires c κs = let h = fitting (c .before .before .before .before .before .before .before .before .before .before .before .before .before .before) .0 in let k = c .before .before .before .before .before .before .before .before .before .start .kept .0 in omega (arith, h, k)
+walk-on-requires c κs = let k = c .before .before .before .before .before .before .before .before .before .before .before .before .before .start .kept .0 in omega (arith, fitting (c .before .before .before .before .before .before .before .before .before .before .before .before .before .before .before .before .before .before) .scratch, k)
 
 tell-requires : tie.Need-tell-requires
 tell-requires c κs = search needs
@@ -87,19 +90,23 @@ same-length-4 c = search needs
 
 returns-2 : tie.Need-returns-2
 returns-2 c =
-    let a = (c .before .before .before .before .before .before .before .before .before .before .before .before .before .before .before .before .before .before .before .before .before .before .before .before .before .before .before .before .before .before .before .before .before .before .before .before .before) .args in
-    let s = c .before .before .before .before .before .before .before .before .before .before .before .before .before .before .before .before .before .before .before .before .before .before .before .start in
+    let a = (c .before .before .before .before .before .before .before .before .before .before .before .before .before .before .before .before .before .before .before .before .before .before .before .before .before .before .before .before .before .before .before .before .before .before .before .before .before .before .before .before .before) .args in
+    let d = c .before .before .before .before .before .before .before .before .before .before .before .before .before .before .before .before .before .before .before .before .before .before .before .before .before .before .before .before .before .before .before .small in
+    let l = c .before .before .before .before .before .before .before .before .before .before .before .before .before .before .before .before .before .before .before .link-bridges in
+    let s = c .before .before .before .before .before .before .before .before .before .before .before .before .before .before .before .before .before .before .before .before .before .before .before .before .before .before .before .start in
     let w = c .before .before .before .before .before .before .before .before .before .before .before .before .before .walk-on in
-    let h = fitting (c .before .before .before .before .before .before .before .before .before .before .before .before .before .before .before .before .before .before .before .before .before .before .before .before .before .before .before .before) .0 in
-    let d = fitting (c .before .before .before .before .before .before .before .before .before .before .before .before .before .before .before .before .before .before .before .before .before .before .before .before .before .before .before .before) .1 in
+    let told = c .before .before .before .tell in
+    let room = fitting (c .before .before .before .before .before .before .before .before .before .before .before .before .before .before .before .before .before .before .before .before .before .before .before .before .before .before .before .before .before .before .before .before) in
+    let n : ℕ = nodesIn (a .degree) (a .rows .now) in
     λ fits.
+    let linked = l .ensures (fits .few) (omega (arith, length-replicate {A = ℕ} 4096 0, fits .few)) (λ i h. getD-replicate 4096 i 0 0 (omega (arith, fits .few))) (fits .ends-below) in
     let begun = s .ensures (fits .entry-below) (fits .few) (omega (arith, fits .floats-room)) in
-    let rested = w .ensures (a .nodes .now) (a .entry .0 ∷ []) (a .entry .0 ∷ []) begun in
-    at-dimension (a .query .now) (a .vectors .now) (a .rows .now) (a .degree) (a .bridges .now) (a .entry .0) (a .places) (a .nodes .now) (w .last .1 .1 .0) (a .distances .now) (c .before .before .before .tell .last .0) _ (c .before .before .before .before .before .before .before .before .before .before .before .before .before .before .before .before .before .before .before .before .before .before .before .before .before .before .before .small .result)
-    (omega (arith, c .before .before .before .before .before .before .before .before .before .before .before .before .before .before .before .before .before .before .before .before .before .before .before .before .before .before .before .small .ensures, d))
-    (searched (farFrom (a .query .now) (vectorsIn (c .before .before .before .before .before .before .before .before .before .before .before .before .before .before .before .before .before .before .before .before .before .before .before .before .before .before .before .small .result) (a .vectors .now))) (nodesIn (a .degree) (a .rows .now)) (a .places) (a .entry .0) (listIn (nodesIn (a .degree) (a .rows .now)) (a .degree) (a .rows .now) (a .bridges .now))
-    (w .last .0) (w .last .1 .0) (a .nodes .now) (w .last .1 .1 .0) (rested .front) (w .result) (a .distances .now) (c .before .before .before .tell .last .0) (c .small2 .result)
-    (rested .stands) (omega (arith, h, w .kept .0, s .kept .0)) (fits .few) (fits .told) (c .before .before .before .tell .ensures) (c .small2 .ensures))
+    let rested = w .ensures linked (a .nodes .now) (a .entry .0 ∷ []) (a .entry .0 ∷ []) begun in
+    at-dimension (a .query .now) (a .vectors .now) (a .rows .now) (a .degree) (a .bridges .now) (a .entry .0) (a .places) (a .nodes .now) (w .last .1 .1 .0) (a .distances .now) (told .last .0) _ (d .result)
+    (omega (arith, d .ensures, room .components))
+    (searched (farFrom (a .query .now) (vectorsIn (d .result) (a .vectors .now))) n (a .places) (a .entry .0) (listIn n (a .degree) (a .rows .now) (a .bridges .now))
+    (w .last .0) (w .last .1 .0) (a .nodes .now) (w .last .1 .1 .0) (rested .front) (w .result) (a .distances .now) (told .last .0) (c .small2 .result)
+    (rested .stands) (omega (arith, room .scratch, w .kept .0, s .kept .0)) (fits .few) (fits .told) (told .ensures) (c .small2 .ensures))
 
 pub beam-search-spec : {M : Type 1} → statement M
 beam-search-spec =
@@ -110,6 +117,10 @@ beam-search-spec =
     returns
     small-requires
     start-requires
+    slice-aggregate-link-bridges
+    cast-link-bridges
+    link-bridges-requires
+    slice-aggregate-walk-on
     walk-on-requires
     tell-requires
     small-requires-2

@@ -13,7 +13,7 @@ gather-requires : tie.Need-gather-requires
 gather-requires c κs = search needs
 
 take-in-requires : tie.Need-take-in-requires
-take-in-requires c κs = let k = c .before .before .before .before .before .gather .kept .0 in omega (arith, (c .before .before .before .before .before .before .before .before .before .before .before .before .before .before) .pre)
+take-in-requires c κs = let k = c .before .before .before .before .before .gather .kept .0 in omega (arith, (c .before .before .before .before .before .before .before .before .before .before .before .before .before .before .before) .pre)
 
 same-length : tie.Need-same-length
 same-length c = search needs
@@ -26,13 +26,13 @@ same-length-3 c = search needs
 
 returns : tie.Need-returns
 returns c =
-    let a = (c .before .before .before .before .before .before .before .before .before .before .before .before .before .before .before .before .before .before .before .before .before) .args in
+    let a = (c .before .before .before .before .before .before .before .before .before .before .before .before .before .before .before .before .before .before .before .before .before .before) .args in
     let gather = c .before .before .before .before .before .before .before .before .before .before .before .before .gather in
     let take = c .before .before .before .before .before .before .take-in in
-    λ nodes₀ seen front t.
+    λ linked below nodes₀ seen front t.
     gathered-in (farFrom (a .query .now) (vectorsIn (a .dimension) (a .vectors .now))) (a .size) (a .places) (gather .result) (listOf (rowLists (a .degree) (a .rows .now)) (bridgeList (a .bridges .now)) (a .node)) (a .words .now) (gather .last .0) (take .last .0)
     (a .floats .now) (take .last .1 .0) (a .nodes .now) (take .last .1 .1 .0) (a .walk) (take .result) nodes₀ (record { seen = seen; front = front })
-    (omega (arith, (c .before .before .before .before .before .before .before .before .before .before .before .before .before .before .before .before .before .before .before .before .before) .pre)) (gather .ensures) (take .ensures .1) (take .ensures .0) (t .marks) (t .standing) (t .known) (t .room)
+    (omega (arith, (c .before .before .before .before .before .before .before .before .before .before .before .before .before .before .before .before .before .before .before .before .before .before) .pre)) (gather .ensures linked below) (take .ensures .1) (take .ensures .0) (t .marks) (t .standing) (t .known) (t .room)
 
 pub expand-spec : {M : Type 1} → statement M
 expand-spec =

@@ -10,21 +10,21 @@ use Rattle.beam_search.proofs.walk_on.Statement.{statement}
 use Rattle.beam_search.proofs.walk_on.Tie as tie
 
 abbrev Inv-loop : tie.InvT-loop
-Inv-loop words₀ floats₀ nodes₀ query vectors dimension rows degree bridges size places now₀ left₀ words floats nodes now left =
-    Onward (farFrom query (vectorsIn dimension vectors)) size places (listIn size degree rows bridges) words₀ floats₀ nodes₀ now₀ words floats nodes now left
+Inv-loop words₀ floats₀ nodes₀ query vectors dimension rows degree bridges links size places now₀ left₀ words floats nodes now left =
+    Onward bridges links (farFrom query (vectorsIn dimension vectors)) size places (listIn size degree rows bridges) words₀ floats₀ nodes₀ now₀ words floats nodes now left
 
 abbrev μ-loop : tie.MeasureT-loop
-μ-loop words₀ floats₀ nodes₀ query vectors dimension rows degree bridges size places now₀ left₀ words floats nodes now left =
+μ-loop words₀ floats₀ nodes₀ query vectors dimension rows degree bridges links size places now₀ left₀ words floats nodes now left =
     left
 
 loop-holds : tie.Need-loop-holds Inv-loop μ-loop
-loop-holds c = let a = (c .before .before .before .before .before .before .before) .args in onward-none (farFrom (a .query .now) (vectorsIn (a .dimension) (a .vectors .now))) (a .size) (a .places) (listIn (a .size) (a .degree) (a .rows .now) (a .bridges .now)) (a .words .now) (a .floats .now) (a .nodes .now) (a .walk)
+loop-holds c = let a = (c .before .before .before .before .before .before .before .before) .args in onward-none (a .bridges .now) (a .links .now) (farFrom (a .query .now) (vectorsIn (a .dimension) (a .vectors .now))) (a .size) (a .places) (listIn (a .size) (a .degree) (a .rows .now) (a .bridges .now)) (a .words .now) (a .floats .now) (a .nodes .now) (a .walk)
 
 sub-left : tie.Need-sub-left Inv-loop μ-loop
 sub-left c = search needs
 
 step-requires : tie.Need-step-requires Inv-loop μ-loop
-step-requires c κs = let o = c .before .before .before .before .loop .inv .words-kept in omega (arith, (c .before .before .before .before .before .before .before .before .before .before .before .before) .pre)
+step-requires c κs = let o = c .before .before .before .before .loop .inv .words-kept in omega (arith, (c .before .before .before .before .before .before .before .before .before .before .before .before .before) .pre)
 
 same-length : tie.Need-same-length Inv-loop μ-loop
 same-length c = c .before .before .before .before .before .before .before .before .step .kept .0 ∙ c .before .before .before .before .before .before .before .before .before .before .before .before .before .loop .inv .words-kept

@@ -6,14 +6,17 @@ use lib.ListN.{getD}
 use Rattle.basics.specs.Graph.{otherEnds, listOf}
 use Rattle.lists.specs.Words.{rowLists, bridgeList}
 use Rattle.gathering.specs.Gathering.{Gathering}
-use Rattle.gathering.proofs.Steps.{gathering-then}
+use Rattle.gathering.proofs.Steps.{gathering-then, linked-ends}
 use native.Mathlib.Omega.{arith}
 use borrow.Author.Needs.{needs}
 use Rattle.gathering.proofs.gather.Statement.{statement}
 use Rattle.gathering.proofs.gather.Tie as tie
 
 returns : tie.Need-returns
-returns c = λ long. absurd (omega (arith, c .if1 .taken))
+returns c = λ linked below long. absurd (omega (arith, c .if1 .taken))
+
+returns-2 : tie.Need-returns-2
+returns-2 c = λ linked below long. absurd (omega (arith, c .if2 .taken, linked .few))
 
 row-of-requires : tie.Need-row-of-requires
 row-of-requires c κs = search needs
@@ -21,23 +24,26 @@ row-of-requires c κs = search needs
 visit-all-requires : tie.Need-visit-all-requires
 visit-all-requires c κs = search needs
 
+cast-visit-ends : tie.Need-cast-visit-ends
+cast-visit-ends c = search needs
+
 visit-ends-requires : tie.Need-visit-ends-requires
 visit-ends-requires c κs = search needs
 
 same-length : tie.Need-same-length
 same-length c = search needs
 
-returns-2 : tie.Need-returns-2
+returns-3 : tie.Need-returns-3
 unfolding listOf
-returns-2 c =
-    let a = (c .before .before .before .before .before .before .before .before .before .before .before .before .before) .args in
+returns-3 c =
+    let a = (c .before .before .before .before .before .before .before .before .before .before .before .before .before .before .before) .args in
     let all = c .before .before .before .before .before .before .visit-all in
     let ends = c .before .before .visit-ends in
-    λ long. gathering-then (getD (rowLists (a .degree) (a .rows .now)) (a .node) []) (otherEnds (bridgeList (a .bridges .now)) (a .node))
+    λ linked below long. gathering-then (getD (rowLists (a .degree) (a .rows .now)) (a .node) []) (otherEnds (bridgeList (a .bridges .now)) (a .node))
     (subst (λ (l : List ℕ). Gathering (a .size) 0 l (a .words .now) (all .last .0) (all .result)) (c .before .before .before .before .before .before .before .before .row-of .ensures) (all .ensures))
-    (ends .ensures)
+    (subst (λ (l : List ℕ). Gathering (a .size) (all .result) l (all .last .0) (ends .last .0) (ends .result)) (linked-ends (a .size) (a .bridges .now) (a .links .now) (a .node) linked below) (ends .ensures))
 
 pub gather-spec : {M : Type 1} → statement M
 gather-spec =
     tie.close
-    (tie.spec returns row-of-requires visit-all-requires visit-ends-requires same-length returns-2)
+    (tie.spec returns returns-2 row-of-requires visit-all-requires cast-visit-ends visit-ends-requires same-length returns-3)

@@ -1,0 +1,72 @@
+-- Bridges linked one after the other: zeros are the chains of none, and each bridge makes those of one more. Assumes nothing.
+use mathlib.Core.Path.{_≡_, refl, sym, ap, _∙_, subst}
+use mathlib.Core.List.{List, [], _∷_, _++_, map-append}
+use mathlib.Core.List.{List·Memᴰ·not-nil as in-nil}
+use Prim.Native.Nat.{ℕ, suc, _+_, _*_, _/_, _≤_, _<_}
+use native.Mathlib.Omega.{arith}
+use native.Mathlib.Numerals.{add-one}
+use lib.ListN.{length, getD, take, drop, length-map}
+use lib.Seq.{getD-take, getD-drop}
+use Rattle.basics.specs.Graph.{Bridge}
+use Rattle.basics.specs.Lists.{pieces}
+use Rattle.basics.proofs.Pieces.{length-pieces, pieces-more}
+use Rattle.store.specs.View.{bridgeIn}
+use Rattle.chains.specs.Chains.{chainBridge, slotsFrom, Chained, bridgesIn}
+use Rattle.chains.proofs.Laws.{chain-more}
+use Rattle.beam_search.specs.Steps.{Linking}
+
+-- bridge j of some words
+abbrev bridgeOf : ℕ → List ℕ → Bridge
+bridgeOf j ws = record { near = getD ws (2 * j) 0; far = getD ws (2 * j + 1) 0 }
+
+one-more : (j : ℕ) (ws : List ℕ) → bridgesIn j ws ++ (bridgeOf j ws ∷ []) ≡ bridgesIn (j + 1) ws
+one-more j ws =
+    sym (ap (λ (k : ℕ). bridgesIn k ws) (add-one j)
+    ∙ ap (mathlib.Core.List.map bridgeIn) (pieces-more 2 j ws)
+    ∙ map-append bridgeIn (pieces 2 j ws) (take 2 (drop (j * 2) ws) ∷ [])
+    ∙ ap (λ (b : Bridge). bridgesIn j ws ++ (b ∷ [])) (λ i. record { near = word 0 (2 * j) (omega arith) (omega arith) i; far = word 1 (2 * j + 1) (omega arith) (omega arith) i }))
+  where
+    word : (k w : ℕ) → k < 2 → j * 2 + k ≡ w → getD (take 2 (drop (j * 2) ws)) k 0 ≡ getD ws w 0
+    word k w l e = getD-take 2 (drop (j * 2) ws) k 0 l ∙ getD-drop (j * 2) ws k 0 ∙ ap (λ (x : ℕ). getD ws x 0) e
+
+many-bridges : (j : ℕ) (ws : List ℕ) → length (bridgesIn j ws) ≡ j
+many-bridges j ws = length-map (pieces 2 j ws) bridgeIn ∙ length-pieces 2 j ws
+
+no-chain : (n : ℕ) (ws links : List ℕ) → ((i : ℕ) → i < 2 * n → getD links i 0 ≡ 0) → Chained n (bridgesIn 0 ws) links
+unfolding slotsFrom pieces
+no-chain n ws links zero = record {
+  paths = λ i k. zero i (omega arith);
+  tails = λ i k. zero (n + i) (omega arith);
+  small = λ i s k. absurd (in-nil k);
+  owned = λ i j s k. absurd (in-nil k);
+}
+
+module _ (n : ℕ) (bridges links₀ : List ℕ) where
+  -- the first j bridges are linked
+  pub record Chaining (j : ℕ) (links : List ℕ) : Type 0 where
+    pub within : j ≤ length bridges / 2
+    pub kept : length links ≡ length links₀
+    pub so-far : n ≤ 1024 → 4 * n ≤ length links₀ → ((i : ℕ) → i < 2 * n → getD links₀ i 0 ≡ 0) → ((i : ℕ) → i < length bridges → getD bridges i 0 < n)
+        → Chained n (bridgesIn j bridges) links
+
+  pub chaining-none : Chaining 0 links₀
+  chaining-none = record { within = omega arith; kept = refl; so-far = λ few room zero ends. no-chain n bridges links₀ zero }
+
+  module _ (j : ℕ) (links : List ℕ) (p : Chaining j links) where
+    pub chaining-more : (links′ : List ℕ) → length bridges / 2 ≤ n → j < length bridges / 2 → length links′ ≡ length links
+        → links′ ≡ chainBridge n j (getD bridges (2 * j) 0) (getD bridges (2 * j + 1) 0) links → Chaining (j + 1) links′
+    chaining-more links′ all more k e = record {
+      within = omega arith;
+      kept = k ∙ p .kept;
+      so-far = λ few room zero ends.
+          subst (λ (bs : List Bridge). Chained n bs links′) (one-more j bridges)
+          (subst (Chained n (bridgesIn j bridges ++ (bridgeOf j bridges ∷ [])))
+          (ap (λ (m : ℕ). chainBridge n m (getD bridges (2 * j) 0) (getD bridges (2 * j + 1) 0) links) (many-bridges j bridges) ∙ sym e)
+          (chain-more n (getD bridges (2 * j) 0) (getD bridges (2 * j + 1) 0) (bridgesIn j bridges) links (p .so-far few room zero ends)
+          (ends (2 * j) (omega arith)) (ends (2 * j + 1) (omega arith)) (omega (arith, many-bridges j bridges, p .kept)) (omega (arith, many-bridges j bridges))));
+    }
+
+    pub chaining-all : length bridges / 2 ≤ j → Linking n bridges links₀ links
+    chaining-all h few room zero ends =
+        let all : j ≡ length bridges / 2 = omega (arith, p .within) in
+        record { few = omega arith; chained = subst (λ (m : ℕ). Chained n (bridgesIn m bridges) links) all (p .so-far few room zero ends) }
