@@ -1,4 +1,4 @@
--- Distances at their nodes' places: what stands at a node afterwards (`scored-known`, `scored-other`), and a list of nodes scored part by part.
+-- Distances at their nodes' places: what stands at a node afterwards (`scored-known`), and a list of nodes scored part by part.
 -- Assumes nothing.
 use mathlib.Core.Path.{_≡_, refl, sym, ap, _∙_, subst}
 use mathlib.Core.Logic.{_⊎_, inl, inr}
