@@ -10,9 +10,13 @@ use Rattle.basics.specs.Lists.{pieces}
 use Rattle.store.specs.Layout.{rowSize, bridgeSize}
 use Rattle.store.specs.View.{entriesIn, bridgeIn, rowBlock}
 
--- the rows that stand whole in some words
+-- the rows that stand whole in some words, a row every `stride` words
+abbrev pub rowsBy : ℕ → List ℕ → List (List ℕ)
+rowsBy stride ws = map entriesIn (pieces stride (length ws / stride) ws)
+
+-- the same for rows of at most D entries
 abbrev pub rowLists : ℕ → List ℕ → List (List ℕ)
-rowLists D ws = map entriesIn (pieces (rowSize D) (length ws / rowSize D) ws)
+rowLists D ws = rowsBy (rowSize D) ws
 
 -- the bridges that do
 abbrev pub bridgeList : List ℕ → List Bridge
