@@ -49,8 +49,8 @@
  * STACK
  *
  * Measured with 1,024 phones of 64 features: pipnn_build ran in a thread with a stack of 24 KB with the usual parameters, of
- * 64 KB with max_leaf_size 64, and of 320 KB where each phone is a leader (max_leaf_size 1, leader_fraction 1). Every other
- * call ran in one of 16 KB.
+ * 64 KB with max_leaf_size 64, and of 320 KB where each phone is a leader (max_leaf_size 1, leader_fraction 1). A search or
+ * a recognition has 17 KB of local arrays and ran in one of 24 KB, every other call in one of 16 KB.
  *
  * HOW TO CHOOSE ef
  *
