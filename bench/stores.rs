@@ -104,8 +104,7 @@ impl Stores {
     }
 }
 
-/// What bounds it is arithmetic on vectors of 16 bytes, the widest that every x86-64 has, and not memory: a store of an eighth the nodes,
-/// which fits the first cache, is read no faster.
+/// The rows of an open store are empty, and all their words are read as well.
 fn opening(features: usize) {
     let vectors = numbers(8, NODES * features);
     let open = Stores::with_nodes(features, NODES, &vectors);
@@ -115,16 +114,16 @@ fn opening(features: usize) {
         &mut || assert_eq!(closed.opening(), 0),
         &mut || assert_eq!(open.opening(), 0),
     ]);
-    let counts = 4 * (16 + NODES);
-    let lists = 4 * (NODES * DEGREE + 2 * (NODES - 1));
+    let rows = 4 * (16 + NODES * (1 + DEGREE));
+    let bridges = 4 * 2 * (NODES - 1);
     let floats = 4 * NODES * features;
     println!(
         "opening check, {NODES} nodes, {features} features: {:.1} us with full rows and all bridges, {:.0} bytes a ns; \
          {:.1} us with empty rows, {:.0} bytes a ns",
         times[0] / 1e3,
-        (counts + lists + floats) as f64 / times[0],
+        (rows + bridges + floats) as f64 / times[0],
         times[1] / 1e3,
-        (counts + floats) as f64 / times[1]
+        (rows + floats) as f64 / times[1]
     );
 }
 
