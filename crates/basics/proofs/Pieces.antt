@@ -89,6 +89,12 @@ module _ {A : Type 0} where
   every-at p (x ∷ xs) d zero e h = both-true (p x) (every p xs) e .0
   every-at p (x ∷ xs) d (suc i) e h = every-at p xs d i (both-true (p x) (every p xs) e .1) (omega arith)
 
+  -- and of every element where it holds of each
+  pub every-of : (p : A → Bool) (xs : List A) (d : A) → ((i : ℕ) → i < length xs → p (getD xs i d) ≡ true) → every p xs ≡ true
+  unfolding every
+  every-of p [] d h = refl
+  every-of p (x ∷ xs) d h = rw (h 0 (omega arith)) (every-of p xs d (λ i l. h (suc i) (omega arith)))
+
   pub every-take : (p : A → Bool) (k : ℕ) (xs : List A) → every p xs ≡ true → every p (take k xs) ≡ true
   unfolding every
   every-take p zero xs e = refl

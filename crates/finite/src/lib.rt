@@ -5,6 +5,7 @@
 // it is no number. So the test is one difference and one comparison, without a branch, and over a slice
 // the compiler uses vectors. It leans on nothing but the operators of floats.
 ghost use mathlib.Core.Path.{_≡_};
+ghost use mathlib.Core.Bool.{true};
 ghost use lib.Ieee.Scale.{finite};
 ghost use Rattle.basics.specs.Lists.{every};
 
@@ -16,8 +17,8 @@ pub fn is_finite(x: f32) -> bool
     d == d
 }
 
-// Whether each component is finite. Each is read, whatever came before it.
-pub fn all_finite(v: &[f32]) -> bool
+// Whether each component is, one by one. Each is read, whatever came before it.
+fn each_finite(v: &[f32]) -> bool
     ensures { λ r. ⌜ r ≡ every finite (now (v .entry)) ⌝ }
 {
     let mut ok = true;
@@ -27,4 +28,34 @@ pub fn all_finite(v: &[f32]) -> bool
         i += 1;
     }
     ok
+}
+
+// Whether four components' sums are, one of each quarter, and what stands past the quarters. No sum with a
+// component that is not finite is finite, so true tells that all are; false tells nothing, since a sum can
+// leave the floats. Four components cost three additions and one test: the check of a store is bound by
+// such steps.
+fn sums_finite(v: &[f32]) -> bool
+    ensures { λ r. ⌜ (r ≡ true → every finite (now (v .entry)) ≡ true) ⌝ }
+{
+    let quarter = v.len() / 4;
+    let rest = 4 * quarter;
+    let mut ok = each_finite(&v[rest..]);
+    let mut i = 0;
+    while i < quarter {
+        let low = v[i] + v[quarter + i];
+        let high = v[2 * quarter + i] + v[3 * quarter + i];
+        ok = ok & is_finite(low + high);
+        i += 1;
+    }
+    ok
+}
+
+// Whether each component is finite.
+pub fn all_finite(v: &[f32]) -> bool
+    ensures { λ r. ⌜ r ≡ every finite (now (v .entry)) ⌝ }
+{
+    if sums_finite(v) {
+        return true;
+    }
+    each_finite(v)
 }

@@ -30,7 +30,6 @@ ghost use Rattle.store.specs.Layout.{
   floatsSize,
   scratchWords,
   scratchFloats,
-  nodesAt,
   degreeAt,
   capacityAt,
   dimensionAt,
@@ -117,7 +116,7 @@ pub fn rows_at(capacity: u32) -> usize
 }
 
 // A row's words: its count and D entries.
-pub fn row_size(degree: u16) -> usize
+fn row_size(degree: u16) -> usize
     ensures { λ r. ⌜ r ≡ rowSize degree ⌝ }
 {
     1 + degree as usize
@@ -191,7 +190,7 @@ pub fn params_of(words: &[u32]) -> PipnnParams
 }
 
 // Whether the header's 16 words are well formed.
-pub fn header_ok(words: &[u32]) -> bool
+fn header_ok(words: &[u32]) -> bool
     ensures { λ r. ⌜ r ≡ headerOk (now (words .entry)) ⌝ }
 {
     let state = word_at(words, STATE);
@@ -218,6 +217,24 @@ fn all_nodes(entries: &[u32], n: u32) -> bool
     let mut i = 0;
     while i < entries.len() {
         ok = ok & (entries[i] < n);
+        i += 1;
+    }
+    ok
+}
+
+// Whether each entry is, four a turn, one of each quarter: a turn costs little more than one entry does. True
+// tells; what false tells nobody needs.
+fn nodes_by_fours(entries: &[u32], n: u32) -> bool
+    ensures { λ r. ⌜ (r ≡ true → every (isNode n) (now (entries .entry)) ≡ true) ⌝ }
+{
+    let quarter = entries.len() / 4;
+    let rest = 4 * quarter;
+    let mut ok = all_nodes(&entries[rest..], n);
+    let mut i = 0;
+    while i < quarter {
+        let low = (entries[i] < n) & (entries[quarter + i] < n);
+        let high = (entries[2 * quarter + i] < n) & (entries[3 * quarter + i] < n);
+        ok = ok & (low & high);
         i += 1;
     }
     ok
@@ -279,7 +296,7 @@ fn rows_ok(words: &[u32], from: usize, degree: u16, n: u32) -> bool
     ensures { λ r. ⌜ r ≡ every (rowOk degree n) (pieces (rowSize degree) n (drop from (now (words .entry)))) ⌝ }
 {
     let end = from + n as usize * row_size(degree);
-    if counts_ok(words, from, degree, n) & all_nodes(&words[from..end], n) {
+    if counts_ok(words, from, degree, n) & nodes_by_fours(&words[from..end], n) {
         return true;
     }
     each_row_ok(words, from, degree, n)

@@ -1,8 +1,7 @@
 -- `store::rows_ok` meets its contract: where one pass over all words says yes, each row is well formed (`rows-flat`), and otherwise each is looked at.
 -- Assumes nothing.
-use mathlib.Core.Path.{_≡_, sym, ap, _∙_, subst}
+use mathlib.Core.Path.{_≡_, sym, ap, _∙_}
 use mathlib.Core.Bool.{true}
-use mathlib.Core.List.{List}
 use Prim.Native.Nat.{ℕ, _+_, _-_, _*_, _≤_}
 use native.Mathlib.Omega.{arith}
 use lib.ListN.{length, take, drop}
@@ -31,20 +30,20 @@ add-end c = omega (arith, fits c)
 counts-ok-requires : tie.Need-counts-ok-requires
 counts-ok-requires c κs = search needs
 
-mul-all-nodes : tie.Need-mul-all-nodes
-mul-all-nodes c = search needs
+mul-nodes-by-fours : tie.Need-mul-nodes-by-fours
+mul-nodes-by-fours c = search needs
 
-sub-all-nodes : tie.Need-sub-all-nodes
-sub-all-nodes c = search needs
+sub-nodes-by-fours : tie.Need-sub-nodes-by-fours
+sub-nodes-by-fours c = search needs
 
-part-all-nodes-start : tie.Need-part-all-nodes-start
-part-all-nodes-start c = search needs
+part-nodes-by-fours-start : tie.Need-part-nodes-by-fours-start
+part-nodes-by-fours-start c = search needs
 
-part-all-nodes-end : tie.Need-part-all-nodes-end
-part-all-nodes-end c = fits (c .before)
+part-nodes-by-fours-end : tie.Need-part-nodes-by-fours-end
+part-nodes-by-fours-end c = fits (c .before)
 
-all-nodes-requires : tie.Need-all-nodes-requires
-all-nodes-requires c κs = search needs
+nodes-by-fours-requires : tie.Need-nodes-by-fours-requires
+nodes-by-fours-requires c κs = search needs
 
 returns : tie.Need-returns
 returns c =
@@ -53,7 +52,7 @@ returns c =
     let size : c .before .before .before .before .row-size .result ≡ rowSize (a .degree) = c .before .before .before .before .row-size .ensures in
     let many : a .from + a .n * c .before .before .before .before .row-size .result - a .from ≡ a .n * rowSize (a .degree) = omega (arith, ap (λ (k : ℕ). a .n * k) size) in
     sym (rows-flat (a .degree) (a .n) (rowSize (a .degree)) (a .n) (drop (a .from) (a .words .now)) (sym (c .before .before .before .counts-ok .ensures) ∙ t .0)
-    (ap (λ (k : ℕ). every (isNode (a .n)) (take k (drop (a .from) (a .words .now)))) (sym many) ∙ sym (c .before .all-nodes .ensures) ∙ t .1))
+    (ap (λ (k : ℕ). every (isNode (a .n)) (take k (drop (a .from) (a .words .now)))) (sym many) ∙ c .before .nodes-by-fours .ensures (t .1)))
 
 each-row-ok-requires : tie.Need-each-row-ok-requires
 each-row-ok-requires c κs = search needs
@@ -69,11 +68,11 @@ rows-ok-spec =
     mul-end
     add-end
     counts-ok-requires
-    mul-all-nodes
-    sub-all-nodes
-    part-all-nodes-start
-    part-all-nodes-end
-    all-nodes-requires
+    mul-nodes-by-fours
+    sub-nodes-by-fours
+    part-nodes-by-fours-start
+    part-nodes-by-fours-end
+    nodes-by-fours-requires
     returns
     each-row-ok-requires
     returns-2)
