@@ -10,7 +10,6 @@ use lib.ListN.{length}
 use lib.Ieee.{Float}
 use borrow.Author.Tests.{le-leb, le-ltb, eq-eqb, ne-eqb, ltb-false}
 use Rattle.basics.specs.Choice.{pick, pick-ind}
-use Rattle.basics.specs.Lists.{every}
 use Rattle.basics.specs.Refusals.{Check, firstRefusal}
 use Rattle.basics.proofs.Refusals.{Pass, none-turned}
 use Rattle.basics.proofs.Tests.{both-false}

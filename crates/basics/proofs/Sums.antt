@@ -22,16 +22,6 @@ pub sum-end-left : (f : Format) (total : Float) (xs ys : List Float) (i : ℕ) �
 unfolding sumFrom products
 sum-end-left f total xs ys i h = rw (drop-of-length-le xs h)
 
-products-nil : (f : Format) (xs : List Float) → products f xs [] ≡ []
-unfolding products
-products-nil f [] = refl
-products-nil f (x ∷ xs) = refl
-
-pub sum-end-right : (f : Format) (total : Float) (xs ys : List Float) (i : ℕ) → length ys ≤ i
-    → sumFrom f total (products f (drop i xs) (drop i ys)) ≡ total
-unfolding sumFrom
-sum-end-right f total xs ys i h = rw (drop-of-length-le ys h, products-nil f (drop i xs))
-
 -- what lies past the shorter list plays no part
 pub products-take : (f : Format) (xs ys : List Float) → products f (take (length ys) xs) ys ≡ products f xs ys
 unfolding products

@@ -1,5 +1,5 @@
 -- The pieces that stand whole in a list: which one stands where. Assumes nothing.
-use mathlib.Core.Path.{_≡_, sym, ap, _∙_}
+use mathlib.Core.Path.{_≡_}
 use mathlib.Core.List.{List, []}
 use Prim.Native.Nat.{ℕ, zero, suc, _+_, _*_, _/_, _≤_, _<_}
 use native.Mathlib.Nat.{div-zero, le-trans, mul-le-mul-right, div-mul-le-self, le-div-iff-mul-le}

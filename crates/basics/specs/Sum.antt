@@ -2,7 +2,7 @@
 use mathlib.Core.Bool.{false}
 use mathlib.Core.List.{List, [], _∷_}
 use lib.IntN.{pos}
-use lib.Ieee.{Float, Format, fin, add, mul, sub}
+use lib.Ieee.{Float, Format, fin, add, mul}
 
 abbrev pub +zero : Float
 +zero = fin false 0 (pos 0)

@@ -1,8 +1,7 @@
 -- The rows, then the entry node and the bridges, make the word store of the definition. Assumes nothing.
-use mathlib.Core.Path.{_≡_, refl, sym, ap, ap₂, subst, _∙_}
-use mathlib.Core.List.{List, [], _++_, map, flatten}
-use mathlib.Core.List.{List·Memᴰ as In}
-use Prim.Native.Nat.{ℕ, _+_, _-_, _*_, _≤_, _<_}
+use mathlib.Core.Path.{_≡_, sym, ap, subst, _∙_}
+use mathlib.Core.List.{List, [], map, flatten}
+use Prim.Native.Nat.{ℕ, _+_, _*_, _≤_}
 use native.Mathlib.Omega.{arith}
 use lib.Dec.{ltb}
 use lib.ListN.{length, getD, take, drop, set, length-set, length-drop}
@@ -18,11 +17,8 @@ use Rattle.medoid.specs.Medoid.{computeMedoid}
 use Rattle.graph_rows.specs.Rows.{Settings, rowsOf, entryOf}
 use Rattle.graph_rows.proofs.Laws.{rows-length, rows-below}
 use Rattle.graph_utils.specs.Repair.{ensureConnectivity}
-use Rattle.store.specs.declared.Lent.the-variants.{Scratch}
-use Rattle.store.specs.Layout.{word, builtState, stateAt, dimensionAt, nodesAt, degreeAt, entryAt, bridgeCountAt, capacityAt, rowsAt, rowSize, bridgesAt, headerSize}
+use Rattle.store.specs.Layout.{word, builtState, stateAt, dimensionAt, nodesAt, degreeAt, entryAt, bridgeCountAt, capacityAt, rowsAt, rowSize, bridgesAt}
 use Rattle.store.specs.View.{view, rowBlock, bridgeBlock, paramsOf}
-use Rattle.store.proofs.Sizes.{product-le, Room}
-use Rattle.store.proofs.Opened.{Opened}
 use Rattle.store.proofs.Reading.{vectors-read}
 use Rattle.lists.specs.Words.{Blocks}
 use Rattle.lists.proofs.Blocks.{blocks-length}

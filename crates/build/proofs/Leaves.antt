@@ -1,10 +1,10 @@
 -- The leaves that carving leaves in words are those that the leaf lists are built from; and the steps of a build's rows, one after the other,
 -- make the rows of the definition. Assumes nothing.
-use mathlib.Core.Path.{_≡_, refl, sym, ap, ap₂, subst, _∙_}
+use mathlib.Core.Path.{_≡_, refl, sym, ap, subst, _∙_}
 use mathlib.Core.Logic.{_⊎_, inl, inr}
-use mathlib.Core.List.{List, [], _∷_, _++_, map, flatten, append-nil}
+use mathlib.Core.List.{List, [], _∷_, flatten, append-nil}
 use mathlib.Core.List.{List·Memᴰ as In, List·Memᴰ·not-nil as in-nil, List·Memᴰ·head as here, List·Memᴰ·tail as there}
-use Prim.Native.Nat.{ℕ, suc, _+_, _*_, _≤_, _<_}
+use Prim.Native.Nat.{ℕ, _*_, _≤_, _<_}
 use native.Mathlib.Decide.{decLe}
 use native.Mathlib.Omega.{arith}
 use lib.Dec.{leb}
@@ -18,18 +18,17 @@ use mathlib.Core.List.{List·Memᴰ·append-cases as in-cases}
 use Rattle.params.specs.declared.PipnnParams.{PipnnParams}
 use Rattle.vectors.specs.Vectors.{vectorsIn}
 use Rattle.partition.specs.Partition.{leavesOf}
-use Rattle.partition.specs.Occurrences.{weigh, weighAll, entries}
+use Rattle.partition.specs.Occurrences.{weigh, entries}
 use Rattle.partition.proofs.Laws.{entries-once, entries-twice, leaves-below}
 use Rattle.leaf.specs.Leaf.{buildLeaves}
 use Rattle.refine.specs.Refine.{addReverseEdges}
-use Rattle.carving.specs.Carving.{nonEmpty, Laid, Asked, Partitioned}
+use Rattle.carving.specs.Carving.{nonEmpty, Laid, Partitioned}
 use Rattle.carving.proofs.Leaves.{flatten-full, length-full}
 use Rattle.carving.proofs.Build.{build-full}
 use Rattle.build_leaf.specs.Built.{Sizes, LeavesIn, Built}
 use Rattle.reverse_edges.specs.Reversed.{Reversed}
 use Rattle.graph_rows.specs.Rows.{Settings, leafRows, reversedRows, rowsOf}
 use Rattle.graph_rows.proofs.Laws.{leaf-bounds, prune-changes-nothing}
-use Rattle.store.specs.Layout.{rowSize}
 use Rattle.lists.specs.Words.{Blocks}
 use Rattle.lists.proofs.Blocks.{cleared-blocks}
 use Rattle.calls.specs.Graph.{settingsOf}

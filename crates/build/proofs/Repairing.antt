@@ -1,12 +1,11 @@
 -- The entry node and the bridges, written: what the word store then is. Assumes nothing.
-use mathlib.Core.Path.{_≡_, refl, sym, ap, ap₂, subst, _∙_}
-use mathlib.Core.List.{List, [], _++_, map, flatten}
-use mathlib.Core.List.{List·Memᴰ as In}
-use Prim.Native.Nat.{ℕ, _+_, _-_, _*_, _/_, _≤_, _<_, min}
+use mathlib.Core.Path.{_≡_, sym, ap, ap₂, subst, _∙_}
+use mathlib.Core.List.{List, [], map, flatten}
+use Prim.Native.Nat.{ℕ, _*_, _/_, _≤_, _<_, min}
 use native.Mathlib.Nat.{mul-div-cancel}
 use native.Mathlib.Omega.{arith}
 use lib.ListN.{length, getD, take, drop, set, length-map}
-use lib.Seq.{take-at, length-take-le}
+use lib.Seq.{take-at}
 use lib.Ieee.{Float}
 use Rattle.basics.specs.Graph.{Bridge}
 use Rattle.basics.specs.Lists.{pieces}
@@ -18,7 +17,7 @@ use Rattle.medoid.specs.Medoid.{computeMedoid}
 use Rattle.medoid.proofs.Laws.{medoid-below}
 use Rattle.graph_utils.specs.Repair.{ensureConnectivity}
 use Rattle.graph_utils.proofs.Laws.{repair-few}
-use Rattle.store.specs.Layout.{builtState, stateAt, entryAt, bridgeCountAt, rowsAt, rowSize, bridgesAt, bridgeSize}
+use Rattle.store.specs.Layout.{builtState, stateAt, entryAt, bridgeCountAt, bridgesAt, bridgeSize}
 use Rattle.store.specs.View.{bridgeBlock}
 use Rattle.store.proofs.Reading.{pairs-sized}
 use Rattle.lists.specs.Words.{rowLists, Blocks}

@@ -1,7 +1,7 @@
 -- What the steps of a build ask of each other, and what they leave of the word store.
 use mathlib.Core.Path.{_≡_}
 use mathlib.Core.List.{List, [], map, flatten}
-use Prim.Native.Nat.{ℕ, _+_, _*_, _≤_, _<_}
+use Prim.Native.Nat.{ℕ, _+_, _*_, _≤_}
 use lib.Dec.{leb}
 use lib.ListN.{length, getD, take, drop, set}
 use lib.Ieee.{Float}
@@ -15,7 +15,7 @@ use Rattle.build_leaf.specs.Built.{Sizes}
 use Rattle.params.specs.declared.PipnnParams.{PipnnParams}
 use Rattle.medoid.specs.Medoid.{computeMedoid}
 use Rattle.graph_utils.specs.Repair.{ensureConnectivity}
-use Rattle.store.specs.Layout.{builtState, stateAt, entryAt, bridgeCountAt, headerSize, rowsAt, rowSize, bridgesAt}
+use Rattle.store.specs.Layout.{builtState, stateAt, entryAt, bridgeCountAt, rowsAt, rowSize, bridgesAt}
 use Rattle.store.specs.View.{bridgeBlock}
 use Rattle.lists.specs.Words.{Blocks}
 use Rattle.calls.specs.Build.{laid}

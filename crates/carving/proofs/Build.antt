@@ -1,21 +1,13 @@
--- What a caller of `partition` needs besides its promise: how many vectors there are, and that a build over the leaves that hold a node is the build
+-- What a caller of `partition` needs besides its promise: that a build over the leaves that hold a node is the build
 -- over all leaves. Assumes nothing.
 use mathlib.Core.Path.{_≡_, refl, sym, ap, _∙_}
 use mathlib.Core.List.{List, [], _∷_}
-use Prim.Native.Nat.{ℕ, _*_, _/_, _<_}
-use native.Mathlib.Nat.{mul-div-cancel}
-use lib.ListN.{length}
+use Prim.Native.Nat.{ℕ}
 use lib.Ieee.{Float}
 use Rattle.basics.specs.Choice.{pick}
-use Rattle.basics.proofs.Pieces.{length-pieces}
-use Rattle.vectors.specs.Vectors.{vectorsIn}
 use Rattle.leaf.specs.Leaf.{buildLeaf, buildLeaves}
 use Rattle.carving.specs.Carving.{nonEmpty}
 use Rattle.carving.proofs.Leaves.{full-more}
-
--- as many vectors as nodes, where the floats are n times the dimension
-pub whole-vectors : (n d : ℕ) (xs : List Float) → 0 < d → n * d ≡ length xs → length (vectorsIn d xs) ≡ n
-whole-vectors n d xs h e = length-pieces d (length xs / d) xs ∙ ap (λ (k : ℕ). k / d) (sym e) ∙ mul-div-cancel n h
 
 module _ (maxDegree bits dimension : ℕ) (vs : List (List Float)) where
   empty-changes-nothing : (rows : List (List ℕ)) → buildLeaf maxDegree bits dimension vs [] rows ≡ rows

@@ -1,11 +1,11 @@
 -- The starred values of 01, "Checked values": one statement over the definitions.
 use mathlib.Core.Path.{_≡_}
 use mathlib.Core.Bool.{false}
-use mathlib.Core.List.{List, [], _∷_}
+use mathlib.Core.List.{[], _∷_}
 use Prim.Native.Nat.{ℕ, _%_}
 use lib.IntN.{pos, negsuc}
 use lib.ListN.{replicate}
-use lib.Ieee.{Float, fin, binary32}
+use lib.Ieee.{fin, binary32}
 use Rattle.basics.specs.Sum.{+zero, +one}
 use Rattle.lcg.specs.Lcg.{nextOf, high, drawAddend}
 use Rattle.root.specs.Root.{rootOf}

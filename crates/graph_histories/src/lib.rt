@@ -7,7 +7,6 @@
 // The tokens are those of the line and no more, so that an answer can be compared to its end.
 // All are proved safe on lines and stores of any content, and nothing more.
 ghost use mathlib.Core.Path.{_≡_};
-ghost use Prim.Native.Nat.{_≤_};
 ghost use lib.ListN.{length};
 use histories::History;
 use search::Found;

@@ -1,4 +1,3 @@
-pub mod Planes
 mod Lists
 mod Cells
 mod Ranked

@@ -2,7 +2,7 @@
 -- and a node to be sorted as a pair of a key and the node.
 use mathlib.Core.Path.{_≡_}
 use mathlib.Core.List.{List, [], _∷_, _++_, map}
-use Prim.Native.Nat.{ℕ, zero, suc, _+_, _-_, _≤_, _<_, min}
+use Prim.Native.Nat.{ℕ, zero, suc, _-_, _≤_, _<_, min}
 use lib.ListN.{length, getD, take, drop}
 use lib.Ieee.{Float, binary32, nan}
 use Rattle.basics.specs.Nodes.{Below}

@@ -33,7 +33,7 @@ pub fn household_count(day: u64, seconds: &[u64], docs: &[u32]) -> Household
 }
 
 // The day that a second lies in.
-pub fn day_of(second: u64) -> u64
+fn day_of(second: u64) -> u64
     ensures { λ r. ⌜ r ≡ dayOf second ⌝ }
 {
     second / 86_400

@@ -7,7 +7,7 @@ use lib.ListN.{length, getD, take, drop}
 use lib.Ieee.{Float, binary32, nan}
 use Rattle.simd.specs.Eight.{laneOf}
 use Rattle.order.specs.Order.{keyOf}
-use Rattle.sorting.specs.Sorting.{sortBy, firstBy, pairs, keyIn, both}
+use Rattle.sorting.specs.Sorting.{firstBy, pairs, keyIn, both}
 use Rattle.vectors.specs.Vectors.{between}
 use Rattle.leaf.specs.Leaf.{candidatesAt}
 

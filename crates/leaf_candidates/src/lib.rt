@@ -8,11 +8,10 @@
 // specs/Candidates   what is offered, and what the candidates are
 // proofs/Laws        places for nodes: sorting sees both alike
 ghost use mathlib.Core.Path.{_≡_};
-ghost use mathlib.Core.List.{map, _++_};
-ghost use Prim.Native.Nat.{ℕ, _+_, _-_, _*_, _≤_, _<_, min};
-ghost use lib.ListN.{length, take, drop};
+ghost use Prim.Native.Nat.{_+_, _-_, _*_, _≤_, _<_, min};
+ghost use lib.ListN.{length};
 ghost use Rattle.basics.specs.Nodes.{Below};
-ghost use Rattle.leaf_candidates.specs.Candidates.{nodeIn, farIn, Offered, Nearest, Gathered, Candidates, Sized, Fits};
+ghost use Rattle.leaf_candidates.specs.Candidates.{Offered, Nearest, Gathered, Candidates, Sized, Fits};
 
 // The candidates of place i, whose distances stand in a lane, and how far they are. Says how many: 64 at
 // most, and none where the sizes do not fit.

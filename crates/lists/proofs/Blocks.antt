@@ -1,13 +1,13 @@
 -- Rows as a build leaves them: how many words they are, what is read back, and what they are when one row's block is put in its place.
 -- Assumes nothing.
-use mathlib.Core.Path.{_≡_, refl, sym, ap, ap₂, subst, _∙_}
+use mathlib.Core.Path.{_≡_, refl, sym, ap, ap₂, _∙_}
 use mathlib.Core.List.{List, [], _∷_, _++_, map, flatten, append-nil}
 use Prim.Native.Nat.{ℕ, zero, suc, _+_, _-_, _*_, _/_, _≤_, _<_}
-use native.Mathlib.Nat.{mul-div-cancel, zero-mul, suc-mul, mul-comm}
+use native.Mathlib.Nat.{mul-div-cancel, zero-mul, suc-mul}
 use native.Mathlib.Omega.{arith}
-use lib.ListN.{length, getD, take, drop, set, replicate, length-map, length-set, length-append, length-replicate, List·getD-map}
+use lib.ListN.{length, getD, take, drop, set, replicate, length-map, length-append, length-replicate}
 use Rattle.basics.specs.Lists.{pieces}
-use Rattle.basics.proofs.Pieces.{Sized, length-flatten, pieces-back}
+use Rattle.basics.proofs.Pieces.{Sized, length-flatten}
 use Rattle.basics.proofs.Rows.{set-row, empty-rows}
 use Rattle.store.specs.Layout.{rowSize}
 use Rattle.store.specs.View.{entriesIn, rowBlock}

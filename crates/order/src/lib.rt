@@ -5,7 +5,7 @@
 // equal keys. Leans on the toolchain's account of IEEE 754 and on nothing else.
 ghost use mathlib.Core.Path.{_≡_};
 ghost use lib.Ieee.{binary32};
-ghost use Rattle.order.specs.Order.{keyOf, before};
+ghost use Rattle.order.specs.Order.{keyOf};
 
 // `f32::total_cmp` turns the bits below the sign where the sign is set, and compares signed numbers; this key turns the sign too and is
 // compared unsigned. A NaN is tested first: it has many patterns.
@@ -21,11 +21,4 @@ pub fn key(x: f32) -> u32
     } else {
         0x8000_0000 + bits
     }
-}
-
-// Whether a stands before b.
-pub fn is_before(a: f32, b: f32) -> bool
-    ensures { λ r. ⌜ r ≡ before a b ⌝ }
-{
-    key(a) < key(b)
 }

@@ -1,5 +1,5 @@
--- A node's own row stays as it is in its turn, so that it can be read while other rows change; what the words are after each step; and rows
--- within the degree stay so, so that the final prune changes nothing. Assumes nothing.
+-- A node's own row stays as it is in its turn, so that it can be read while other rows change; and what the words are after each step. Assumes
+-- nothing.
 use mathlib.Core.Path.{_≡_, refl, sym, ap, ap₂, subst, _∙_}
 use mathlib.Core.Bool.{Bool, true}
 use mathlib.Core.List.{List, [], _∷_, _++_}
@@ -12,7 +12,6 @@ use native.Mathlib.Numerals.{add-one}
 use lib.Dec.{T}
 use lib.ListN.{length, getD, take, drop, set, replicate, length-append, List·getD-append}
 use lib.Seq.{set-getD, getD-set-other, take-suc, take-all, drop-drop, getD-drop, getD-take}
-use lib.Ieee.{Float}
 use borrow.Rule.Slice.PartMut.{putMid}
 use Rattle.basics.specs.Choice.{pick, pick-ind, pick-false}
 use Rattle.basics.specs.Nodes.{has, Below}
@@ -23,8 +22,8 @@ use Rattle.store.specs.Layout.{rowSize}
 use Rattle.store.specs.View.{rowBlock}
 use Rattle.lists.specs.Words.{Blocks}
 use Rattle.lists.proofs.Blocks.{blocks-length, blocks-count, nth-block, put-block}
-use Rattle.refine.specs.Refine.{takes, addBack, addBacks, reverseTo, addReverseEdges, finalPrune}
-use Rattle.refine.proofs.Laws.{reverse-rows, reversed-rows, prune-stays}
+use Rattle.refine.specs.Refine.{takes, addBack, addBacks, reverseTo, addReverseEdges}
+use Rattle.refine.proofs.Laws.{reverse-rows}
 use Rattle.reverse_edges.specs.Reversed.{EntryAdded, BackAdded, Turned, Reversed}
 use Rattle.reverse_edges.proofs.Entry.{takes-had, takes-room}
 
@@ -208,12 +207,3 @@ module _ (D : ℕ) (ws : List ℕ) where
       subst (λ (k : ℕ). Blocks D (reverseTo D rs k) now) all (reversed rs b l inside)
 
 -- ---- what follows
-
--- rows within the degree, whose entries are nodes, are so after their reverse edges, and the final prune leaves them as they are
-pub final-prune-keeps : (D : ℕ) (alpha : Float) (vs : List (List Float)) (rows : List (List ℕ))
-    → ((u : ℕ) → length (getD rows u []) ≤ D) → finalPrune D alpha vs rows ≡ rows
-final-prune-keeps = prune-stays
-
-pub reversed-short : (D : ℕ) (rs : List (List ℕ)) → ((u : ℕ) → length (getD rs u []) ≤ D) → ((u : ℕ) → Below (length rs) (getD rs u []))
-    → Rows (length rs) D (addReverseEdges D rs)
-reversed-short D rs short inside = reversed-rows (length rs) D rs (record { many = refl; short = short; inside = inside })

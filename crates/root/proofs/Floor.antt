@@ -1,6 +1,6 @@
 -- The whole part of a square root: a digit more keeps the bounds, `isqrt` has them, and they fix it. Assumes nothing.
 use mathlib.Core.Path.{_≡_, sym, ap, _∙_, subst}
-use Prim.Native.Nat.{ℕ, zero, suc, _+_, _-_, _*_, _^_, _≤_, _<_, zero-le}
+use Prim.Native.Nat.{ℕ, zero, suc, _+_, _*_, _^_, _≤_, _<_, zero-le}
 use native.Mathlib.Nat.{le-of-eq, le-trans, le-antisymm, lt-of-lt-of-le, lt-irrefl, lt-of-not-le, mul-le-mul, mul-one, zero-add, add-assoc, pow-succ', two-mul, mul-le-mul-left}
 use native.Mathlib.Decide.{decLe}
 use native.Mathlib.Omega.{arith}

@@ -1,6 +1,6 @@
 -- The square root (01, part 2), worked out on whole numbers, over any format.
 use Prim.Native.Nat.{ℕ, zero, suc, _+_, _-_, _*_, _/_, _%_, _^_}
-use mathlib.Core.Bool.{Bool, true, false}
+use mathlib.Core.Bool.{false}
 use lib.IntN.{ℤ}
 use lib.Dec.{leb, eqb}
 use lib.Ieee.{Float, nan, inf, fin, up, down, Format, prec, low, size, odd}

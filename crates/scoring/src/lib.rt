@@ -4,9 +4,7 @@
 ghost use mathlib.Core.Path.{_≡_};
 ghost use Prim.Native.Nat.{_+_, _≤_};
 ghost use lib.ListN.{length, set, take, drop};
-ghost use lib.Ieee.{binary32};
-ghost use Rattle.distance.specs.Distance.{distancesOf};
-ghost use Rattle.vectors.specs.Vectors.{vectorsIn, vectorOf};
+ghost use Rattle.vectors.specs.Vectors.{vectorsIn};
 ghost use Rattle.beam.specs.Beam.{farFrom};
 ghost use Rattle.scoring.specs.Scoring.{scoredAt, scoredEight, placedEight};
 use simd::Eight;

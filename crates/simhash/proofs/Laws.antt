@@ -1,11 +1,11 @@
 -- The hash by blocks that are made of the hyperplanes' stream is 01's hash of the residual, bit by bit. Assumes nothing.
 use mathlib.Core.Path.{_≡_, refl, sym, ap, ap₂, _∙_}
-use mathlib.Core.List.{List, [], _∷_, _++_, append-nil}
+use mathlib.Core.List.{List, [], _∷_, _++_}
 use Prim.Native.Nat.{ℕ, zero, suc, _+_, _*_, _/_, _%_, _^_, _≤_, _<_, min}
 use native.Mathlib.Nat.{mul-assoc, mul-comm, add-mul, mul-le-mul-right, mul-add-div-right, mul-add-mod-self-right, div-eq-of-lt, mod-eq-of-lt}
 use native.Mathlib.Omega.{arith}
-use lib.ListN.{length, getD, take, drop, length-append, length-drop, drop-of-length-le, List·getD-append}
-use lib.Seq.{getD-drop, take-all}
+use lib.ListN.{length, getD, drop, length-append, length-drop, List·getD-append}
+use lib.Seq.{getD-drop}
 use lib.Ieee.{Float, Format, binary32, nan, mul, le}
 use Rattle.basics.specs.Choice.{pick}
 use Rattle.basics.specs.Sum.{+zero, sumOf, products}
@@ -138,9 +138,3 @@ hash-is-simhash n d bits m rest p c numbers room few e =
     ∙ bits-same (bitIn (residual binary32 c p) blocks) (bitSet binary32 d p c) bits
     (λ b h. side-is-bit n d bits m rest numbers room p c b e h)
     ∙ sym (as-bits binary32 d p c bits)
-
--- what `residual_into` leaves where `out` is as long as the residual
-pub residual-whole : (r out : List Float) → length r ≡ length out → take (length out) r ++ drop (length r) out ≡ r
-residual-whole r out e =
-    let past : length out ≤ length r = omega arith in
-    ap₂ (λ (x y : List Float). x ++ y) (take-all (length out) r (omega arith)) (drop-of-length-le out past) ∙ append-nil r

@@ -34,7 +34,7 @@ fn weighed(sum: f32, weight: u32) -> u32
 }
 
 // The eight bits of a block's planes: component i of plane j stands at 8 · i + j.
-pub fn hash_block(r: &[f32], block: &[f32]) -> u32
+fn hash_block(r: &[f32], block: &[f32]) -> u32
     ensures { λ h. ⌜ h ≡ blockHash (now (r .entry)) (now (block .entry)) ⌝ }
 {
     let n = block.len() / 8;

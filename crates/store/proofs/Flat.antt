@@ -1,7 +1,7 @@
 -- Rows in which every word is a node, and every count at most D, are well formed. Assumes nothing.
 use mathlib.Core.Path.{_≡_, refl, sym, ap, ap₂, _∙_, subst}
-use mathlib.Core.Bool.{Bool, true, _&&_}
-use mathlib.Core.List.{List, []}
+use mathlib.Core.Bool.{true, _&&_}
+use mathlib.Core.List.{List}
 use Prim.Native.Nat.{ℕ, zero, suc, _+_, _*_}
 use native.Mathlib.Omega.{arith}
 use lib.ListN.{getD, take, drop}
@@ -9,7 +9,6 @@ use lib.Seq.{take-take}
 use Rattle.basics.specs.Lists.{every, pieces}
 use Rattle.basics.proofs.Tests.{both-true}
 use Rattle.basics.proofs.Pieces.{drop-take, every-take, every-drop}
-use Rattle.store.specs.View.{entriesIn}
 use Rattle.store.specs.WellFormed.{isNode, countOk, rowOk}
 
 row-flat : (D n : ℕ) (row : List ℕ) → countOk D row ≡ true → every (isNode n) row ≡ true → rowOk D n row ≡ true

@@ -15,11 +15,11 @@ use Rattle.basics.specs.Lists.{every}
 use Rattle.basics.specs.Nodes.{Below}
 use Rattle.basics.specs.Graph.{Bridge}
 use Rattle.basics.proofs.Tests.{both-true}
-use Rattle.basics.proofs.Pieces.{length-pieces, nth-piece, Sized, pieces-sized, every-at, every-take, every-drop, drop-take}
+use Rattle.basics.proofs.Pieces.{length-pieces, nth-piece, every-at, every-take, every-drop, drop-take}
 use Rattle.store.specs.Layout.{word, dimensionAt, nodesAt, degreeAt, bridgeCountAt, capacityAt, rowsAt, rowSize, rowAt, bridgesAt, bridgeSize}
 use Rattle.store.specs.View.{rowWords, bridgeWords, entriesIn, bridgeIn, view}
 use Rattle.store.specs.WellFormed.{isNode, rowOk, bridgeOk, restOk}
-use Rattle.store.proofs.Sizes.{product-le, Room}
+use Rattle.store.proofs.Sizes.{product-le}
 
 all-below : (n : ℕ) (l : List ℕ) → every (isNode n) l ≡ true → Below n l
 unfolding every
@@ -104,8 +104,3 @@ module _ (w : List ℕ) (f : List Float) (ok : restOk w f ≡ true) where
       ∙ take-take d (n * d - i * d) (drop (i * d) f) enough in
       ap (every finite) (nth-piece d n f i h ∙ sym kept)
       ∙ every-take finite d (drop (i * d) (take (n * d) f)) (every-drop finite (i * d) (take (n * d) f) (parts .1))
-
--- and each has as many components as the dimension, where the store is as long as its shape asks
-pub vectors-sized : (w : List ℕ) (f : List Float) → Room w f → Sized (word w dimensionAt) (view w f .vectors)
-unfolding view
-vectors-sized w f r = pieces-sized (word w dimensionAt) (word w nodesAt) f (r .vectors)

@@ -61,9 +61,5 @@ module _ (leaves tree : List ℕ) (t : Tournament leaves tree) where
   pub first-wins : 0 < length leaves → Winner leaves (rankAt tree 1)
   first-wins h = winner-of (2 * length leaves) 1 (omega arith) (omega arith) (omega arith)
 
--- a rank tells the key and the id
-pub rank-key : (k i k′ i′ : ℕ) → i < 4294967296 → i′ < 4294967296 → rankOf k i ≡ rankOf k′ i′ → k ≡ k′
-rank-key k i k′ i′ h h′ e = omega arith
-
 pub rank-id : (k i k′ i′ : ℕ) → i < 4294967296 → i′ < 4294967296 → rankOf k i ≡ rankOf k′ i′ → i ≡ i′
 rank-id k i k′ i′ h h′ e = omega arith

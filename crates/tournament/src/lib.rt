@@ -11,7 +11,7 @@
 // Every function is total. What a tree stands for is `Tournament` of specs/Tournament; proofs/Laws says that
 // its first pair is one of the places' and that no place's comes before it.
 ghost use mathlib.Core.Path.{_≡_};
-ghost use Prim.Native.Nat.{_*_, _+_, _-_, _/_, _%_, _<_, _≤_, min};
+ghost use Prim.Native.Nat.{_*_, _+_, _-_, _/_, _%_, _<_, min};
 ghost use lib.ListN.{length, replicate};
 ghost use Rattle.tournament.specs.Tournament.{rankOf, rankAt, laid, nothing, Tournament, firstOf, Putting, Climbing};
 

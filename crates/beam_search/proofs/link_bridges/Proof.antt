@@ -2,7 +2,6 @@
 use Prim.Native.Nat.{_-_}
 use Rattle.beam_search.proofs.Linking.{Chaining, chaining-none, chaining-more, chaining-all}
 use borrow.Author.Needs.{needs}
-use native.Mathlib.Omega.{arith}
 use Rattle.beam_search.proofs.link_bridges.Statement.{statement}
 use Rattle.beam_search.proofs.link_bridges.Tie as tie
 

@@ -11,7 +11,6 @@ use Rattle.pipnn.specs.Answer.{Answer}
 use Rattle.pipnn.proofs.Answer.{left-alone, changed}
 use Rattle.calls.specs.Graph.{graphFor}
 use Rattle.calls.specs.Build.{buildChecks, builtWords, buildSpec}
-use native.Mathlib.Omega.{arith}
 use borrow.Author.Needs.{needs}
 use Rattle.build.proofs.build.Statement.{statement}
 use Rattle.build.proofs.build.Tie as tie

@@ -1,24 +1,18 @@
 -- The numbers that are read are the header's, so the parts that are lent are those of the view; the rows and then the repair make the definition's
 -- store (proofs/Graph). Assumes nothing.
-use mathlib.Core.Path.{_≡_, refl, sym, ap, ap₂, subst, _∙_}
+use mathlib.Core.Path.{_≡_, sym, ap, ap₂, _∙_}
 use mathlib.Core.List.{List}
-use Prim.Native.Nat.{ℕ, _+_, _-_, _*_, _≤_}
+use Prim.Native.Nat.{ℕ, _-_, _*_, _≤_}
 use lib.ListN.{length, take, drop, length-drop, length-replicate}
 use lib.Seq.{length-take-le}
 use lib.Ieee.{Float}
 use borrow.Rule.Slice.PartMut.{same-len-mid}
 use Rattle.params.specs.declared.PipnnParams.{PipnnParams}
-use Rattle.vectors.specs.Vectors.{vectorsIn}
-use Rattle.graph_rows.specs.Rows.{rowsOf}
 use Rattle.store.specs.Layout.{word, nodesAt, dimensionAt, capacityAt, degreeAt, rowsAt, rowSize, rowAt}
 use Rattle.store.specs.View.{paramsOf}
-use Rattle.lists.specs.Words.{Blocks}
 use Rattle.lists.proofs.Parts.{rowPart, vectorPart}
-use Rattle.calls.specs.Graph.{settingsOf}
 use Rattle.calls.proofs.Taken.{BuildTaken, build-taken}
-use Rattle.build.specs.Fits.{RowsFit, RepairFits, RepairPut}
 use Rattle.build.proofs.Graph.{row-end, vectors-end, degree-small, rows-fit, rows-fit-at, repair-fits, repair-fits-at, graph-built-at}
-use Rattle.build.proofs.Laid.{put-laid}
 use native.Mathlib.Omega.{arith}
 use borrow.Author.Needs.{needs}
 use Rattle.build.proofs.build_graph.Statement.{statement}

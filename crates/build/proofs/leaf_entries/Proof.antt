@@ -1,6 +1,5 @@
 -- `build::leaf_entries` meets its contract, by its test. Assumes nothing.
 use mathlib.Core.Path.{sym}
-use native.Mathlib.Omega.{arith}
 use borrow.Author.Needs.{needs}
 use borrow.Author.Tests.{le-leb, lt-leb}
 use Rattle.basics.specs.Choice.{pick-true, pick-false}

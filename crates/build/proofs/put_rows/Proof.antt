@@ -1,5 +1,4 @@
 -- Cleared, filled with the leaves' lists, given reverse edges: the rows of the definition (proofs/Leaves). Assumes nothing.
-use Prim.Native.Nat.{ℕ, _≤_}
 use Rattle.build.proofs.Leaves.{carved-count, rows-made}
 use native.Mathlib.Omega.{arith}
 use borrow.Author.Needs.{needs}

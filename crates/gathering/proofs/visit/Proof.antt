@@ -1,7 +1,6 @@
 -- `gathering::visit` meets its contract, by its cases: no node, no room (the node is seen then), and marked, which makes it fresh or not. Assumes nothing.
 use lib.Dec.{eqb}
 use lib.ListN.{getD, length-set}
-use mir.Val.{boolByte}
 use Rattle.gathering.proofs.Steps.{at-most-one, visit-past, visit-full, visit-here}
 use native.Mathlib.Omega.{arith}
 use borrow.Author.Needs.{needs}

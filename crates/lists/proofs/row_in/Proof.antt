@@ -1,7 +1,7 @@
 -- A walk of the MIR, by hand: the view that `view` returns is held in a local and passed to `row`. All that is known of the two is that each meets
 -- its contract. In a local the lifetime of the view's type has no name, so the value is shown to have the type at `erased`: what a view owns does
 -- not say the lifetime's name.
-use mathlib.Core.Path.{_≡_, refl, ap, _∙_}
+use mathlib.Core.Path.{_≡_, refl, _∙_}
 use Prim.Native.Nat.{ℕ, _<_, _^_}
 use mathlib.Core.List.{List, [], _∷_}
 use lib.ListN.{length, getD}

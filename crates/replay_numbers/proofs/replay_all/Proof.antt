@@ -1,5 +1,4 @@
 -- The invariant: every slice keeps its length. The measure is the number of turns left. Assumes nothing.
-use Prim.Native.Nat.{_-_}
 use mathlib.Core.Path.{_≡_}
 use lib.ListN.{length}
 use Rattle.replay_numbers.proofs.Kept.{Kept}

@@ -1,8 +1,8 @@
 -- The invariant: of each of the eight sums, what is left from it on is the whole dot. The measure is what is left of the query. Assumes nothing.
 use borrow.Author.Needs.{needs}
 use native.Mathlib.Omega.{arith}
-use mathlib.Core.Path.{_≡_, _∙_, sym, subst}
-use Prim.Native.Nat.{_+_, _-_, _≤_, _<_}
+use mathlib.Core.Path.{_∙_, sym, subst}
+use Prim.Native.Nat.{_+_, _-_, _≤_}
 use lib.ListN.{length}
 use lib.Ieee.{Float, ofBits}
 use Rattle.simd.proofs.Left.{Left, left-start, left-four}
