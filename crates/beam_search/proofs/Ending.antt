@@ -25,10 +25,11 @@ use Rattle.walk.specs.Walk.{State, visit, expand}
 use Rattle.beam.specs.KeepClosest.{keyAt, insertIn, heldOf, cutoffOf}
 use Rattle.beam.specs.Beam.{toFrontier, walked, beamSearch, answerOf}
 use Rattle.beam.proofs.Reverse.{in-reverse}
-use Rattle.queues.specs.Queues.{frontRank, heldRank}
+use Rattle.queues.specs.Queues.{frontRank}
 use Rattle.queues.proofs.Laws.{empty-queue}
+use Rattle.queues.proofs.Holding.{none-held}
 use Rattle.gathering.specs.Gathering.{GatheringAll}
-use Rattle.beam_state.specs.State.{part, Answer, Standing}
+use Rattle.beam_state.specs.State.{part, heldEnd, Answer, Standing}
 use Rattle.beam_state.specs.declared.Walk.{Walk}
 use Rattle.beam_state.proofs.Parts.{lay, lay-length, part-here, part-before, take-before}
 use Rattle.beam_search.specs.Search.{within, Searched}
@@ -85,7 +86,7 @@ module _ (g : ℕ → Float) (nodes : List ℕ) (ds : List Float) where
 
 -- ---- cleared
 
-module _ (n : ℕ) (words x y z : List ℕ) (long : 11 * n ≤ length words) (xi : x ≡ replicate (length (take n words)) 0) where
+module _ (n b : ℕ) (words x y z : List ℕ) (long : 11 * n ≤ length words) (xi : x ≡ replicate (length (take n words)) 0) where
   abbrev w₁ : List ℕ
   w₁ = x ++ drop n words
 
@@ -105,35 +106,42 @@ module _ (n : ℕ) (words x y z : List ℕ) (long : 11 * n ≤ length words) (xi
     l₂ : length w₂ ≡ length words
     l₂ = lay-length (2 * n) (6 * n) y w₁ (omega arith) (omega (arith, l₁)) (ly ∙ part₁) ∙ l₁
 
-    module _ (lz : length z ≡ length (part (6 * n) (10 * n) w₂)) where
+    module _ (e : ℕ) (e-is : e ≡ heldEnd n b) (lz : length z ≡ length (part (6 * n) e w₂)) where
       abbrev w₃ : List ℕ
-      w₃ = lay (6 * n) (10 * n) z w₂
+      w₃ = lay (6 * n) e z w₂
 
-      part₂ : length (part (6 * n) (10 * n) w₂) ≡ 10 * n - 6 * n
-      part₂ = length-take-le (10 * n - 6 * n) (drop (6 * n) w₂) (omega (arith, length-drop (6 * n) w₂, l₂))
+      from : 6 * n ≤ e
+      from = omega arith
 
-      pub prepared : Tournament (replicate (length (part (2 * n) (6 * n) w₁) / 4) nothing) y → Tournament (replicate (length (part (6 * n) (10 * n) w₂) / 4) nothing) z → Prepared n w₃
+      upto : e ≤ length w₂
+      upto = omega (arith, l₂)
+
+      part₂ : length (part (6 * n) e w₂) ≡ e - 6 * n
+      part₂ = length-take-le (e - 6 * n) (drop (6 * n) w₂) (omega (arith, length-drop (6 * n) w₂, upto))
+
+      pub prepared : Tournament (replicate (length (part (2 * n) (6 * n) w₁) / 4) nothing) y → Tournament (replicate (length (part (6 * n) e w₂) / 4) nothing) z → Prepared n b w₃
       prepared ty tz = record {
         marks = λ v h. same-mark n v w₁ w₃ h same ∙ List·getD-append x (drop n words) 0 v (omega (arith, lx)) ∙ ap (λ (l : List ℕ). getD l v 0) xi
             ∙ getD-replicate (length (take n words)) v 0 0 (omega (arith, length-take-le n words (omega arith)));
         front = subst (Tournament (replicate n nothing)) (sym front-is) (subst (λ (k : ℕ). Tournament (replicate k nothing) y) four₁ ty);
-        held = subst (Tournament (replicate n nothing)) (sym (part-here (6 * n) (10 * n) z w₂ (omega arith) (omega (arith, l₂)) (lz ∙ part₂))) (subst (λ (k : ℕ). Tournament (replicate k nothing) z) four₂ tz);
+        held = subst (λ (i : ℕ). Tournament (replicate (min b n) nothing) (part (6 * n) i w₃)) e-is
+            (subst (Tournament (replicate (min b n) nothing)) (sym (part-here (6 * n) e z w₂ from upto (lz ∙ part₂))) (subst (λ (k : ℕ). Tournament (replicate k nothing) z) four₂ tz));
       }
         where
           same : take (2 * n) w₃ ≡ take (2 * n) w₁
           same =
-              take-before (6 * n) (10 * n) z w₂ (omega arith) (omega (arith, l₂)) (lz ∙ part₂) (2 * n) (omega arith)
+              take-before (6 * n) e z w₂ from upto (lz ∙ part₂) (2 * n) (omega arith)
               ∙ take-before (2 * n) (6 * n) y w₁ (omega arith) (omega (arith, l₁)) (ly ∙ part₁) (2 * n) (omega arith)
 
           front-is : part (2 * n) (6 * n) w₃ ≡ y
           front-is =
-              part-before (6 * n) (10 * n) z w₂ (omega arith) (omega (arith, l₂)) (lz ∙ part₂) (2 * n) (6 * n) (omega arith) (omega arith)
+              part-before (6 * n) e z w₂ from upto (lz ∙ part₂) (2 * n) (6 * n) (omega arith) (omega arith)
               ∙ part-here (2 * n) (6 * n) y w₁ (omega arith) (omega (arith, l₁)) (ly ∙ part₁)
 
           four₁ : length (part (2 * n) (6 * n) w₁) / 4 ≡ n
           four₁ = omega (arith, part₁)
 
-          four₂ : length (part (6 * n) (10 * n) w₂) / 4 ≡ n
+          four₂ : length (part (6 * n) e w₂) / 4 ≡ min b n
           four₂ = omega (arith, part₂)
 
 -- ---- begun
@@ -141,11 +149,11 @@ module _ (n : ℕ) (words x y z : List ℕ) (long : 11 * n ≤ length words) (xi
 abbrev pub noWalk : Walk
 noWalk = record { scored = 0; held = 0; cutoff = inf false; kept = 0 }
 
-none-standing : (far : ℕ → Float) (n b : ℕ) (words nodes : List ℕ) → Prepared n words → Standing far n b nodes words nodes noWalk [] []
+none-standing : (far : ℕ → Float) (n b : ℕ) (words nodes : List ℕ) → n ≤ 1024 → Prepared n b words → Standing far n b nodes words nodes noWalk [] []
 unfolding heldOf cutoffOf sortBy
-none-standing far n b words nodes p = record {
+none-standing far n b words nodes few p = record {
   frontier = empty-queue (frontRank far) n (part (2 * n) (6 * n) words) (p .front);
-  held = empty-queue (heldRank far) n (part (6 * n) (10 * n) words) (p .held);
+  held = none-held far (min b n) (part (6 * n) (heldEnd n b) words) (omega arith) (p .held);
   held-count = refl;
   cutoff-is = refl;
   answer = record {
@@ -166,13 +174,13 @@ unfolding within expand visit has pick toFrontier insertIn
 first-one far n e h = ap (λ (l : List ℕ). expand (toFrontier far) (record { seen = []; front = [] }) l) (pick-true (e ∷ []) [] (lt-ltb e n h))
 
 pub started : (far : ℕ → Float) (n b e count : ℕ) (words between words′ : List ℕ) (floats floats′ : List Float) (nodes nodes′ : List ℕ) (r : Walk) → ((v : ℕ) → T (fits binary32 (far v)))
-    → n + n ≤ length words → Prepared n words → GatheringAll n (e ∷ []) words between count → TakingIn far n b count between words′ floats floats′ nodes nodes′ noWalk r
+    → n + n ≤ length words → Prepared n b words → GatheringAll n (e ∷ []) words between count → TakingIn far n b count between words′ floats floats′ nodes nodes′ noWalk r
     → take (2 * n) words′ ≡ take (2 * n) between → e < n → n ≤ 1024 → n ≤ length floats → Between far n b nodes words′ floats′ nodes′ r (e ∷ []) (e ∷ [])
 unfolding has pick
 started far n b e count words between words′ floats floats′ nodes nodes′ r f32s long p gather taking frame h few room =
     subst (λ (s : State). Between far n b nodes words′ floats′ nodes′ r (s .seen) (s .front)) (first-one far n e h)
     (gathered-in far n b count (e ∷ []) words between words′ floats floats′ nodes nodes′ noWalk r nodes (record { seen = []; front = [] }) long gather taking frame
-    (p .marks) (none-standing far n b words nodes p) (record { few = few; f32s = f32s; there = λ v m. absurd (in-nil m) }) room)
+    (p .marks) (none-standing far n b words nodes few p) (record { few = few; f32s = f32s; there = λ v m. absurd (in-nil m) }) room)
 
 -- ---- ended
 

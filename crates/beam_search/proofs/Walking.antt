@@ -5,7 +5,7 @@ use mathlib.Core.Logic.{_⊎_, inl, inr}
 use mathlib.Core.Bool.{Bool, true, false, _&&_, _||_}
 use mathlib.Core.List.{List, [], _∷_}
 use mathlib.Core.List.{List·Memᴰ as In, List·Memᴰ·head as here, List·Memᴰ·tail as there}
-use Prim.Native.Nat.{ℕ, suc, _-_, _*_, _≤_, _<_}
+use Prim.Native.Nat.{ℕ, suc, _-_, _*_, _≤_, _<_, min}
 use native.Mathlib.Omega.{arith}
 use lib.Dec.{T, leb, ltb, leb→le}
 use lib.ListN.{length, drop, length-drop}
@@ -16,11 +16,11 @@ use Rattle.basics.proofs.Tests.{one-true, both-false}
 use Rattle.walk.specs.Walk.{State, expand, walk}
 use Rattle.beam.specs.KeepClosest.{heldOf}
 use Rattle.beam.specs.Beam.{stopFactor, stopMultiplier, toFrontier, tooFar, tooMany}
-use Rattle.queues.specs.Queues.{frontRank, heldRank, Queue, Taken, Popping}
+use Rattle.queues.specs.Queues.{frontRank, Queue, Held, Taken, Popping}
 use Rattle.queues.specs.declared.Popped.{Popped}
 use Rattle.queues.specs.declared.Popped.the-variants.{At, Empty}
 use Rattle.gathering.specs.Gathering.{Linked}
-use Rattle.beam_state.specs.State.{part, Answer}
+use Rattle.beam_state.specs.State.{part, heldEnd, Answer}
 use Rattle.beam_state.specs.declared.Walk.{Walk}
 use Rattle.beam_state.proofs.Parts.{lay, part-here, part-after, take-before}
 use Rattle.beam_search.specs.Steps.{Between, Expanding, walkOn, Stepping, Walking}
@@ -42,7 +42,7 @@ module _ (bridges links : List ℕ) (far : ℕ → Float) (n b : ℕ) (list : �
     marks = λ v h. same-mark n v words words₁ h (take-before (2 * n) (6 * n) x words (omega arith) (omega arith) size (2 * n) (omega arith)) ∙ t .marks v h;
     standing = record {
       frontier = subst (Queue (frontRank far) n rest) (sym (part-here (2 * n) (6 * n) x words (omega arith) (omega arith) size)) q;
-      held = subst (Queue (heldRank far) n (heldOf far b seen)) (kept (6 * n) (10 * n) (omega arith)) (t .standing .held);
+      held = subst (Held far (min b n) (heldOf far b seen)) (kept (6 * n) (heldEnd n b) (omega arith)) (t .standing .held);
       held-count = t .standing .held-count;
       cutoff-is = t .standing .cutoff-is;
       answer = subst (λ (k : List ℕ). Answer far nodes₀ k nodes (w .kept) seen) (kept (10 * n) (11 * n) (omega arith)) (t .standing .answer);

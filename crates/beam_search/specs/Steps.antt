@@ -2,7 +2,7 @@
 use mathlib.Core.Path.{_≡_}
 use mathlib.Core.Bool.{Bool, true, false}
 use mathlib.Core.List.{List, [], _∷_, _++_, map}
-use Prim.Native.Nat.{ℕ, suc, _*_, _≤_, _<_}
+use Prim.Native.Nat.{ℕ, suc, _*_, _≤_, _<_, min}
 use lib.ListN.{length, getD, take, drop, replicate}
 use lib.Ieee.{Float, inf}
 use Rattle.basics.specs.Choice.{pick}
@@ -12,7 +12,7 @@ use Rattle.walk.specs.Walk.{State, expand, walk}
 use Rattle.beam.specs.Beam.{farFrom, toFrontier, tooFar, tooMany}
 use Rattle.queues.specs.Queues.{Known}
 use Rattle.gathering.specs.Gathering.{Linked}
-use Rattle.beam_state.specs.State.{part, Standing, pushed}
+use Rattle.beam_state.specs.State.{part, heldEnd, Standing, pushed}
 use Rattle.beam_state.specs.declared.Walk.{Walk}
 
 -- bridges between nodes linked, where no node had a link
@@ -93,10 +93,10 @@ Walking bridges links far n b list words words′ floats floats′ nodes nodes�
     → Rested far n b nodes₀ words′ floats′ nodes′ r (walkOn far b list n seen front)
 
 -- nothing is marked, in the frontier or held
-pub record Prepared (n : ℕ) (words : List ℕ) : Type 0 where
+pub record Prepared (n b : ℕ) (words : List ℕ) : Type 0 where
   pub marks : (v : ℕ) → v < n → getD words v 0 ≡ 0
   pub front : Tournament (replicate n nothing) (part (2 * n) (6 * n) words)
-  pub held : Tournament (replicate n nothing) (part (6 * n) (10 * n) words)
+  pub held : Tournament (replicate (min b n) nothing) (part (6 * n) (heldEnd n b) words)
 
 -- the entry node is scored
 abbrev pub Starting : List Float → List (List Float) → ℕ → ℕ → ℕ → List ℕ → List Float → List Float → List ℕ → List ℕ → Walk → Type 0

@@ -237,16 +237,16 @@ fn walk_on(
 }
 
 // No node is marked, in the frontier or held.
-fn prepare(words: &mut [u32], size: usize)
+fn prepare(words: &mut [u32], size: usize, places: u32)
     requires { ⌜ 11 * size ≤ length (now words) ⌝ }
-    ensures { λ _. ⌜ Prepared size (now (words .exit)) ⌝ }
+    ensures { λ _. ⌜ Prepared size places (now (words .exit)) ⌝ }
 {
     let front = 2 * size;
     let held = 6 * size;
-    let keys = 10 * size;
+    let held_end = held + 4 * least(places as usize, size);
     slices::clear_words(&mut words[..size]);
     tournament::clear(&mut words[front..held]);
-    tournament::clear(&mut words[held..keys]);
+    tournament::clear(&mut words[held..held_end]);
 }
 
 // The entry node is the first that is scored.
@@ -264,7 +264,7 @@ fn start(
     requires { ⌜ 11 * size ≤ length (now words) ⌝ }
     ensures { λ r. ⌜ Starting (now (query .entry)) (vectorsIn dimension (now (vectors .entry))) size places entry (now (words .exit)) (now (floats .entry)) (now (floats .exit)) (now (nodes .entry)) (now (nodes .exit)) r ⌝ }
 {
-    prepare(words, size);
+    prepare(words, size, places);
     let none = Walk {
         scored: 0,
         held: 0,

@@ -5,11 +5,12 @@ use mathlib.Core.Bool.{false}
 use mathlib.Core.List.{List, [], _∷_}
 use mathlib.Core.List.{List·Memᴰ as In, List·Memᴰ·head as here, List·Memᴰ·tail as there, List·Memᴰ·not-nil as in-nil, List·Memᴰ·cases-cons as in-cons}
 use Prim.Native.Nat.{ℕ, suc, _+_, _-_, _*_, _≤_, _<_, min}
+use native.Mathlib.Nat.{le-of-eq}
 use native.Mathlib.Omega.{arith}
 use native.Mathlib.Numerals.{add-one}
 use lib.ListN.{length, getD, take, drop, length-drop}
 use lib.Seq.{length-take-le, take-all, take-suc, split-at, getD-take, getD-drop}
-use lib.Ieee.{Float, binary32, inf}
+use lib.Ieee.{Float, binary32, inf, lt}
 use Rattle.basics.specs.Choice.{pick-ind}
 use Rattle.basics.specs.Nodes.{NoDup, Below}
 use Rattle.basics.proofs.Counting.{at-most}
@@ -18,49 +19,47 @@ use Rattle.sorting.specs.Sorting.{keptPairs, keptKeys, keptIds}
 use Rattle.walk.specs.Walk.{State}
 use Rattle.beam.specs.KeepClosest.{sooner, hold, replaceWorst, keepClosest, heldOf, cutoffOf}
 use Rattle.beam.specs.Beam.{toFrontier}
-use Rattle.queues.specs.Queues.{frontRank, heldRank, Queue, Known, Entering, Keeping}
+use Rattle.queues.specs.Queues.{frontRank, Queue, Held, Known, Entering, Keeping}
 use Rattle.queues.specs.declared.Closest.{Closest}
 use Rattle.queues.proofs.Laws.{in-insert}
-use Rattle.beam_state.specs.State.{part, Standing, Pushing, PushingAll, pushed}
+use Rattle.queues.proofs.Holding.{hold-length}
+use Rattle.beam_state.specs.State.{part, heldEnd, Standing, Pushing, PushingAll, pushed}
 use Rattle.beam_state.specs.declared.Walk.{Walk}
 use Rattle.beam_state.proofs.Parts.{lay, lay-length, part-here, part-before, part-after, take-before}
 use Rattle.beam_state.proofs.Pushed.{pushed-append, pushed-keeps, pushed-once}
 use Rattle.beam_state.proofs.Answers.{answer-more}
 
--- ---- only scored nodes are held
-
-hold-in : (far : ℕ → Float) (v : ℕ) (l : List ℕ) (x : ℕ) {seen : List ℕ} → (In x l → In x seen) → In x (hold far v l) → In x (v ∷ seen)
-unfolding hold
-hold-in far v l x {seen} s m = go (in-insert (λ a c. sooner far c a) x v l m)
-  where
-    go : (x ≡ v) ⊎ In x l → In x (v ∷ seen)
-    go (inl e) = here e
-    go (inr i) = there (s i)
-
-replace-in : (far : ℕ → Float) (v : ℕ) (l : List ℕ) (x : ℕ) {seen : List ℕ} → (In x l → In x seen) → In x (replaceWorst far v l) → In x (v ∷ seen)
-unfolding replaceWorst
-replace-in far v [] x s = λ m. absurd (in-nil m)
-replace-in far v (w ∷ l) x {seen} s = pick-ind (λ (r : List ℕ). In x r → In x (v ∷ seen)) (lib.Ieee.lt (far v) (far w)) (λ _ i. hold-in far v l x (λ j. s (there j)) i) (λ _ i. there (s i))
+-- ---- what is in the frontier, and how many are held
 
 frontier-in : (far : ℕ → Float) (v : ℕ) (front : List ℕ) (u : ℕ) → In u (toFrontier far v front) → (u ≡ v) ⊎ In u front
 unfolding toFrontier
 frontier-in far v front u m = in-insert (sooner far) u v front m
 
-held-in : (far : ℕ → Float) (b : ℕ) (seen : List ℕ) (x : ℕ) → In x (heldOf far b seen) → In x seen
-unfolding heldOf keepClosest
-held-in far b [] x m = m
-held-in far b (v ∷ seen) x m = pick-ind (λ (l : List ℕ). In x l → In x (v ∷ seen)) (lib.Dec.ltb (length (heldOf far b seen)) b) (λ _. by-hold (heldOf far b seen) (held-in far b seen x)) (λ _. by-replace (heldOf far b seen) (held-in far b seen x)) m
-  where
-    by-hold : (l : List ℕ) → (In x l → In x seen) → In x (hold far v l) → In x (v ∷ seen)
-    by-hold l s i = hold-in far v l x s i
+replace-few : (far : ℕ → Float) (v : ℕ) (held : List ℕ) → length (replaceWorst far v held) ≤ length held
+unfolding replaceWorst
+replace-few far v [] = omega arith
+replace-few far v (w ∷ l) = pick-ind (λ (r : List ℕ). length r ≤ suc (length l)) (lt (far v) (far w)) (λ _. le-of-eq (hold-length far v l)) (λ _. omega arith)
 
-    by-replace : (l : List ℕ) → (In x l → In x seen) → In x (replaceWorst far v l) → In x (v ∷ seen)
-    by-replace l s i = replace-in far v l x s i
+keep-few : (far : ℕ → Float) (b v : ℕ) (held : List ℕ) → length (keepClosest far b v held) ≤ suc (length held)
+unfolding keepClosest
+keep-few far b v held =
+    pick-ind (λ (r : List ℕ). length r ≤ suc (length held)) (lib.Dec.ltb (length held) b) (λ _. le-of-eq (hold-length far v held)) (λ _. let r = replace-few far v held in omega arith)
+
+held-few : (far : ℕ → Float) (b : ℕ) (seen : List ℕ) → length (heldOf far b seen) ≤ length seen
+unfolding heldOf
+held-few far b [] = omega arith
+held-few far b (v ∷ seen) = let k = keep-few far b v (heldOf far b seen) in let h = held-few far b seen in omega arith
 
 -- ---- one node
 
 module _ (n b v : ℕ) (floats : List Float) (walk : Walk) (words nodes : List ℕ) (long : 11 * n ≤ length words) (x y z nodes′ : List ℕ)
-    (lx : length x ≡ length (part (2 * n) (6 * n) words)) where
+    (lx : length x ≡ length (part (2 * n) (6 * n) words)) (e : ℕ) (e-is : e ≡ heldEnd n b) where
+  from : 6 * n ≤ e
+  from = omega arith
+
+  upto : e ≤ 10 * n
+  upto = omega arith
+
   abbrev w₁ : List ℕ
   w₁ = lay (2 * n) (6 * n) x words
 
@@ -70,15 +69,15 @@ module _ (n b v : ℕ) (floats : List Float) (walk : Walk) (words nodes : List �
   l₁ : length w₁ ≡ length words
   l₁ = lay-length (2 * n) (6 * n) x words (omega arith) (omega arith) size-x
 
-  module _ (ly : length y ≡ length (part (6 * n) (10 * n) w₁)) where
+  module _ (ly : length y ≡ length (part (6 * n) e w₁)) where
     abbrev w₂ : List ℕ
-    w₂ = lay (6 * n) (10 * n) y w₁
+    w₂ = lay (6 * n) e y w₁
 
-    size-y : length y ≡ 10 * n - 6 * n
-    size-y = ly ∙ length-take-le (10 * n - 6 * n) (drop (6 * n) w₁) (omega (arith, length-drop (6 * n) w₁, l₁))
+    size-y : length y ≡ e - 6 * n
+    size-y = ly ∙ length-take-le (e - 6 * n) (drop (6 * n) w₁) (omega (arith, length-drop (6 * n) w₁, l₁, upto))
 
     l₂ : length w₂ ≡ length words
-    l₂ = lay-length (6 * n) (10 * n) y w₁ (omega arith) (omega (arith, l₁)) size-y ∙ l₁
+    l₂ = lay-length (6 * n) e y w₁ from (omega (arith, l₁, upto)) size-y ∙ l₁
 
     module _ (lz : length z ≡ length (part (10 * n) (11 * n) w₂)) where
       abbrev w₃ : List ℕ
@@ -90,7 +89,7 @@ module _ (n b v : ℕ) (floats : List Float) (walk : Walk) (words nodes : List �
       pub push-frame : take (2 * n) w₃ ≡ take (2 * n) words
       push-frame =
           take-before (10 * n) (11 * n) z w₂ (omega arith) (omega (arith, l₂)) size-z (2 * n) (omega arith)
-          ∙ take-before (6 * n) (10 * n) y w₁ (omega arith) (omega (arith, l₁)) size-y (2 * n) (omega arith)
+          ∙ take-before (6 * n) e y w₁ from (omega (arith, l₁, upto)) size-y (2 * n) (omega arith)
           ∙ take-before (2 * n) (6 * n) x words (omega arith) (omega arith) size-x (2 * n) (omega arith)
 
       pub push-length : length w₃ ≡ length words
@@ -99,34 +98,35 @@ module _ (n b v : ℕ) (floats : List Float) (walk : Walk) (words nodes : List �
       front-is : part (2 * n) (6 * n) w₃ ≡ x
       front-is =
           part-before (10 * n) (11 * n) z w₂ (omega arith) (omega (arith, l₂)) size-z (2 * n) (6 * n) (omega arith) (omega arith)
-          ∙ part-before (6 * n) (10 * n) y w₁ (omega arith) (omega (arith, l₁)) size-y (2 * n) (6 * n) (omega arith) (omega arith)
+          ∙ part-before (6 * n) e y w₁ from (omega (arith, l₁, upto)) size-y (2 * n) (6 * n) (omega arith) (omega arith)
           ∙ part-here (2 * n) (6 * n) x words (omega arith) (omega arith) size-x
 
-      held-is : part (6 * n) (10 * n) w₃ ≡ y
+      held-is : part (6 * n) e w₃ ≡ y
       held-is =
-          part-before (10 * n) (11 * n) z w₂ (omega arith) (omega (arith, l₂)) size-z (6 * n) (10 * n) (omega arith) (omega arith)
-          ∙ part-here (6 * n) (10 * n) y w₁ (omega arith) (omega (arith, l₁)) size-y
+          part-before (10 * n) (11 * n) z w₂ (omega arith) (omega (arith, l₂)) size-z (6 * n) e from upto
+          ∙ part-here (6 * n) e y w₁ from (omega (arith, l₁, upto)) size-y
 
-      held-was : part (6 * n) (10 * n) w₁ ≡ part (6 * n) (10 * n) words
-      held-was = part-after (2 * n) (6 * n) x words (omega arith) (omega arith) size-x (6 * n) (10 * n) (omega arith)
+      held-was : part (6 * n) e w₁ ≡ part (6 * n) e words
+      held-was = part-after (2 * n) (6 * n) x words (omega arith) (omega arith) size-x (6 * n) e (omega arith)
 
       keys-is : part (10 * n) (11 * n) w₃ ≡ z
       keys-is = part-here (10 * n) (11 * n) z w₂ (omega arith) (omega (arith, l₂)) size-z
 
       keys-was : part (10 * n) (11 * n) w₂ ≡ part (10 * n) (11 * n) words
       keys-was =
-          part-after (6 * n) (10 * n) y w₁ (omega arith) (omega (arith, l₁)) size-y (10 * n) (11 * n) (omega arith)
+          part-after (6 * n) e y w₁ from (omega (arith, l₁, upto)) size-y (10 * n) (11 * n) upto
           ∙ part-after (2 * n) (6 * n) x words (omega arith) (omega arith) size-x (10 * n) (11 * n) (omega arith)
 
       pub push-is : (closest : Closest) (d : Float) (key r scored : ℕ) → Entering v floats (part (2 * n) (6 * n) words) x
-          → Keeping b (walk .held) v floats (part (6 * n) (10 * n) w₁) y closest → d ≡ getD floats v (inf false) → key ≡ keyOf binary32 d
+          → Keeping b (walk .held) v floats (part (6 * n) e w₁) y closest → d ≡ getD floats v (inf false) → key ≡ keyOf binary32 d
           → (r ≡ length (keptPairs (walk .kept) key v (part (10 * n) (11 * n) w₂) nodes)) × (z ≡ keptKeys (walk .kept) key v (part (10 * n) (11 * n) w₂) nodes) × (nodes′ ≡ keptIds (walk .kept) key v (part (10 * n) (11 * n) w₂) nodes)
           → length nodes′ ≡ length nodes → scored ≡ min (walk .scored + 1) 4294967295
           → Pushing n b v floats words w₃ nodes nodes′ walk (record { scored = scored; held = closest .held; cutoff = closest .cutoff; kept = r })
       unfolding heldOf cutoffOf
       push-is closest d key r scored enter keep di ki first ln sc far nodes₀ seen front known low out s = record {
         frontier = subst (Queue (frontRank far) n (toFrontier far v front)) (sym front-is) (enter far n front (just known) low (λ m. out (s .sub v m)) (s .frontier));
-        held = subst (Queue (heldRank far) n (keepClosest far b v (heldOf far b seen))) (sym held-is) (kept .queue);
+        held = subst (λ (i : ℕ). Held far (min b n) (keepClosest far b v (heldOf far b seen)) (part (6 * n) i w₃)) e-is
+            (subst (Held far (min b n) (keepClosest far b v (heldOf far b seen))) (sym held-is) (kept .stands));
         held-count = kept .count;
         cutoff-is = kept .cutoff;
         answer = subst (λ (k : List ℕ). Rattle.beam_state.specs.State.Answer far nodes₀ k nodes′ r (v ∷ seen)) (sym keys-is)
@@ -145,20 +145,17 @@ module _ (n b v : ℕ) (floats : List Float) (walk : Walk) (words nodes : List �
               only u (inl e) = here e
               only u (inr m) = absurd (in-nil m)
 
-          scored-held : Known far n (v ∷ heldOf far b seen) floats
-          scored-held = record { few = known .few; f32s = known .f32s; there = λ u m. known .there u (wider u (in-cons m)) }
-            where
-              wider : (u : ℕ) → (u ≡ v) ⊎ In u (heldOf far b seen) → In u (v ∷ seen)
-              wider u (inl e) = here e
-              wider u (inr m) = there (held-in far b seen u m)
-
-          kept : Rattle.queues.specs.Queues.Kept far n b v (heldOf far b seen) y closest
-          kept = keep far n (heldOf far b seen) scored-held low (λ m. out (held-in far b seen v m)) (s .held-count)
-              (subst (Queue (heldRank far) n (heldOf far b seen)) (sym held-was) (s .held))
-
           below : (u : ℕ) → (u ≡ v) ⊎ In u seen → u < n
           below u (inl e) = omega arith
           below u (inr m) = s .inside u m
+
+          -- the held are among the nodes scored, so that there is a place while they are fewer than b
+          place : length (heldOf far b seen) < b → length (heldOf far b seen) < min b n
+          place h = let f = held-few far b seen in let all = at-most n (v ∷ seen) (out, s .once) (λ u m. below u (in-cons m)) in omega arith
+
+          kept : Rattle.queues.specs.Queues.Kept far (min b n) b v (heldOf far b seen) y closest
+          kept = keep far n (min b n) (heldOf far b seen) (just known) (s .held-count) place
+              (subst (Held far (min b n) (heldOf far b seen)) (sym held-was) (subst (λ (i : ℕ). Held far (min b n) (heldOf far b seen) (part (6 * n) i words)) (sym e-is) (s .held)))
 
           in-front : (u : ℕ) → In u (toFrontier far v front) → (u ≡ v) ⊎ In u front
           in-front u m = frontier-in far v front u m

@@ -2,7 +2,7 @@
 use mathlib.Core.Path.{_≡_}
 use mathlib.Core.List.{List, [], _∷_, _++_, map, reverse}
 use mathlib.Core.List.{List·Memᴰ as In}
-use Prim.Native.Nat.{ℕ, _-_, _*_, _≤_, _<_, min}
+use Prim.Native.Nat.{ℕ, _+_, _-_, _*_, _≤_, _<_, min}
 use lib.ListN.{length, take, drop}
 use lib.Ieee.{Float}
 use Rattle.basics.specs.Nodes.{NoDup, Below}
@@ -10,12 +10,16 @@ use Rattle.sorting.specs.Sorting.{firstBy, pairs, keyIn, both}
 use Rattle.walk.specs.Walk.{State}
 use Rattle.beam.specs.KeepClosest.{keyAt, heldOf, cutoffOf}
 use Rattle.beam.specs.Beam.{toFrontier}
-use Rattle.queues.specs.Queues.{frontRank, heldRank, Queue, Known}
+use Rattle.queues.specs.Queues.{frontRank, Queue, Held, Known}
 use Rattle.beam_state.specs.declared.Walk.{Walk}
 
 -- the words from place a on, up to place e
 abbrev pub part : ℕ → ℕ → List ℕ → List ℕ
 part a e words = take (e - a) (drop a words)
+
+-- where the held end, of n nodes: they have b places, or n if those are fewer
+abbrev pub heldEnd : ℕ → ℕ → ℕ
+heldEnd n b = 6 * n + 4 * min b n
 
 -- a node with its key
 abbrev pub pairOf : (ℕ → Float) → ℕ → ℕ × ℕ
@@ -31,7 +35,7 @@ pub record Answer (far : ℕ → Float) (nodes₀ keys nodes : List ℕ) (kept :
 -- Words, nodes and counts in which a walk over n nodes with b places stands that has seen these nodes, and has these in its frontier.
 pub record Standing (far : ℕ → Float) (n b : ℕ) (nodes₀ words nodes : List ℕ) (walk : Walk) (seen front : List ℕ) : Type 0 where
   pub frontier : Queue (frontRank far) n front (part (2 * n) (6 * n) words)
-  pub held : Queue (heldRank far) n (heldOf far b seen) (part (6 * n) (10 * n) words)
+  pub held : Held far (min b n) (heldOf far b seen) (part (6 * n) (heldEnd n b) words)
   pub held-count : walk .held ≡ length (heldOf far b seen)
   pub cutoff-is : walk .cutoff ≡ cutoffOf far b seen
   pub answer : Answer far nodes₀ (part (10 * n) (11 * n) words) nodes (walk .kept) seen

@@ -3,7 +3,7 @@
 // src/pipnn/mod.rs.
 //
 // One slice of words holds it, by the number n of nodes: n marks and n places for fresh nodes (`gathering`),
-// then the frontier (4·n words), the held (4·n) and the keys of the answer (n). The answer's nodes stand in
+// then the frontier (4·n words), the held (4·n, of which four for each of the walk's places are used) and the keys of the answer (n). The answer's nodes stand in
 // the slice that they are wanted in, nearest first, as far as it goes: `keep_first` keeps the first few of
 // what it is offered, so that nothing is sorted at the end. Counts and the cutoff are a struct by value.
 ghost use mathlib.Core.Path.{_≡_};
@@ -51,10 +51,11 @@ fn push(
 {
     let front = 2 * size;
     let held = 6 * size;
+    let held_end = held + 4 * least(places as usize, size);
     let keys = 10 * size;
     let end = 11 * size;
     queues::enter(&mut words[front..held], floats, node);
-    let closest = queues::keep_closest(&mut words[held..keys], floats, walk.held, places, node);
+    let closest = queues::keep_closest(&mut words[held..held_end], floats, walk.held, places, node);
     let key = order::key(queues::distance_of(floats, node));
     let kept = sorting::keep_first(&mut words[keys..end], nodes, walk.kept, key, node);
     Walk {

@@ -1,5 +1,5 @@
 -- The laws of the order and its key, for the values of any format: the keys' order is the distances' order (`before-key`), only equal values
--- have equal keys (`key-injective`), and a key of an f32 fits 32 bits (`key-below`).
+-- have equal keys (`key-injective`), a key tells its value (`value-key`), and a key of an f32 fits 32 bits (`key-below`).
 -- A key is the sign's weight plus the pattern of the size, or what is left of the weight below it, so that both follow from the sizes' order.
 -- Assumes nothing.
 use mathlib.Core.Path.{_≡_, refl, sym, ap, _∙_, subst}
@@ -13,7 +13,8 @@ use lib.Dec.{T, leb, ltb}
 use lib.Ieee.{Float, nan, inf, fin, Format, binary32, top, isNan, fits, ofBits}
 use lib.Ieee.Bits.{ofBits-toBits, is-false}
 use Rattle.basics.specs.Choice.{pick, pick-true, pick-false}
-use Rattle.order.specs.Order.{ahead, before, keyOf}
+use Rattle.bits.proofs.Patterns.{no-number}
+use Rattle.order.specs.Order.{ahead, before, keyOf, valueOf}
 use Rattle.order.proofs.Sizes.{sign, mag, bits-are, mag-lt, mag-ne, less, sizes}
 
 -- ---- the key of a number
@@ -168,3 +169,33 @@ key-injective f (fin s m c) (fin t n d) h k e = same-numbers f (fin s m c) (fin 
 -- a key of an f32 fits 32 bits
 pub key-below : (x : Float) → T (fits binary32 x) → keyOf binary32 x < 2 ^ 32
 key-below x h = let p = past-nan binary32 x h in omega (arith, key-nan binary32)
+
+-- ---- the value of a key
+
+turned-back : (w g : ℕ) → g < w → (s : Bool) → pick (leb w (keyAt w s g)) (keyAt w s g - w) (2 * w - 1 - keyAt w s g) ≡ cond s w 0 + g
+turned-back w g l true = pick-false _ _ (lt-leb w (w - 1 - g) (omega arith)) ∙ twice w g l
+  where
+    twice : (w g : ℕ) → g < w → 2 * w - 1 - (w - 1 - g) ≡ w + g
+    twice w g l = omega arith
+turned-back w g l false = pick-true _ _ (le-leb w (w + g) (omega arith)) ∙ less-weight w g
+  where
+    less-weight : (w g : ℕ) → w + g - w ≡ 0 + g
+    less-weight w g = omega arith
+
+value-number : (f : Format) (x : Float) → T (fits f x) → T (not (isNan x)) → valueOf f (keyOf f x) ≡ x
+unfolding valueOf
+value-number f x h t =
+    ap (λ (k : ℕ). ofBits f (pick (leb (top f) k) (k - top f) (2 * top f - 1 - k))) (key-is f x h t)
+    ∙ ap (ofBits f) (turned-back (top f) (mag f x) (mag-lt f x h t) (sign x) ∙ sym (bits-are f x t))
+    ∙ ofBits-toBits f x h
+
+value-nan : valueOf binary32 (keyOf binary32 nan) ≡ nan
+unfolding valueOf pick
+value-nan = ap (λ (k : ℕ). ofBits binary32 (pick (leb (top binary32) k) (k - top binary32) (2 * top binary32 - 1 - k))) (key-nan binary32) ∙ sym (no-number binary32 0x7fff_ffff (omega arith))
+
+-- a key tells the f32 that has it
+pub value-key : (x : Float) → T (fits binary32 x) → valueOf binary32 (keyOf binary32 x) ≡ x
+unfolding isNan
+value-key nan h = value-nan
+value-key (inf s) h = value-number binary32 (inf s) h tt
+value-key (fin s m e) h = value-number binary32 (fin s m e) h tt

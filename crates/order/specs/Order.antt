@@ -3,7 +3,7 @@
 use Prim.Native.Nat.{ℕ, _+_, _-_, _*_}
 use mathlib.Core.Bool.{Bool, true, false, not, _&&_}
 use lib.Dec.{leb, ltb}
-use lib.Ieee.{Float, nan, inf, fin, up, down, Format, isNan, top, toBits}
+use lib.Ieee.{Float, nan, inf, fin, up, down, Format, isNan, top, toBits, ofBits}
 use Rattle.basics.specs.Choice.{pick}
 
 -- ±a stands before ±b: of two with different signs the negative one, also where both are 0
@@ -27,3 +27,8 @@ before (fin s m e) (fin t n d) = ahead s (m * up e * down d) t (n * up d * down 
 unfoldable pub keyOf : Format → Float → ℕ
 unfolding pick
 keyOf f x = pick (isNan x) (2 * top f - 1) (pick (leb (top f) (toBits f x)) (2 * top f - 1 - toBits f x) (top f + toBits f x))
+
+-- the value that has a key: the pattern is turned back
+unfoldable pub valueOf : Format → ℕ → Float
+unfolding pick
+valueOf f k = ofBits f (pick (leb (top f) k) (k - top f) (2 * top f - 1 - k))

@@ -2,10 +2,11 @@
 //
 // Distances are sorted, selected and compared by this key alone, so that sorting is written and proved once, over u32. `before-key` of
 // proofs/Laws says that the keys' order is the distances' order, for the values of any format; `key-injective` that only equal values have
-// equal keys. Leans on the toolchain's account of IEEE 754 and on nothing else.
+// equal keys, and `value-key` that `value` gives back the distance whose key it is given. Leans on the toolchain's account of IEEE 754, and on
+// `bits` for patterns of any kind.
 ghost use mathlib.Core.Path.{_≡_};
 ghost use lib.Ieee.{binary32};
-ghost use Rattle.order.specs.Order.{keyOf};
+ghost use Rattle.order.specs.Order.{keyOf, valueOf};
 
 // `f32::total_cmp` turns the bits below the sign where the sign is set, and compares signed numbers; this key turns the sign too and is
 // compared unsigned. A NaN is tested first: it has many patterns.
@@ -21,4 +22,14 @@ pub fn key(x: f32) -> u32
     } else {
         0x8000_0000 + bits
     }
+}
+
+// The distance that has this key.
+pub fn value(key: u32) -> f32
+    ensures { λ r. ⌜ r ≡ valueOf binary32 key ⌝ }
+{
+    if key >= 0x8000_0000 {
+        return bits::f32_from(key - 0x8000_0000);
+    }
+    bits::f32_from(0xffff_ffff - key)
 }

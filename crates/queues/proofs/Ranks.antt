@@ -1,8 +1,7 @@
--- The ranks of the two queues: they say the order of the frontier and of the held, they are below that of an empty place, and a rank tells its node.
--- Assumes nothing.
+-- The ranks of the frontier: they say its order, they are below that of an empty place, and a rank tells its node. Assumes nothing.
 use mathlib.Core.Path.{_≡_, sym, ap, _∙_}
 use mathlib.Core.Bool.{Bool, _&&_, _||_}
-use Prim.Native.Nat.{ℕ, _-_, _≤_, _<_}
+use Prim.Native.Nat.{ℕ, _≤_, _<_}
 use native.Mathlib.Omega.{arith}
 use native.Mathlib.Decide.{ℕ-discrete, decLt}
 use borrow.Author.Tests.{eq-eqb, ne-eqb, lt-ltb, le-ltb}
@@ -11,7 +10,7 @@ use lib.Ieee.{Float, binary32, fits}
 use Rattle.order.proofs.Laws.{key-below}
 use Rattle.tournament.specs.Tournament.{rankOf, nothing}
 use Rattle.beam.specs.KeepClosest.{keyAt, sooner}
-use Rattle.queues.specs.Queues.{frontRank, heldRank}
+use Rattle.queues.specs.Queues.{frontRank}
 
 -- the order of pairs is that of their ranks
 by-rank : (a b v w : ℕ) → v < 4294967296 → w < 4294967296 → (ltb a b || (eqb a b && ltb v w)) ≡ ltb (rankOf a v) (rankOf b w)
@@ -42,22 +41,3 @@ module _ (far : ℕ → Float) (f32s : (v : ℕ) → T (fits binary32 (far v))) 
 
   pub front-one : (v w : ℕ) → v < 4294967296 → w < 4294967296 → frontRank far v ≡ frontRank far w → v ≡ w
   front-one v w h k e = omega (arith, small v, small w)
-
-  pub held-order : (v w : ℕ) → v < 4294967295 → w < 4294967295 → sooner far w v ≡ ltb (heldRank far v) (heldRank far w)
-  unfolding sooner
-  held-order v w h k =
-      by-rank (keyAt far w) (keyAt far v) w v (omega arith) (omega arith)
-      ∙ turned (keyAt far v) (keyAt far w) v w (small v) (small w) h k
-    where
-      turned : (a b v w : ℕ) → a < 4294967296 → b < 4294967296 → v < 4294967295 → w < 4294967295
-          → ltb (rankOf b w) (rankOf a v) ≡ ltb (rankOf (0xffff_ffff - a) (0xffff_fffe - v)) (rankOf (0xffff_ffff - b) (0xffff_fffe - w))
-      turned a b v w x y h k = elim (decLt (rankOf b w) (rankOf a v)) [
-        | yes l ↦ lt-ltb (rankOf b w) (rankOf a v) l ∙ sym (lt-ltb (rankOf (0xffff_ffff - a) (0xffff_fffe - v)) (rankOf (0xffff_ffff - b) (0xffff_fffe - w)) (omega arith))
-        | no l ↦ le-ltb (rankOf b w) (rankOf a v) (omega arith) ∙ sym (le-ltb (rankOf (0xffff_ffff - a) (0xffff_fffe - v)) (rankOf (0xffff_ffff - b) (0xffff_fffe - w)) (omega arith))
-      ]
-
-  pub held-below : (v : ℕ) → heldRank far v < nothing
-  held-below v = omega arith
-
-  pub held-one : (v w : ℕ) → v < 4294967295 → w < 4294967295 → heldRank far v ≡ heldRank far w → v ≡ w
-  held-one v w h k e = omega (arith, small v, small w)

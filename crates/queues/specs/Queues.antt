@@ -1,28 +1,34 @@
--- The frontier and the held nodes of a walk as tournaments over the nodes (01, part 8, "Rust forms to replace": `BinaryHeap`). What a function promises
--- is said of every tree that stands for some nodes, and of those nodes as `beam` defines the walk.
+-- The frontier and the held nodes of a walk as tournaments (01, part 8, "Rust forms to replace": `BinaryHeap`). The frontier's places are the nodes;
+-- the held have b places, or n if those are fewer, and a place has a held node's key alone: the cutoff is all that is asked of them. What a function
+-- promises is said of every tree that stands for some nodes, and of those nodes as `beam` defines the walk.
 use mathlib.Core.Path.{_≡_}
 use mathlib.Core.Bool.{false}
-use mathlib.Core.List.{List, [], _∷_}
+use mathlib.Core.List.{List, [], _∷_, map}
 use mathlib.Core.List.{List·Memᴰ as In}
-use Prim.Native.Nat.{ℕ, _-_, _≤_, _<_}
-use lib.Dec.{T}
+use Prim.Native.Nat.{ℕ, _+_, _-_, _≤_, _<_}
+use lib.Dec.{T, eqb, ltb}
 use lib.ListN.{length, getD}
 use lib.Ieee.{Float, binary32, fits, inf}
 use Rattle.basics.specs.Choice.{pick}
 use Rattle.basics.specs.Nodes.{has, Below}
 use Rattle.tournament.specs.Tournament.{rankOf, nothing, Tournament}
-use Rattle.beam.specs.KeepClosest.{keyAt, worstOf, hold, keepClosest}
+use Rattle.beam.specs.KeepClosest.{keyAt, worstOf, keepClosest}
 use Rattle.beam.specs.Beam.{toFrontier}
 use Rattle.queues.specs.declared.Popped.{Popped}
 use Rattle.queues.specs.declared.Popped.the-variants.{At, Empty}
 use Rattle.queues.specs.declared.Closest.{Closest}
 
--- a node's rank in the frontier, and among the held, where the worst has the least
+-- the floats have these nodes' distances, which are f32; there are not too many nodes
+pub record Known (far : ℕ → Float) (n : ℕ) (nodes : List ℕ) (floats : List Float) : Type 0 where
+  pub few : n ≤ 1024
+  pub f32s : (v : ℕ) → T (fits binary32 (far v))
+  pub there : (v : ℕ) → In v nodes → getD floats v (inf false) ≡ far v
+
+-- ---- the frontier
+
+-- a node's rank: its key, then the node
 abbrev pub frontRank : (ℕ → Float) → ℕ → ℕ
 frontRank far v = rankOf (keyAt far v) v
-
-abbrev pub heldRank : (ℕ → Float) → ℕ → ℕ
-heldRank far v = rankOf (0xffff_ffff - keyAt far v) (0xffff_fffe - v)
 
 -- each node comes before those behind it
 abbrev pub Ordered : (ℕ → ℕ) → List ℕ → Type 0
@@ -38,12 +44,6 @@ pub record Queue (rank : ℕ → ℕ) (n : ℕ) (nodes tree : List ℕ) : Type 0
   pub ordered : Ordered rank nodes
   pub inside : Below n nodes
 
--- the floats have these nodes' distances, which are f32; there are not too many nodes
-pub record Known (far : ℕ → Float) (n : ℕ) (nodes : List ℕ) (floats : List Float) : Type 0 where
-  pub few : n ≤ 1024
-  pub f32s : (v : ℕ) → T (fits binary32 (far v))
-  pub there : (v : ℕ) → In v nodes → getD floats v (inf false) ≡ far v
-
 -- a new node goes into the frontier
 abbrev pub Entering : ℕ → List Float → List ℕ → List ℕ → Type 0
 Entering v floats tree tree′ =
@@ -53,16 +53,6 @@ Entering v floats tree tree′ =
     → (In v front → ⊥)
     → Queue (frontRank far) n front tree
     → Queue (frontRank far) n (toFrontier far v front) tree′
-
--- and among the held
-abbrev pub Holding : ℕ → List Float → List ℕ → List ℕ → Type 0
-Holding v floats tree tree′ =
-    (far : ℕ → Float) (n : ℕ) (held : List ℕ)
-    → Known far n (v ∷ []) floats
-    → v < n
-    → (In v held → ⊥)
-    → Queue (heldRank far) n held tree
-    → Queue (heldRank far) n (hold far v held) tree′
 
 -- what taking from a frontier gives and leaves
 abbrev pub Taken : (ℕ → Float) → ℕ → List ℕ → List ℕ → Popped → Type 0
@@ -76,26 +66,56 @@ Popping floats tree tree′ r =
     → Queue (frontRank far) n front tree
     → Taken far n front tree′ r
 
+-- ---- the held
+
+-- the rank of a key at a place: the worst has the least
+abbrev pub heldRank : ℕ → ℕ → ℕ
+heldRank key place = rankOf (0xffff_ffff - key) place
+
+-- how often a number stands in a list
+unfoldable pub times : ℕ → List ℕ → ℕ
+unfolding pick
+times x [] = 0
+times x (y ∷ l) = pick {X = ℕ} (eqb x y) 1 0 + times x l
+
+-- none behind a node is farther than it
+abbrev pub Falling : (ℕ → Float) → List ℕ → Type 0
+Falling far [] = Unit
+Falling far (u ∷ l) = ((w : ℕ) → In w l → keyAt far w ≤ keyAt far u) × Falling far l
+
+-- a tree of so many places stands for some nodes, the worst first: its first places have their keys, in whichever order, the others are empty
+pub record Held (far : ℕ → Float) (size : ℕ) (held tree : List ℕ) : Type 0 where
+  pub keys : List ℕ
+  pub leaves : List ℕ
+  pub tournament : Tournament leaves tree
+  pub many : length leaves ≡ size
+  pub few : size ≤ 1024
+  pub within : length keys ≤ size
+  pub stands : (i : ℕ) → i < size → getD leaves i nothing ≡ pick (ltb i (length keys)) (heldRank (getD keys i 0) i) nothing
+  pub as-many : length keys ≡ length held
+  pub same : (x : ℕ) → times x keys ≡ times x (map (keyAt far) held)
+  pub falling : Falling far held
+
 -- the worst distance held
-abbrev pub Worst : List Float → List ℕ → Float → Type 0
-Worst floats tree r =
-    (far : ℕ → Float) (n : ℕ) (held : List ℕ)
-    → Known far n held floats
-    → Queue (heldRank far) n held tree
+abbrev pub Worst : List ℕ → Float → Type 0
+Worst tree r =
+    (far : ℕ → Float) (size : ℕ) (held : List ℕ)
+    → ((v : ℕ) → T (fits binary32 (far v)))
+    → Held far size held tree
     → r ≡ worstOf far held
 
--- One node more for the held, and the cutoff that it gives. A node that is scored is not among them.
-pub record Kept (far : ℕ → Float) (n b v : ℕ) (held tree′ : List ℕ) (r : Closest) : Type 0 where
-  pub queue : Queue (heldRank far) n (keepClosest far b v held) tree′
+-- One node more for the held, and the cutoff that it gives.
+pub record Kept (far : ℕ → Float) (size b v : ℕ) (held tree′ : List ℕ) (r : Closest) : Type 0 where
+  pub stands : Held far size (keepClosest far b v held) tree′
   pub count : r .held ≡ length (keepClosest far b v held)
-  pub cutoff : r .cutoff ≡ pick (lib.Dec.ltb (length held) b) (inf false) (worstOf far (keepClosest far b v held))
+  pub cutoff : r .cutoff ≡ pick (ltb (length held) b) (inf false) (worstOf far (keepClosest far b v held))
 
+-- There is a place where the held are fewer than b.
 abbrev pub Keeping : ℕ → ℕ → ℕ → List Float → List ℕ → List ℕ → Closest → Type 0
 Keeping b count v floats tree tree′ r =
-    (far : ℕ → Float) (n : ℕ) (held : List ℕ)
-    → Known far n (v ∷ held) floats
-    → v < n
-    → (In v held → ⊥)
+    (far : ℕ → Float) (n size : ℕ) (held : List ℕ)
+    → Known far n (v ∷ []) floats
     → count ≡ length held
-    → Queue (heldRank far) n held tree
-    → Kept far n b v held tree′ r
+    → (length held < b → length held < size)
+    → Held far size held tree
+    → Kept far size b v held tree′ r

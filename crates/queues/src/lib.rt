@@ -2,18 +2,22 @@
 // nodes held for the cutoff, of which the worst leaves first. `frontier.pop()` of `beam_search` and
 // `keep_closest` of src/graph_utils.rs.
 //
-// Both are tournaments over the nodes. The frontier's pairs are a node's key and the node, so that of equally
-// near nodes the lower one is first; the held have both complemented, so that the worst is first. The
-// distances of nodes stand in a slice of floats, each at its node. Every function is total; what it promises
-// speaks of trees that stand for some list of nodes (`Queue` of specs/Queues), and of that list as the
-// definitions of `beam` change it.
+// Both are tournaments. The frontier's places are the nodes, and a pair is a node's key and the node, so that of
+// equally near nodes the lower one is first. The held have as many places as the walk, and a pair is a held
+// distance's key, complemented so that the worst is first, and its place: a nearer node then takes the worst's
+// place, whichever node that was, since the cutoff is all that is asked of the held. The distances of nodes
+// stand in a slice of floats, each at its node. Every function is total; what it promises speaks of trees that
+// stand for some list of nodes (`Queue` and `Held` of specs/Queues), and of that list as the definitions of
+// `beam` change it.
 //
-// proofs/Laws has what a caller needs: an empty queue, a node put in, the first taken out.
+// proofs/Laws and proofs/Holding have what a caller needs: an empty queue, a node put in, the first taken out.
 ghost use mathlib.Core.Path.{_≡_};
 ghost use mathlib.Core.Bool.{false};
-ghost use lib.Ieee.{inf};
+ghost use lib.Ieee.{binary32, inf};
 ghost use lib.ListN.{getD};
-ghost use Rattle.queues.specs.Queues.{Popping, Worst, Keeping, Entering, Holding};
+ghost use Rattle.tournament.specs.Tournament.{Putting};
+ghost use Rattle.order.specs.Order.{keyOf};
+ghost use Rattle.queues.specs.Queues.{Popping, Worst, Keeping, Entering, heldRank};
 
 const NOTHING: u32 = 0xffff_ffff;
 
@@ -61,27 +65,22 @@ pub fn pop(tree: &mut [u32], floats: &[f32]) -> Popped
     Popped::At(distance_of(floats, node), node)
 }
 
-// Puts a node among the held.
-fn hold(tree: &mut [u32], floats: &[f32], node: u32)
-    ensures { λ _. ⌜ Holding node (now (floats .entry)) (now (tree .entry)) (now (tree .exit)) ⌝ }
+// Puts a distance at a place of the held.
+fn hold(tree: &mut [u32], place: u32, distance: f32)
+    ensures { λ _. ⌜ Putting place (heldRank (keyOf binary32 distance) place) (now (tree .entry)) (now (tree .exit)) ⌝ }
 {
-    if node == NOTHING {
-        return;
-    }
-    let key = order::key(distance_of(floats, node));
-    tournament::put(tree, node, NOTHING - key, 0xffff_fffe - node);
+    tournament::put(tree, place, NOTHING - order::key(distance), place);
 }
 
 // The worst distance held; infinity where none is.
-fn worst_of(tree: &[u32], floats: &[f32]) -> f32
-    ensures { λ r. ⌜ Worst (now (floats .entry)) (now (tree .entry)) r ⌝ }
+fn worst_of(tree: &[u32]) -> f32
+    ensures { λ r. ⌜ Worst (now (tree .entry)) r ⌝ }
 {
-    let top = tournament::first(tree);
-    let id = top.id;
-    if id == NOTHING {
+    let worst = tournament::first(tree);
+    if worst.id == NOTHING {
         return f32::from_bits(0x7f80_0000);
     }
-    distance_of(floats, 0xffff_fffe - id)
+    order::value(NOTHING - worst.key)
 }
 
 // Offers a scored node to the held, of which there are so many places, and gives the cutoff: infinity where
@@ -90,27 +89,26 @@ fn worst_of(tree: &[u32], floats: &[f32]) -> f32
 pub fn keep_closest(tree: &mut [u32], floats: &[f32], held: u32, places: u32, node: u32) -> Closest
     ensures { λ r. ⌜ Keeping places held node (now (floats .entry)) (now (tree .entry)) (now (tree .exit)) r ⌝ }
 {
+    let distance = distance_of(floats, node);
     if held < places {
-        hold(tree, floats, node);
+        hold(tree, held, distance);
         return Closest {
             held: held + 1,
             cutoff: f32::from_bits(0x7f80_0000),
         };
     }
-    let top = tournament::first(tree);
-    let id = top.id;
-    if id == NOTHING {
+    let worst = tournament::first(tree);
+    let place = worst.id;
+    if place == NOTHING {
         return Closest {
             held,
             cutoff: f32::from_bits(0x7f80_0000),
         };
     }
-    let worst = 0xffff_fffe - id;
-    let most = distance_of(floats, worst);
-    if distance_of(floats, node) < most {
-        tournament::put(tree, worst, NOTHING, NOTHING);
-        hold(tree, floats, node);
-        let cutoff = worst_of(tree, floats);
+    let most = order::value(NOTHING - worst.key);
+    if distance < most {
+        hold(tree, place, distance);
+        let cutoff = worst_of(tree);
         return Closest { held, cutoff };
     }
     Closest { held, cutoff: most }

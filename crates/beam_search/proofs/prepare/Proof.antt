@@ -1,4 +1,6 @@
 -- `beam_search::prepare` meets its contract: three parts are cleared one after the other. Assumes nothing.
+use mathlib.Core.Path.{ap}
+use Prim.Native.Nat.{ℕ, _+_, _*_}
 use lib.ListN.{length-take}
 use Rattle.beam_search.proofs.Ending.{prepared}
 use native.Mathlib.Omega.{arith}
@@ -12,8 +14,14 @@ mul-front c = search needs
 mul-held : tie.Need-mul-held
 mul-held c = search needs
 
-mul-keys : tie.Need-mul-keys
-mul-keys c = search needs
+least-requires : tie.Need-least-requires
+least-requires c κs = search needs
+
+mul-held-end : tie.Need-mul-held-end
+mul-held-end c = search needs
+
+add-held-end : tie.Need-add-held-end
+add-held-end c = search needs
 
 slice-relend-prefix-clear-words : tie.Need-slice-relend-prefix-clear-words
 slice-relend-prefix-clear-words c = search needs
@@ -59,9 +67,13 @@ same-length c = search needs
 
 returns : tie.Need-returns
 returns c =
-    let a = (c .before .before .before .before .before .before .before .before .before .before .before .before .before) .args in
-    prepared (a .size) (a .words .now) (c .before .before .before .before .before .before .before .before .before .before .clear-words .last .0) (c .before .before .before .before .before .before .clear .last .0) (c .before .before .clear2 .last .0) ((c .before .before .before .before .before .before .before .before .before .before .before .before .before) .pre) (c .before .before .before .before .before .before .before .before .before .before .clear-words .ensures) (c .before .before .before .before .before .before .clear .kept .0) (c .before .before .clear2 .kept .0)
-    (c .before .before .before .before .before .before .clear .ensures) (c .before .before .clear2 .ensures)
+    let start = c .before .before .before .before .before .before .before .before .before .before .before .before .before .before in
+    let a = start .args in
+    let marks = c .before .before .before .before .before .before .before .before .before .before .clear-words in
+    let front = c .before .before .before .before .before .before .clear in
+    let held = c .before .before .clear2 in
+    prepared (a .size) (a .places) (a .words .now) (marks .last .0) (front .last .0) (held .last .0) (start .pre) (marks .ensures) (front .kept .0) _
+    (ap (λ (m : ℕ). 6 * a .size + 4 * m) (c .before .before .before .before .before .before .before .before .before .before .before .before .least .ensures)) (held .kept .0) (front .ensures) (held .ensures)
 
 pub prepare-spec : {M : Type 1} → statement M
 prepare-spec =
@@ -69,7 +81,9 @@ prepare-spec =
     (tie.spec
     mul-front
     mul-held
-    mul-keys
+    least-requires
+    mul-held-end
+    add-held-end
     slice-relend-prefix-clear-words
     slice-aggregate-clear-words
     clear-words-requires

@@ -1,4 +1,6 @@
 -- `beam_state::push` meets its contract: three parts of the words are written one after the other, each by its own function. Assumes nothing.
+use mathlib.Core.Path.{ap}
+use Prim.Native.Nat.{ℕ, _+_, _*_}
 use Rattle.beam_state.proofs.Pushing.{push-frame, push-is}
 use borrow.Author.Needs.{needs}
 use Rattle.beam_state.proofs.push.Statement.{statement}
@@ -9,6 +11,15 @@ mul-front c = search needs
 
 mul-held : tie.Need-mul-held
 mul-held c = search needs
+
+least-requires : tie.Need-least-requires
+least-requires c κs = search needs
+
+mul-held-end : tie.Need-mul-held-end
+mul-held-end c = search needs
+
+add-held-end : tie.Need-add-held-end
+add-held-end c = search needs
 
 mul-keys : tie.Need-mul-keys
 mul-keys c = search needs
@@ -78,11 +89,19 @@ same-length-2 c = search needs
 
 returns : tie.Need-returns
 returns c =
-    let a = (c .before .before .before .before .before .before .before .before .before .before .before .before .before .before .before .before .before .before .before .before .before) .args in (
-      push-frame (a .size) (a .places) (a .node) (a .floats .now) (a .walk) (a .words .now) (a .nodes .now) ((c .before .before .before .before .before .before .before .before .before .before .before .before .before .before .before .before .before .before .before .before .before) .pre) (c .before .before .before .before .before .before .before .before .before .before .before .before .before .before .before .before .enter .last .0) (c .before .before .before .before .before .before .before .before .before .before .before .before .keep-closest .last .0) (c .before .before .before .before .before .keep-first .last .0) (c .before .before .before .before .before .keep-first .last .1 .0) (c .before .before .before .before .before .before .before .before .before .before .before .before .before .before .before .before .enter .kept .0) (c .before .before .before .before .before .before .before .before .before .before .before .before .keep-closest .kept .0) (c .before .before .before .before .before .keep-first .kept .0),
-      push-is (a .size) (a .places) (a .node) (a .floats .now) (a .walk) (a .words .now) (a .nodes .now) ((c .before .before .before .before .before .before .before .before .before .before .before .before .before .before .before .before .before .before .before .before .before) .pre) (c .before .before .before .before .before .before .before .before .before .before .before .before .before .before .before .before .enter .last .0) (c .before .before .before .before .before .before .before .before .before .before .before .before .keep-closest .last .0) (c .before .before .before .before .before .keep-first .last .0) (c .before .before .before .before .before .keep-first .last .1 .0) (c .before .before .before .before .before .before .before .before .before .before .before .before .before .before .before .before .enter .kept .0) (c .before .before .before .before .before .before .before .before .before .before .before .before .keep-closest .kept .0) (c .before .before .before .before .before .keep-first .kept .0)
-          (c .before .before .before .before .before .before .before .before .before .before .before .before .keep-closest .result) (c .before .before .before .before .before .before .before .before .before .distance-of .result) (c .before .before .before .before .before .before .before .before .key .result) (c .before .before .before .before .before .keep-first .result) (c .one-more .result)
-          (c .before .before .before .before .before .before .before .before .before .before .before .before .before .before .before .before .enter .ensures) (c .before .before .before .before .before .before .before .before .before .before .before .before .keep-closest .ensures) (c .before .before .before .before .before .before .before .before .before .distance-of .ensures) (c .before .before .before .before .before .before .before .before .key .ensures) (c .before .before .before .before .before .keep-first .ensures) (c .before .before .before .before .before .keep-first .kept .1 .0) (c .one-more .ensures),
+    let start = c .before .before .before .before .before .before .before .before .before .before .before .before .before .before .before .before .before .before .before .before .before .before in
+    let a = start .args in
+    let enter = c .before .before .before .before .before .before .before .before .before .before .before .before .before .before .before .before .enter in
+    let keep = c .before .before .before .before .before .before .before .before .before .before .before .before .keep-closest in
+    let far = c .before .before .before .before .before .before .before .before .before .distance-of in
+    let key = c .before .before .before .before .before .before .before .before .key in
+    let first = c .before .before .before .before .before .keep-first in
+    let end = ap (λ (m : ℕ). 6 * a .size + 4 * m) (c .before .before .before .before .before .before .before .before .before .before .before .before .before .before .before .before .before .before .least .ensures) in (
+      push-frame (a .size) (a .places) (a .node) (a .floats .now) (a .walk) (a .words .now) (a .nodes .now) (start .pre) (enter .last .0) (keep .last .0) (first .last .0) (first .last .1 .0)
+          (enter .kept .0) _ end (keep .kept .0) (first .kept .0),
+      push-is (a .size) (a .places) (a .node) (a .floats .now) (a .walk) (a .words .now) (a .nodes .now) (start .pre) (enter .last .0) (keep .last .0) (first .last .0) (first .last .1 .0)
+          (enter .kept .0) _ end (keep .kept .0) (first .kept .0) (keep .result) (far .result) (key .result) (first .result) (c .one-more .result)
+          (enter .ensures) (keep .ensures) (far .ensures) (key .ensures) (first .ensures) (first .kept .1 .0) (c .one-more .ensures),
     )
 
 pub push-spec : {M : Type 1} → statement M
@@ -91,6 +110,9 @@ push-spec =
     (tie.spec
     mul-front
     mul-held
+    least-requires
+    mul-held-end
+    add-held-end
     mul-keys
     mul-end
     mul-enter

@@ -1,8 +1,6 @@
--- `queues::worst_of` meets its contract: the first pair tells the worst node. Assumes nothing.
-use mathlib.Core.Path.{ap}
+-- `queues::worst_of` meets its contract: the first pair tells the worst distance. Assumes nothing.
 use lib.Ieee.{ofBits, nanBits}
-use Rattle.tournament.specs.declared.Pair.{Pair}
-use Rattle.queues.proofs.Steps.{worst-none, worst-at}
+use Rattle.queues.proofs.Keeping.{worst-none, worst-at}
 use native.Mathlib.Omega.{arith}
 use borrow.Author.Needs.{needs}
 use Rattle.queues.proofs.worst_of.Statement.{statement}
@@ -18,27 +16,23 @@ float-from-bits-result c = tt
 returns : tie.Need-returns
 unfolding ofBits
 returns c =
-    let a = (c .before .before .before .before) .args in
-    worst-none (a .floats .now) (a .tree .now) (c .before .first .result .id) (ap (λ (p : Pair). p .id) (c .before .first .ensures)) (omega (arith, c .before .before .before .shared-slice-known .given 3)) (omega (arith, c .before .before .before .shared-slice-known .given 2)) (c .if1 .taken)
+    let first = c .before .before .first in
+    let words = c .before .before .before .shared-slice-known .given in
+    worst-none (c .before .before .before .before .args .tree .now) (first .result) (first .ensures) (omega (arith, words 3)) (omega (arith, words 2)) (c .if1 .taken)
 
-sub-distance-of : tie.Need-sub-distance-of
-sub-distance-of c = search needs
+sub-value : tie.Need-sub-value
+sub-value c = search needs
 
-distance-of-requires : tie.Need-distance-of-requires
-distance-of-requires c κs = search needs
+value-requires : tie.Need-value-requires
+value-requires c κs = search needs
 
 returns-2 : tie.Need-returns-2
 returns-2 c =
-    let a = (c .before .before .before .before .before) .args in
-    worst-at (a .floats .now) (a .tree .now) (c .before .before .first .result .id) (ap (λ (p : Pair). p .id) (c .before .before .first .ensures)) (omega (arith, c .before .before .before .before .shared-slice-known .given 3)) (omega (arith, c .before .before .before .before .shared-slice-known .given 2)) (c .before .if1 .left) (c .distance-of .result) (c .distance-of .ensures)
+    let first = c .before .before .before .before .first in
+    let words = c .before .before .before .before .before .shared-slice-known .given in
+    worst-at (c .before .before .before .before .before .before .args .tree .now) (first .result) (first .ensures) (omega (arith, words 3)) (omega (arith, words 2)) (c .before .before .if1 .left) (c .value .result) (c .value .ensures)
 
 pub worst-of-spec : {M : Type 1} → statement M
 worst-of-spec =
     tie.close
-    (tie.spec
-    first-requires
-    float-from-bits-result
-    returns
-    sub-distance-of
-    distance-of-requires
-    returns-2)
+    (tie.spec first-requires float-from-bits-result returns sub-value value-requires returns-2)
