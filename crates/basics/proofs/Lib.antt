@@ -2,7 +2,7 @@ pub mod Counting
 pub mod Every
 pub mod Loops
 pub mod Pieces
-pub mod Quarters
+pub mod EqualParts
 pub mod Whole
 pub mod Refusals
 pub mod Sums
