@@ -65,7 +65,10 @@ fn link_bridges(links: &mut [u32], n: u32, bridges: &[u32])
     let many = bridges.len() / 2;
     let mut j = 0;
     while j < many {
-        chains::chain_bridge(links, n, j as u32, bridges[2 * j], bridges[2 * j + 1]);
+        let bridge = j as u32;
+        let near = lists::end_of(bridges, bridge, lists::NEAR);
+        let far = lists::end_of(bridges, bridge, lists::FAR);
+        chains::chain_bridge(links, n, bridge, near, far);
         j += 1;
     }
 }

@@ -64,7 +64,8 @@ pub fn other_end(bridges: &[u32], link: u32) -> u32
     ensures { λ r. ⌜ r ≡ otherEndAt (now (bridges .entry)) link ⌝ }
 {
     let slot = before(link as usize);
-    store::word_at(bridges, slot + 1 - 2 * (slot % 2))
+    let bridge = (slot / 2) as u32;
+    lists::end_of(bridges, bridge, 1 - slot % 2)
 }
 
 // A slot comes to the end of a node's chain.

@@ -1,40 +1,40 @@
--- A row is read from its block: its count, and so many of the entries behind it. Assumes nothing.
-use mathlib.Core.Path.{_≡_, ap, ap₂, _∙_}
+-- What is read from what stands of a block: a word of it; a row, of its count and so many of the entries behind it. Assumes nothing.
+use mathlib.Core.Path.{_≡_, refl, sym, ap, _∙_}
 use mathlib.Core.List.{List, []}
-use Prim.Native.Nat.{ℕ, suc, _+_, _*_, _/_, _≤_, _<_}
+use Prim.Native.Nat.{ℕ, _+_, _-_, _*_, _/_, _≤_, _<_, min}
 use native.Mathlib.Omega.{arith}
-use lib.ListN.{length, getD, take, drop, length-drop, List·getD-map}
-use lib.Seq.{drop-cons, take-take, take-all, length-take-le}
+use lib.ListN.{length, getD, take, drop, length-take, length-drop, List·getD-map}
+use lib.Seq.{take-all, getD-take, getD-drop}
 use Rattle.basics.specs.Lists.{pieces}
 use Rattle.basics.proofs.Whole.{whole-piece, no-piece}
+use Rattle.store.specs.Layout.{word, rowSize}
 use Rattle.store.specs.View.{entriesIn}
-use Rattle.lists.specs.Words.{rowsBy}
+use Rattle.lists.specs.Words.{blockAt, rowLists}
 
-row-is : (s i : ℕ) (ws : List ℕ) → getD (rowsBy s ws) i [] ≡ entriesIn (getD (pieces s (length ws / s) ws) i [])
-row-is s i ws = List·getD-map entriesIn (pieces s (length ws / s) ws) i []
+pub block-word : (size i k : ℕ) (ws : List ℕ) → k < size → word (blockAt size i ws) k ≡ word ws (i * size + k)
+block-word size i k ws h = getD-take size (drop (i * size) ws) k 0 h ∙ getD-drop (i * size) ws k 0
 
--- the entries of the block of room for D that starts at `at`
-block-entries : (s D at : ℕ) (ws : List ℕ) → s ≡ suc D → at + s ≤ length ws → entriesIn (take s (drop at ws)) ≡ take (getD ws at 0) (take D (drop (suc at) ws))
-block-entries s D at ws e h = ap₂ (λ (k : ℕ) (l : List ℕ). entriesIn (take k l)) e (drop-cons ws at 0 (omega arith))
+module _ (D i : ℕ) (ws block : List ℕ) (is : block ≡ blockAt (rowSize D) i ws) where
+  row-is : getD (rowLists D ws) i [] ≡ entriesIn (getD (pieces (rowSize D) (length ws / rowSize D) ws) i [])
+  row-is = List·getD-map entriesIn (pieces (rowSize D) (length ws / rowSize D) ws) i []
 
--- a node that is not there has no entries
-pub no-row : (s i : ℕ) (ws : List ℕ) → length ws < i * s + s → getD (rowsBy s ws) i [] ≡ []
-no-row s i ws h = row-is s i ws ∙ ap entriesIn (no-piece s i ws h)
+  long : length block ≡ min (rowSize D) (length ws - i * rowSize D)
+  long = ap length is ∙ length-take (rowSize D) (drop (i * rowSize D) ws) ∙ ap (min (rowSize D)) (length-drop (i * rowSize D) ws)
 
--- nor has any where a row takes no words
-pub no-stride : (s i : ℕ) (ws : List ℕ) → s ≡ 0 → i * s + s ≤ length ws → getD (rowsBy s ws) i [] ≡ []
-no-stride s i ws e h = row-is s i ws ∙ ap entriesIn (whole-piece s i ws h ∙ ap (λ (k : ℕ). take k (drop (i * s) ws)) e)
-
-module _ (s D i : ℕ) (ws : List ℕ) (e : s ≡ suc D) (h : i * s + s ≤ length ws) where
-  at-row : getD (rowsBy s ws) i [] ≡ take (getD ws (i * s) 0) (take D (drop (suc (i * s)) ws))
-  at-row = row-is s i ws ∙ ap entriesIn (whole-piece s i ws h) ∙ block-entries s D (i * s) ws e h
+  -- a node whose block does not stand whole has no entries
+  pub no-row : length block < rowSize D → [] ≡ getD (rowLists D ws) i []
+  no-row h = sym (row-is ∙ ap entriesIn (no-piece (rowSize D) i ws (omega (arith, long))))
 
   -- as many as its count says
-  pub counted-row : getD ws (i * s) 0 ≤ D → getD (rowsBy s ws) i [] ≡ take (getD ws (i * s) 0) (drop (suc (i * s)) ws)
-  counted-row c = at-row ∙ take-take (getD ws (i * s) 0) D (drop (suc (i * s)) ws) c
+  pub counted-row : (count : ℕ) → rowSize D ≤ length block → count ≡ getD block 0 0 → take count (drop 1 block) ≡ getD (rowLists D ws) i []
+  counted-row count h e =
+      ap (λ (k : ℕ). take k (drop 1 block)) e ∙ ap entriesIn is
+      ∙ sym (row-is ∙ ap entriesIn (whole-piece (rowSize D) i ws (omega (arith, long))))
 
   -- all of them, where the count says more
-  pub full-row : D ≤ getD ws (i * s) 0 → getD (rowsBy s ws) i [] ≡ take D (drop (suc (i * s)) ws)
-  full-row c =
-      let room : length (take D (drop (suc (i * s)) ws)) ≡ D = length-take-le D (drop (suc (i * s)) ws) (omega (arith, length-drop (suc (i * s)) ws)) in
-      at-row ∙ take-all (getD ws (i * s) 0) (take D (drop (suc (i * s)) ws)) (omega (arith, room))
+  pub full-row : rowSize D ≤ length block → rowSize D ≤ getD block 0 0 → take (length block - 1) (drop 1 block) ≡ getD (rowLists D ws) i []
+  full-row h c =
+      let room = length-drop 1 block in
+      take-all (length block - 1) (drop 1 block) (omega arith)
+      ∙ sym (take-all (getD block 0 0) (drop 1 block) (omega (arith, long)))
+      ∙ counted-row (getD block 0 0) h refl

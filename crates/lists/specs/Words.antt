@@ -2,21 +2,21 @@
 -- build writes rows whole, zero past their counts; a reader takes the entries that a row's first word counts.
 use mathlib.Core.Path.{_≡_}
 use mathlib.Core.List.{List, map, flatten}
-use Prim.Native.Nat.{ℕ, _/_, _≤_}
-use lib.ListN.{length, getD}
+use Prim.Native.Nat.{ℕ, _*_, _/_, _≤_}
+use lib.ListN.{length, getD, take, drop}
 use mathlib.Core.List.{[]}
 use Rattle.basics.specs.Graph.{Bridge}
 use Rattle.basics.specs.Lists.{pieces}
 use Rattle.store.specs.Layout.{rowSize, bridgeSize}
 use Rattle.store.specs.View.{entriesIn, bridgeIn, rowBlock}
 
--- the rows that stand whole in some words, a row every `stride` words
-abbrev pub rowsBy : ℕ → List ℕ → List (List ℕ)
-rowsBy stride ws = map entriesIn (pieces stride (length ws / stride) ws)
+-- what stands of block i, where a block takes `size` words
+abbrev pub blockAt : ℕ → ℕ → List ℕ → List ℕ
+blockAt size i ws = take size (drop (i * size) ws)
 
--- the same for rows of at most D entries
+-- the rows that stand whole in some words, each with room for D entries
 abbrev pub rowLists : ℕ → List ℕ → List (List ℕ)
-rowLists D ws = rowsBy (rowSize D) ws
+rowLists D ws = map entriesIn (pieces (rowSize D) (length ws / rowSize D) ws)
 
 -- the bridges that do
 abbrev pub bridgeList : List ℕ → List Bridge

@@ -1,48 +1,46 @@
 // Lists of the graph, as words hold them (01, "Records"): rows of a count and D entries, one after the
-// other, and bridges of two words. Repair and the walk read rows here alone; a pass of a build that changes
-// a row reads it in place, and the checks of a store read its words.
+// other, and bridges of two words.
 //
-// One view of the words serves them all: `ListView`, the slice and its rows' stride. A struct that holds a
-// slice is proved by hand, so what touches it is thin: `view` makes it, `row` takes it apart and leaves the
-// work to `read_row`, and `row_in` is the one after the other. Readers call `row_of`, over plain parameters.
-// All are total, whatever the words hold.
+// One view of the words serves every reader: `ListView`, the slice and the stride, which is how many words a
+// row or a bridge takes. A struct that holds a slice is proved by hand, so what touches it is thin: `view`
+// makes it, `block` takes it apart and leaves the work to `read_block`, and `block_in` is the one after the
+// other. Readers call what stands above it, over plain parameters: `row_of` for a node's row (the walk of a
+// search, and repair) and `end_of` for a bridge's end (what links bridges and what follows links). All are
+// total, whatever the words hold.
 //
-// specs/Words    the rows and bridges that words stand for, and the words that a build makes of rows
-// proofs/Reading  a row, from its block
-// proofs/Blocks  rows as a build leaves them: how long, what is read back, one row put in place
+// Other code looks at these words only where it changes a row or puts a bridge, in a pass of a build, and
+// where a store is checked (`store`).
+//
+// specs/Words     a block of words, the rows and bridges that words stand for, the words a build makes of rows
+// proofs/Reading  a word of a block, and a row, from its block
+// proofs/Blocks   rows as a build leaves them: how long, what is read back, one row put in place
 ghost use mathlib.Core.Path.{_≡_};
 ghost use mathlib.Core.List.{[]};
 ghost use lib.ListN.{getD};
-ghost use Rattle.lists.specs.Words.{rowsBy, rowLists};
+ghost use Rattle.store.specs.Layout.{word, bridgeSize};
+ghost use Rattle.lists.specs.Words.{blockAt, rowLists};
 
-// Rows of `stride` words each, one after the other. With a stride of 0 there are none.
+// Blocks of `stride` words each, one after the other: rows, or bridges.
 pub struct ListView<'a> {
     pub words: &'a [u32],
     pub stride: u32,
 }
 
-// The work: the entries of a node's row. A node that is not there has none. A count above what a row has
-// room for counts them all.
-pub fn read_row(words: &[u32], stride: u32, node: u32) -> &[u32]
-    ensures { λ r. ⌜ now r ≡ getD (rowsBy stride (now (words .entry))) node [] ⌝ }
+// The work: what stands of a block. Past the last word there is nothing.
+pub fn read_block(words: &[u32], stride: u32, i: u32) -> &[u32]
+    ensures { λ r. ⌜ now r ≡ blockAt stride i (now (words .entry)) ⌝ }
 {
     let size = stride as usize;
-    let at = node as usize * size;
+    let at = i as usize * size;
     let end = at + size;
+    if end <= words.len() {
+        return &words[at..end];
+    }
+    if at <= words.len() {
+        return &words[at..];
+    }
     let none: usize = 0;
-    if words.len() < end {
-        return &words[none..none];
-    }
-    if stride == 0 {
-        return &words[none..none];
-    }
-    let count = words[at];
-    let first = at + 1;
-    if count < stride {
-        let last = first + count as usize;
-        return &words[first..last];
-    }
-    &words[first..end]
+    &words[none..none]
 }
 
 pub fn view<'a>(words: &'a [u32], stride: u32) -> ListView<'a>
@@ -51,22 +49,47 @@ pub fn view<'a>(words: &'a [u32], stride: u32) -> ListView<'a>
     ListView { words, stride }
 }
 
-pub fn row<'a>(v: ListView<'a>, node: u32) -> &'a [u32]
-    ensures { λ r. ⌜ now r ≡ getD (rowsBy (v .entry .stride) (now (v .entry .words))) node [] ⌝ }
+pub fn block<'a>(v: ListView<'a>, i: u32) -> &'a [u32]
+    ensures { λ r. ⌜ now r ≡ blockAt (v .entry .stride) i (now (v .entry .words)) ⌝ }
 {
-    read_row(v.words, v.stride, node)
+    read_block(v.words, v.stride, i)
 }
 
-pub fn row_in(words: &[u32], stride: u32, node: u32) -> &[u32]
-    ensures { λ r. ⌜ now r ≡ getD (rowsBy stride (now (words .entry))) node [] ⌝ }
+pub fn block_in(words: &[u32], stride: u32, i: u32) -> &[u32]
+    ensures { λ r. ⌜ now r ≡ blockAt stride i (now (words .entry)) ⌝ }
 {
-    row(view(words, stride), node)
+    block(view(words, stride), i)
 }
 
-// The entries of a node's row, where rows have room for `degree` entries.
+// The entries of a node's row, where rows have room for `degree` entries. A node that is not there has none.
+// A count above the room counts them all.
 pub fn row_of(rows: &[u32], degree: u16, node: u32) -> &[u32]
     ensures { λ r. ⌜ now r ≡ getD (rowLists degree (now (rows .entry))) node [] ⌝ }
 {
     let stride = 1 + degree as u32;
-    row_in(rows, stride, node)
+    let row = block_in(rows, stride, node);
+    let none: usize = 0;
+    if row.len() < stride as usize {
+        return &row[none..none];
+    }
+    let count = row[0];
+    let first: usize = 1;
+    if count < stride {
+        let last = first + count as usize;
+        return &row[first..last];
+    }
+    &row[first..]
+}
+
+// Which word of a bridge is which end.
+pub const NEAR: usize = 0;
+
+pub const FAR: usize = 1;
+
+// An end of a bridge, 0 where there is none.
+pub fn end_of(bridges: &[u32], bridge: u32, side: usize) -> u32
+    ensures { λ r. ⌜ r ≡ word (blockAt bridgeSize bridge (now (bridges .entry))) side ⌝ }
+{
+    let stride = store::BRIDGE_SIZE as u32;
+    store::word_at(block_in(bridges, stride, bridge), side)
 }

@@ -1,5 +1,7 @@
 -- `beam_search::link_bridges` meets its contract: the first j bridges are linked. The measure is how many are left. Assumes nothing.
-use Prim.Native.Nat.{_-_}
+use mathlib.Core.Path.{ap₂, _∙_}
+use Prim.Native.Nat.{ℕ, _-_}
+use Rattle.chains.specs.Chains.{chainBridge}
 use Rattle.beam_search.proofs.Linking.{Chaining, chaining-none, chaining-more, chaining-all}
 use borrow.Author.Needs.{needs}
 use Rattle.beam_search.proofs.link_bridges.Statement.{statement}
@@ -14,29 +16,14 @@ abbrev μ-loop : tie.MeasureT-loop
 loop-holds : tie.Need-loop-holds Inv-loop μ-loop
 loop-holds c = let a = (c .before .before) .args in chaining-none (a .n) (a .bridges .now) (a .links .now)
 
-cast-chain-bridge : tie.Need-cast-chain-bridge Inv-loop μ-loop
-cast-chain-bridge c = search needs
+cast-bridge : tie.Need-cast-bridge Inv-loop μ-loop
+cast-bridge c = search needs
 
-mul-chain-bridge : tie.Need-mul-chain-bridge Inv-loop μ-loop
-mul-chain-bridge c = search needs
+end-of-requires : tie.Need-end-of-requires Inv-loop μ-loop
+end-of-requires c κs = search needs
 
-mul-chain-bridge-2 : tie.Need-mul-chain-bridge-2 Inv-loop μ-loop
-mul-chain-bridge-2 c = search needs
-
-shared-slice-read-chain-bridge : tie.Need-shared-slice-read-chain-bridge Inv-loop μ-loop
-shared-slice-read-chain-bridge c = search needs
-
-mul-chain-bridge-3 : tie.Need-mul-chain-bridge-3 Inv-loop μ-loop
-mul-chain-bridge-3 c = search needs
-
-add-chain-bridge : tie.Need-add-chain-bridge Inv-loop μ-loop
-add-chain-bridge c = search needs
-
-mul-chain-bridge-4 : tie.Need-mul-chain-bridge-4 Inv-loop μ-loop
-mul-chain-bridge-4 c = search needs
-
-shared-slice-read-chain-bridge-2 : tie.Need-shared-slice-read-chain-bridge-2 Inv-loop μ-loop
-shared-slice-read-chain-bridge-2 c = search needs
+end-of-requires-2 : tie.Need-end-of-requires-2 Inv-loop μ-loop
+end-of-requires-2 c κs = search needs
 
 chain-bridge-requires : tie.Need-chain-bridge-requires Inv-loop μ-loop
 chain-bridge-requires c κs = search needs
@@ -49,10 +36,15 @@ loop-less c = search needs
 
 loop-again : tie.Need-loop-again Inv-loop μ-loop
 loop-again c =
-    let l = c .before .before .before .before .before .before .before .loop in
-    let a = (c .before .before .before .before .before .before .before .before .before .before) .args in
+    let at = c .before .before .before .before .before .before .before in
+    let l = at .loop in
+    let a = at .before .before .before .args in
     let b = c .before .before .chain-bridge in
-    chaining-more (a .n) (a .bridges .now) (a .links .now) (l .j) (l .links) (l .inv) (b .last .0) ((c .before .before .before .before .before .before .before .before .before .before) .pre) (c .before .before .before .before .before .before .loop-test .taken) (b .kept .0) (b .ensures)
+    let near = c .before .before .before .before .before .end-of in
+    let far = c .before .before .before .before .end-of2 in
+    chaining-more (a .n) (a .bridges .now) (a .links .now) (l .j) (l .links) (l .inv) (b .last .0) (at .before .before .before .pre)
+    (c .before .before .before .before .before .before .loop-test .taken) (b .kept .0)
+    (b .ensures ∙ ap₂ (λ (x : ℕ) (y : ℕ). chainBridge (a .n) (l .j) x y (l .links)) (near .ensures) (far .ensures))
 
 same-length : tie.Need-same-length Inv-loop μ-loop
 same-length c = c .before .loop .inv .kept
@@ -70,14 +62,9 @@ link-bridges-spec =
     Inv-loop
     μ-loop
     loop-holds
-    cast-chain-bridge
-    mul-chain-bridge
-    mul-chain-bridge-2
-    shared-slice-read-chain-bridge
-    mul-chain-bridge-3
-    add-chain-bridge
-    mul-chain-bridge-4
-    shared-slice-read-chain-bridge-2
+    cast-bridge
+    end-of-requires
+    end-of-requires-2
     chain-bridge-requires
     add-j
     loop-less

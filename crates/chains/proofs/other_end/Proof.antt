@@ -1,34 +1,41 @@
--- The slot is the link less 1. Assumes nothing.
-use mathlib.Core.Path.{ap, _∙_}
-use Prim.Native.Nat.{ℕ}
+-- The slot is the link less 1, and the other word of its bridge is the other slot. Assumes nothing.
+use native.Mathlib.Omega.{arith}
+use mathlib.Core.Path.{_≡_, ap, _∙_}
+use mathlib.Core.List.{List}
+use Prim.Native.Nat.{ℕ, _+_, _-_, _*_, _/_, _%_}
 use lib.ListN.{getD}
+use Rattle.store.specs.Layout.{word, bridgeSize}
+use Rattle.lists.specs.Words.{blockAt}
+use Rattle.lists.proofs.Reading.{block-word}
 use Rattle.chains.specs.Chains.{otherSlot, otherEndAt}
 use borrow.Author.Needs.{needs}
 use Rattle.chains.proofs.other_end.Statement.{statement}
 use Rattle.chains.proofs.other_end.Tie as tie
 
+other-word : (s : ℕ) (bridges : List ℕ) → word (blockAt bridgeSize (s / 2) bridges) (1 - s % 2) ≡ word bridges (otherSlot s)
+other-word s bridges =
+    let place : s / 2 * bridgeSize + (1 - s % 2) ≡ otherSlot s = omega arith in
+    block-word bridgeSize (s / 2) (1 - s % 2) bridges (omega arith) ∙ ap (word bridges) place
+
 before-requires : tie.Need-before-requires
 before-requires c κs = search needs
 
-add-word-at : tie.Need-add-word-at
-add-word-at c = search needs
+cast-bridge : tie.Need-cast-bridge
+cast-bridge c = search needs
 
-mul-word-at : tie.Need-mul-word-at
-mul-word-at c = search needs
+sub-end-of : tie.Need-sub-end-of
+sub-end-of c = search needs
 
-sub-word-at : tie.Need-sub-word-at
-sub-word-at c = search needs
-
-word-at-requires : tie.Need-word-at-requires
-word-at-requires c κs = search needs
+end-of-requires : tie.Need-end-of-requires
+end-of-requires c κs = search needs
 
 returns : tie.Need-returns
 unfolding otherEndAt
 returns c =
-    let a = c .before .before .before .args in
-    c .word-at .ensures ∙ ap (λ (s : ℕ). getD (a .bridges .now) (otherSlot s) 0) (c .before .before2 .ensures)
+    let ws = c .before .before .before .args .bridges .now in
+    let slot = c .before .before2 in
+    c .end-of .ensures ∙ other-word (slot .result) ws ∙ ap (λ (s : ℕ). getD ws (otherSlot s) 0) (slot .ensures)
 
 pub other-end-spec : {M : Type 1} → statement M
 other-end-spec =
-    tie.close
-    (tie.spec before-requires add-word-at mul-word-at sub-word-at word-at-requires returns)
+    tie.close (tie.spec before-requires cast-bridge sub-end-of end-of-requires returns)

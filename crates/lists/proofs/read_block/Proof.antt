@@ -1,0 +1,101 @@
+-- The part is the block, all that stands of it, or nothing. A product of two numbers below 2^32 leaves room for a third. Assumes nothing.
+use native.Mathlib.Omega.{arith}
+use mathlib.Core.Path.{_≡_, sym, ap, _∙_}
+use mathlib.Core.List.{List}
+use Prim.Native.Nat.{ℕ, _+_, _-_, _*_, _≤_}
+use native.Mathlib.Nat.{mul-le-mul}
+use lib.ListN.{length, take, drop, length-drop, drop-of-length-le}
+use lib.Seq.{take-all, take-nil}
+use borrow.Author.Needs.{needs}
+use Rattle.lists.proofs.read_block.Statement.{statement}
+use Rattle.lists.proofs.read_block.Tie as tie
+
+small : (a b : ℕ) → a ≤ 4294967295 → b ≤ 4294967295 → a * b ≤ 4294967295 * 4294967295
+small a b h k = mul-le-mul h k
+
+-- what stands behind `at`, where that is less than a block
+rest : (ws : List ℕ) (at size : ℕ) → length ws - at ≤ size → take (length ws - at) (drop at ws) ≡ take size (drop at ws)
+rest ws at size h =
+    let long = length-drop at ws in
+    take-all (length ws - at) (drop at ws) (omega arith) ∙ sym (take-all size (drop at ws) (omega arith))
+
+mul-at : tie.Need-mul-at
+mul-at c = omega (arith, small (c .args .i) (c .args .stride) (omega arith) (omega arith))
+
+add-end : tie.Need-add-end
+add-end c = omega (arith, small (c .args .i) (c .args .stride) (omega arith) (omega arith))
+
+mul-result : tie.Need-mul-result
+mul-result c = search needs
+
+sub-result : tie.Need-sub-result
+sub-result c = search needs
+
+part-result-start : tie.Need-part-result-start
+part-result-start c = search needs
+
+part-result-end : tie.Need-part-result-end
+part-result-end c = search needs
+
+returns : tie.Need-returns
+returns c =
+    let a = c .before .before .args in
+    let at : ℕ = a .i * a .stride in
+    let size : at + a .stride - at ≡ a .stride = omega arith in
+    ap (λ (k : ℕ). take k (drop at (a .words .now))) size
+
+mul-result-2 : tie.Need-mul-result-2
+mul-result-2 c = search needs
+
+sub-result-2 : tie.Need-sub-result-2
+sub-result-2 c = search needs
+
+part-result-start-2 : tie.Need-part-result-start-2
+part-result-start-2 c = search needs
+
+part-result-end-2 : tie.Need-part-result-end-2
+part-result-end-2 c = search needs
+
+returns-2 : tie.Need-returns-2
+returns-2 c =
+    let a = c .before .before .before .args in
+    rest (a .words .now) (a .i * a .stride) (a .stride) (omega arith)
+
+mul-result-3 : tie.Need-mul-result-3
+mul-result-3 c = search needs
+
+sub-result-3 : tie.Need-sub-result-3
+sub-result-3 c = search needs
+
+part-result-start-3 : tie.Need-part-result-start-3
+part-result-start-3 c = search needs
+
+part-result-end-3 : tie.Need-part-result-end-3
+part-result-end-3 c = search needs
+
+returns-3 : tie.Need-returns-3
+returns-3 c =
+    let a = c .before .before .before .args in
+    sym (ap (take (a .stride)) (drop-of-length-le (a .words .now) {i = a .i * a .stride} (omega arith)) ∙ take-nil (a .stride))
+
+pub read-block-spec : {M : Type 1} → statement M
+read-block-spec =
+    tie.close
+    (tie.spec
+    mul-at
+    add-end
+    mul-result
+    sub-result
+    part-result-start
+    part-result-end
+    returns
+    mul-result-2
+    sub-result-2
+    part-result-start-2
+    part-result-end-2
+    returns-2
+    mul-result-3
+    sub-result-3
+    part-result-start-3
+    part-result-end-3
+    returns-3)
