@@ -5,11 +5,11 @@
 // row or a bridge takes. A struct that holds a slice is proved by hand, so what touches it is thin: `view`
 // makes it, `block` takes it apart and leaves the work to `read_block`, and `block_in` is the one after the
 // other. Readers call what stands above it, over plain parameters: `row_of` for a node's row (the walk of a
-// search, and repair) and `end_of` for a bridge's end (what links bridges and what follows links). All are
-// total, whatever the words hold.
+// search, and repair), `entry_of` for one entry while other rows change (reverse edges), and `end_of` for a
+// bridge's end (what links bridges and what follows links). All are total, whatever the words hold.
 //
-// Other code looks at these words only where it changes a row or puts a bridge, in a pass of a build, and
-// where a store is checked (`store`).
+// Other code looks at these words only where it changes a row (a turn of a leaf, and of reverse edges) or
+// puts a bridge, and where a store is checked (`store`).
 //
 // specs/Words     a block of words, the rows and bridges that words stand for, the words a build makes of rows
 // proofs/Reading  a word of a block, and a row, from its block
@@ -79,6 +79,13 @@ pub fn row_of(rows: &[u32], degree: u16, node: u32) -> &[u32]
         return &row[first..last];
     }
     &row[first..]
+}
+
+// An entry of a node's row, 0 where there is none.
+pub fn entry_of(rows: &[u32], degree: u16, node: u32, e: usize) -> u32
+    ensures { λ r. ⌜ r ≡ getD (getD (rowLists degree (now (rows .entry))) node []) e 0 ⌝ }
+{
+    store::word_at(row_of(rows, degree, node), e)
 }
 
 // Which word of a bridge is which end.

@@ -4,14 +4,14 @@ use mathlib.Core.Path.{_≡_, refl, sym, ap, ap₂, subst, _∙_}
 use mathlib.Core.Bool.{Bool, true}
 use mathlib.Core.List.{List, [], _∷_, _++_}
 use mathlib.Core.List.{List·Memᴰ as In, List·Memᴰ·head as here, List·Memᴰ·tail as there}
-use Prim.Native.Nat.{ℕ, suc, _+_, _-_, _*_, _/_, _≤_, _<_, min}
+use Prim.Native.Nat.{ℕ, suc, _+_, _*_, _/_, _≤_, _<_, min}
 use native.Mathlib.Nat.{suc-mul, mul-le-mul, mul-le-mul-right}
 use native.Mathlib.Omega.{arith}
 use native.Mathlib.Decide.{ℕ-discrete}
 use native.Mathlib.Numerals.{add-one}
 use lib.Dec.{T}
-use lib.ListN.{length, getD, take, drop, set, replicate, length-append, List·getD-append}
-use lib.Seq.{set-getD, getD-set-other, take-suc, take-all, drop-drop, getD-drop, getD-take}
+use lib.ListN.{length, getD, take, drop, set, length-append}
+use lib.Seq.{set-getD, getD-set-other, take-suc, take-all, drop-drop}
 use borrow.Rule.Slice.PartMut.{putMid}
 use Rattle.basics.specs.Choice.{pick, pick-ind, pick-false}
 use Rattle.basics.specs.Nodes.{has, Below}
@@ -20,8 +20,8 @@ use Rattle.basics.proofs.Counting.{in-has}
 use Rattle.basics.proofs.Members.{in-getD, in-take}
 use Rattle.store.specs.Layout.{rowSize}
 use Rattle.store.specs.View.{rowBlock}
-use Rattle.lists.specs.Words.{Blocks}
-use Rattle.lists.proofs.Blocks.{blocks-length, blocks-count, nth-block, put-block}
+use Rattle.lists.specs.Words.{rowLists, Blocks}
+use Rattle.lists.proofs.Blocks.{blocks-length, blocks-count, nth-block, put-block, rows-read-back}
 use Rattle.refine.specs.Refine.{takes, addBack, addBacks, reverseTo, addReverseEdges}
 use Rattle.refine.proofs.Laws.{reverse-rows}
 use Rattle.reverse_edges.specs.Reversed.{EntryAdded, BackAdded, Turned, Reversed}
@@ -119,33 +119,20 @@ module _ (D node nb : ℕ) (ws : List ℕ) where
 
 -- ---- a node's turn, in words
 
--- a word of a row's block
-block-word : (D i k : ℕ) (rs : List (List ℕ)) (ws : List ℕ) → Blocks D rs ws → i < length rs → k < rowSize D
-    → getD ws (i * rowSize D + k) 0 ≡ getD (rowBlock D (getD rs i [])) k 0
-block-word D i k rs ws b l h =
-    sym (getD-take (rowSize D) (drop (i * rowSize D) ws) k 0 h ∙ getD-drop (i * rowSize D) ws k 0) ∙ ap (λ (p : List ℕ). getD p k 0) (nth-block D rs ws b i l)
-
 -- the turn up to entry e
 abbrev pub TurnedTo : ℕ → ℕ → ℕ → List ℕ → List ℕ → Type 0
 TurnedTo D node e before after =
     (rs : List (List ℕ)) → Blocks D rs before → node < length rs → Below (length rs) (getD rs node []) → Blocks D (addBacks D node (take e (getD rs node [])) rs) after
 
 module _ (D node : ℕ) (ws : List ℕ) where
-  pub turn-none : length ws < node * rowSize D + rowSize D → Turned D node ws ws
-  turn-none h rs b l =
-      let long : suc node * rowSize D ≤ length rs * rowSize D = mul-le-mul-right (rowSize D) l in
-      absurd (omega (arith, blocks-length D rs ws b, suc-mul node (rowSize D)))
-
   pub turn-first : TurnedTo D node 0 ws ws
   unfolding addBacks
   turn-first rs b l h = b
 
-  counted : (rs : List (List ℕ)) → Blocks D rs ws → node < length rs → getD ws (node * rowSize D) 0 ≡ length (getD rs node [])
-  counted rs b l =
-      let e : node * rowSize D + 0 ≡ node * rowSize D = omega arith in
-      ap (λ (k : ℕ). getD ws k 0) (sym e) ∙ block-word D node 0 rs ws b l (omega arith)
+  counted : (rs : List (List ℕ)) → Blocks D rs ws → length (getD (rowLists D ws) node []) ≡ length (getD rs node [])
+  counted rs b = ap (λ (rows : List (List ℕ)). length (getD rows node [])) (rows-read-back D rs ws b)
 
-  pub turn-more : (e nb : ℕ) (now next : List ℕ) → e < min (getD ws (node * rowSize D) 0) D → nb ≡ getD now (node * rowSize D + 1 + e) 0
+  pub turn-more : (e nb : ℕ) (now next : List ℕ) → e < length (getD (rowLists D ws) node []) → nb ≡ getD (getD (rowLists D now) node []) e 0
       → TurnedTo D node e ws now → BackAdded D node nb now next → TurnedTo D node (e + 1) ws next
   turn-more e nb now next h q turned added rs b l inside =
       let row : List ℕ = getD rs node [] in
@@ -153,14 +140,11 @@ module _ (D node : ℕ) (ws : List ℕ) where
       let b' : Blocks D rs' now = turned rs b l inside in
       let many : length rs' ≡ length rs = backs-length D node (take e row) rs in
       let own : getD rs' node [] ≡ row = own-row D node (take e row) rs (λ v m. in-take e row m) in
-      let short : e < length row = omega (arith, counted rs b l) in
-      let place : node * rowSize D + 1 + e ≡ node * rowSize D + suc e = omega arith in
+      let short : e < length row = omega (arith, counted rs b) in
       let is : nb ≡ getD row e 0 =
       q
-      ∙ ap (λ (k : ℕ). getD now k 0) place
-      ∙ block-word D node (suc e) rs' now b' (omega arith) (omega arith)
-      ∙ ap (λ (r : List ℕ). getD (rowBlock D r) (suc e) 0) own
-      ∙ List·getD-append row (replicate (D - length row) 0) 0 e short in
+      ∙ ap (λ (rows : List (List ℕ)). getD (getD rows node []) e 0) (rows-read-back D rs' now b')
+      ∙ ap (λ (r : List ℕ). getD r e 0) own in
       let below : nb < length rs' = omega (arith, inside (getD row e 0) (in-getD row e 0 short)) in
       let more : addBack D node nb rs' ≡ addBacks D node (take (e + 1) row) rs =
       ap (λ (k : ℕ). addBack D node k rs') is
@@ -168,10 +152,10 @@ module _ (D node : ℕ) (ws : List ℕ) where
       ∙ ap (λ (nbs : List ℕ). addBacks D node nbs rs) (sym (ap (λ (k : ℕ). take k row) (add-one e) ∙ take-suc row e 0 short)) in
       subst (λ (rows : List (List ℕ)). Blocks D rows next) more (added rs' b' below)
 
-  pub turn-last : (e : ℕ) (now : List ℕ) → min (getD ws (node * rowSize D) 0) D ≤ e → TurnedTo D node e ws now → Turned D node ws now
+  pub turn-last : (e : ℕ) (now : List ℕ) → length (getD (rowLists D ws) node []) ≤ e → TurnedTo D node e ws now → Turned D node ws now
   turn-last e now h turned rs b l inside =
       let row : List ℕ = getD rs node [] in
-      let all : take e row ≡ row = take-all e row (omega (arith, counted rs b l, b .short node)) in
+      let all : take e row ≡ row = take-all e row (omega (arith, counted rs b)) in
       subst (λ (nbs : List ℕ). Blocks D (addBacks D node nbs rs) now) all (turned rs b l inside)
 
 -- ---- all turns, in words
@@ -205,5 +189,3 @@ module _ (D : ℕ) (ws : List ℕ) where
   reverse-last i now e reversed rs b l inside =
       let all : i ≡ length rs = omega (arith, blocks-count D rs ws b) in
       subst (λ (k : ℕ). Blocks D (reverseTo D rs k) now) all (reversed rs b l inside)
-
--- ---- what follows

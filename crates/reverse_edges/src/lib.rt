@@ -1,12 +1,13 @@
 // Reverse edges (01, part 6), as the Rust's `add_reverse_edges` adds them to the rows of a build: node by
 // node, each goes to the end of its neighbours' rows that lack it and have room.
 //
-// The Rust copies a node's row before its turn. Here it is read in place: the turn does not change it,
-// since a node that is in its own row is not added to it again (`own-row` of proofs/Laws).
+// The Rust copies a node's row before its turn. Here its entries are read one by one (`lists`) while other
+// rows change: the turn does not change the node's own row, since a node that is in its own row is not added
+// to it again (`own-row` of proofs/Laws).
 //
 // specs/Reversed   what the functions leave of rows as a build makes them
-// proofs/Laws      a node's own row in its turn; rows stay within the degree, so the final prune changes
-//                  nothing
+// proofs/Entry     one row: whether it holds a node, its words with the node at the end
+// proofs/Laws      a node's own row in its turn; what the words are after each step
 ghost use mathlib.Core.Path.{_≡_};
 ghost use lib.ListN.{length};
 ghost use Prim.Native.Nat.{_≤_, min};
@@ -37,16 +38,10 @@ fn lesser(a: usize, b: usize) -> usize
 fn add_backs(rows: &mut [u32], degree: u16, node: u32)
     ensures { λ _. ⌜ Turned degree node (now (rows .entry)) (now (rows .exit)) ⌝ }
 {
-    let size = 1 + degree as usize;
-    let at = node as usize * size;
-    let first = at + 1;
-    if rows.len() < at + size {
-        return;
-    }
-    let count = lesser(rows[at] as usize, degree as usize);
+    let count = lists::row_of(rows, degree, node).len();
     let mut e: usize = 0;
     while e < count {
-        let nb = rows[first + e];
+        let nb = lists::entry_of(rows, degree, node, e);
         add_back(rows, degree, node, nb);
         e += 1;
     }
