@@ -9,7 +9,7 @@ use Prim.Native.Nat.{ℕ, zero, suc, _-_, _*_, _/_, _≤_, _<_, min}
 use native.Mathlib.Nat.{mul-le-mul-right, div-mul-le-self}
 use native.Mathlib.Omega.{arith}
 use lib.Dec.{ltb, eqb}
-use lib.ListN.{length, getD, take, drop, length-map, length-take, length-drop, List·getD-map}
+use lib.ListN.{length, getD, take, length-map, length-take, length-drop, List·getD-map}
 use lib.Seq.{take-all, take-at}
 use lib.Ieee.{Float, binary32, nan, lt}
 use Rattle.basics.specs.Choice.{pick}
@@ -26,8 +26,8 @@ use Rattle.leaf.proofs.Cells.{cells-in}
 use Rattle.simhash.specs.Blocks.{blocksHash}
 use Rattle.simhash.proofs.Residual.{length-residual}
 use Rattle.simhash.proofs.Laws.{hash-is-simhash}
-use Rattle.store.specs.View.{rowBlock}
-use Rattle.hashprune.specs.Steps.{farAt, hashAt, firstPlaces, cellsOf, rankedPlace, rankedNode, rowEntries, selectedPairs, oldPairs, mergedPairs, turned}
+use Rattle.store.specs.View.{entriesIn, rowBlock}
+use Rattle.hashprune.specs.Steps.{farAt, hashAt, firstPlaces, cellsOf, rankedPlace, rankedNode, selectedPairs, oldPairs, mergedPairs, turned}
 use Rattle.hashprune.specs.Hashprune.{Turn}
 use Rattle.hashprune.proofs.Cells.{cells-below, places-below}
 
@@ -182,12 +182,8 @@ module _ (vectors : List Float) (dimension bits : ℕ) (planes : List Float) (p 
       ∙ ap (λ (l : List Float). blocksHash (residual binary32 cv pv) l (min bits 16)) (ps .are)
       ∙ hash-is-simhash (ps .numbers) dimension bits (length planes) (ps .rest) pv cv (ps .enough) (ps .room) (t .bits-most) long
 
-  entries-are : rowEntries row ≡ old
-  entries-are =
-      let D : ℕ = length row - 1 in
-      let size : getD row 0 0 ≡ length old = ap (λ (l : List ℕ). getD l 0 0) (t .row-is) in
-      let count : min (getD row 0 0) D ≡ length old = omega (arith, t .old-most) in
-      ap₂ (λ (k : ℕ) (l : List ℕ). take k (drop 1 l)) count (t .row-is) ∙ take-at old _ (length old) refl
+  entries-are : entriesIn row ≡ old
+  entries-are = ap entriesIn (t .row-is) ∙ take-at old _ (length old) refl
 
   -- the pairs of the row's entries, and of the nodes that hold cells
   old-are : oldPairs vectors dimension (vectorOf vs p) row ≡ map (ranked (rank vs p)) old

@@ -8,27 +8,22 @@ use native.Mathlib.Omega.{arith}
 use borrow.Author.Tests.{eq-eqb, ne-eqb, ltb-true, ltb-false, eqb-true, eqb-false}
 use lib.Dec.{ltb, eqb}
 use lib.ListN.{length, getD, set, take, drop, replicate, length-take, length-drop, length-map, length-set, length-append, length-replicate, drop-of-length-le}
-use lib.Seq.{take-all, take-length, drop-length, drop-cons, getD-take, getD-drop, getD-set-same, take-set-le, take-take, drop-set-lt}
+use lib.Seq.{take-all, take-length, drop-length, drop-cons, getD-take, getD-set-same, take-set-le, take-take, drop-set-lt}
 use lib.Ieee.{Float}
 use Rattle.basics.specs.Choice.{pick-true, pick-false}
 use Rattle.basics.proofs.Tests.{both-true, one-false}
 use Rattle.leaf.specs.Leaf.{startsWith, dedup}
-use Rattle.store.specs.View.{rowBlock}
+use Rattle.store.specs.View.{entriesIn, rowBlock}
 use Rattle.slices.proofs.Laws.{copied, copied-more}
-use Rattle.hashprune.specs.Steps.{rankedNode, rowEntries, oldPairs}
+use Rattle.hashprune.specs.Steps.{rankedNode, oldPairs}
 
 -- ---- entries
 
-pub length-entries : (row : List ℕ) → length (rowEntries row) ≡ min (getD row 0 0) (length row - 1)
+pub length-entries : (row : List ℕ) → length (entriesIn row) ≡ min (getD row 0 0) (length row - 1)
 length-entries row = simp (length-take, length-drop) (omega arith)
 
-pub entry-at : (row : List ℕ) (i : ℕ) → i < min (getD row 0 0) (length row - 1) → getD row (i + 1) 0 ≡ getD (rowEntries row) i 0
-entry-at row i h =
-    let e : i + 1 ≡ 1 + i = omega arith in
-    ap (λ (k : ℕ). getD row k 0) e ∙ sym (getD-take (min (getD row 0 0) (length row - 1)) (drop 1 row) i 0 h ∙ getD-drop 1 row i 0)
-
 pub old-few : (vectors : List Float) (dimension : ℕ) (p : List Float) (row : List ℕ) → length (oldPairs vectors dimension p row) ≤ length row - 1
-old-few vectors dimension p row = omega (arith, length-map (rowEntries row) (rankedNode vectors dimension p), length-entries row)
+old-few vectors dimension p row = omega (arith, length-map (entriesIn row) (rankedNode vectors dimension p), length-entries row)
 
 -- all that stands from k on
 pub rest-whole : (l : List ℕ) (k : ℕ) → take (length l - k) (drop k l) ≡ drop k l

@@ -13,7 +13,7 @@ use Rattle.vectors.specs.Vectors.{vectorsIn, vectorOf}
 use Rattle.leaf.specs.Simhash.{residual}
 use Rattle.leaf.specs.Leaf.{Cell, nodesIn, cellsFrom, dedup}
 use Rattle.simhash.specs.Blocks.{blocksHash}
-use Rattle.store.specs.View.{rowBlock}
+use Rattle.store.specs.View.{entriesIn, rowBlock}
 
 -- ---- hash cells, each held by a place among the candidates
 
@@ -76,17 +76,14 @@ rankedPlace candidates far i = (keyOf binary32 (farAt far i), getD candidates i 
 abbrev pub rankedNode : List Float → ℕ → List Float → ℕ → ℕ × ℕ
 rankedNode vectors dimension p x = (keyOf binary32 (distanceOf binary32 p (vectorOf (vectorsIn dimension vectors) x)), x)
 
--- the entries of a row, as many as it counts and has room for
-abbrev pub rowEntries : List ℕ → List ℕ
-rowEntries row = take (min (getD row 0 0) (length row - 1)) (drop 1 row)
-
 -- the nodes that hold cells, the nearest first
 abbrev pub selectedPairs : List Float → ℕ → ℕ → List Float → List Float → List ℕ → List Float → List (ℕ × ℕ)
 selectedPairs vectors dimension bits planes p candidates far =
     sortBy keyIn (map (rankedPlace candidates far) (nodesIn (cellsOf vectors dimension bits planes p candidates far)))
 
+-- the entries that a row has
 abbrev pub oldPairs : List Float → ℕ → List Float → List ℕ → List (ℕ × ℕ)
-oldPairs vectors dimension p row = map (rankedNode vectors dimension p) (rowEntries row)
+oldPairs vectors dimension p row = map (rankedNode vectors dimension p) (entriesIn row)
 
 -- the nodes of pairs, sorted by their keys, of equal neighbours one, at most D of them
 abbrev pub mergedPairs : ℕ → List (ℕ × ℕ) → List ℕ
@@ -108,9 +105,10 @@ pub record PlaceRoom (candidates : List ℕ) (far : List Float) (places keys ids
   pub keys-room : length places ≤ length keys
   pub ids-room : length places ≤ length ids
 
--- a row with its count, and room for a pair for each entry
+-- a row with its count, of at most 32 entries, and room for a pair for each
 pub record RowRoom (row keys ids : List ℕ) : Type 0 where
   pub counted : 1 ≤ length row
+  pub short : length row ≤ 33
   pub keys-room : length row - 1 ≤ length keys
   pub ids-room : length row - 1 ≤ length ids
 

@@ -199,15 +199,16 @@ fn rank_row(
         × (now (keys .exit) ≡ keysOf (oldPairs (now (vectors .entry)) dimension (now (p .entry)) (now (row .entry))) (now (keys .entry)))
         × (now (ids .exit) ≡ idsOf (oldPairs (now (vectors .entry)) dimension (now (p .entry)) (now (row .entry))) (now (ids .entry))) ⌝ }
 {
-    let count = least(row[0] as usize, row.len() - 1);
+    let degree = (row.len() - 1) as u16;
+    let entries = lists::row_of(row, degree, 0);
     let mut i: usize = 0;
-    while i < count {
-        let node = row[i + 1];
+    while i < entries.len() {
+        let node = entries[i];
         keys[i] = node_key(vectors, dimension, p, node);
         ids[i] = node;
         i += 1;
     }
-    count
+    entries.len()
 }
 
 // Of equal neighbours one stays: what is left stands at the end, from the place returned on. From the

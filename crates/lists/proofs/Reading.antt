@@ -38,3 +38,12 @@ module _ (D i : ℕ) (ws block : List ℕ) (is : block ≡ blockAt (rowSize D) i
       take-all (length block - 1) (drop 1 block) (omega arith)
       ∙ sym (take-all (getD block 0 0) (drop 1 block) (omega (arith, long)))
       ∙ counted-row (getD block 0 0) h refl
+
+-- words that are one row
+pub one-row : (row : List ℕ) → 1 ≤ length row → getD (rowLists (length row - 1) row) 0 [] ≡ entriesIn row
+one-row row h =
+    let size : rowSize (length row - 1) ≡ length row = omega arith in
+    let start : 0 * rowSize (length row - 1) ≡ 0 = omega arith in
+    let is : row ≡ blockAt (rowSize (length row - 1)) 0 row =
+    sym (ap (λ (k : ℕ). take (rowSize (length row - 1)) (drop k row)) start ∙ take-all (rowSize (length row - 1)) row (omega arith)) in
+    sym (counted-row (length row - 1) 0 row row is (getD row 0 0) (omega arith) refl)

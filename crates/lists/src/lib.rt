@@ -5,11 +5,13 @@
 // row or a bridge takes. A struct that holds a slice is proved by hand, so what touches it is thin: `view`
 // makes it, `block` takes it apart and leaves the work to `read_block`, and `block_in` is the one after the
 // other. Readers call what stands above it, over plain parameters: `row_of` for a node's row (the walk of a
-// search, and repair), `entry_of` for one entry while other rows change (reverse edges), and `end_of` for a
-// bridge's end (what links bridges and what follows links). All are total, whatever the words hold.
+// search, repair, a turn of a leaf), `entry_of` for one entry while other rows change (reverse edges), and
+// `end_of` for a bridge's end (what links bridges and what follows links). All are total, whatever the words
+// hold.
 //
-// Other code looks at these words only where it changes a row (a turn of a leaf, and of reverse edges) or
-// puts a bridge, and where a store is checked (`store`).
+// Elsewhere these words are looked at only by the check of a store (`store`, which this crate leans on), and
+// touched by what writes them: `add_entry` of reverse_edges, which looks through the row that it adds to,
+// `write_row` of hashprune, `put_bridge` of connectivity, and build, which clears rows and copies bridges.
 //
 // specs/Words     a block of words, the rows and bridges that words stand for, the words a build makes of rows
 // proofs/Reading  a word of a block, and a row, from its block

@@ -33,6 +33,7 @@ rank-row-requires c κs =
     let s = c .before .before .before .before .before .before .before .before .before .before .before .before .before in
     record {
       counted = s .pre .0 .counted;
+      short = s .pre .0 .short;
       keys-room = omega (arith, s .pre .0 .short, s .pre .1 .keys-room);
       ids-room = omega (arith, s .pre .0 .short, s .pre .1 .ids-room);
     }

@@ -1,9 +1,13 @@
--- The invariant: the pairs of the first i entries are put. The measure is how many are left. Assumes nothing.
-use mathlib.Core.Path.{sym, ap, _∙_}
-use Prim.Native.Nat.{ℕ, _-_, _<_, min}
-use lib.ListN.{length, getD, length-map}
-use Rattle.hashprune.specs.Steps.{rankedNode, rowEntries}
-use Rattle.hashprune.proofs.Rows.{length-entries, entry-at}
+-- The invariant: the pairs of the first i entries are put, and there are no more entries than the row has room for. The measure is how many are
+-- left. Assumes nothing.
+use mathlib.Core.Path.{refl, sym, ap, _∙_}
+use mathlib.Core.List.{List, map}
+use Prim.Native.Nat.{ℕ, _-_, _≤_}
+use lib.ListN.{length, length-map}
+use Rattle.sorting.specs.Sorting.{keysOf, idsOf}
+use Rattle.lists.proofs.Reading.{one-row}
+use Rattle.hashprune.specs.Steps.{rankedNode}
+use Rattle.hashprune.proofs.Rows.{length-entries}
 use Rattle.hashprune.proofs.Ranked.{Ranking, ranking-none, ranking-more, ranking-end}
 use borrow.Author.Needs.{needs}
 use native.Mathlib.Omega.{arith}
@@ -11,30 +15,29 @@ use Rattle.hashprune.proofs.rank_row.Statement.{statement}
 use Rattle.hashprune.proofs.rank_row.Tie as tie
 
 abbrev Inv-loop : tie.InvT-loop
-Inv-loop vectors dimension p row keys₀ ids₀ count i₀ keys ids i = Ranking (rankedNode vectors dimension p) (rowEntries row) keys₀ ids₀ keys ids i
+Inv-loop vectors dimension p row keys₀ ids₀ degree entries i₀ keys ids i =
+    (length entries ≤ length row - 1) × Ranking (rankedNode vectors dimension p) entries keys₀ ids₀ keys ids i
 
 abbrev μ-loop : tie.MeasureT-loop
-μ-loop vectors dimension p row keys₀ ids₀ count i₀ keys ids i = count - i
+μ-loop vectors dimension p row keys₀ ids₀ degree entries i₀ keys ids i = length entries - i
 
-shared-slice-read-least : tie.Need-shared-slice-read-least Inv-loop μ-loop
-shared-slice-read-least c = search needs
+sub-degree : tie.Need-sub-degree Inv-loop μ-loop
+sub-degree c = search needs
 
-cast-least : tie.Need-cast-least Inv-loop μ-loop
-cast-least c = omega (arith, c .shared-slice-known4 .given 0)
+cast-degree : tie.Need-cast-degree Inv-loop μ-loop
+cast-degree c = search needs
 
-sub-least : tie.Need-sub-least Inv-loop μ-loop
-sub-least c = search needs
-
-least-requires : tie.Need-least-requires Inv-loop μ-loop
-least-requires c κs = search needs
+row-of-requires : tie.Need-row-of-requires Inv-loop μ-loop
+row-of-requires c κs = search needs
 
 loop-holds : tie.Need-loop-holds Inv-loop μ-loop
 loop-holds c =
-    let a = c .before .before .before .before .before .before .before .args in
-    ranking-none (rankedNode (a .vectors .now) (a .dimension) (a .p .now)) (rowEntries (a .row .now)) (a .keys .now) (a .ids .now)
-
-add-node : tie.Need-add-node Inv-loop μ-loop
-add-node c = search needs
+    let s = c .before .before .before .before .before .before in
+    let a = s .args in
+    let is = c .row-of .ensures ∙ one-row (a .row .now) (s .pre .counted) in (
+      omega (arith, ap length is, length-entries (a .row .now)),
+      ranking-none (rankedNode (a .vectors .now) (a .dimension) (a .p .now)) (c .row-of .result .now) (a .keys .now) (a .ids .now),
+    )
 
 mul-node : tie.Need-mul-node Inv-loop μ-loop
 mul-node c = search needs
@@ -65,32 +68,34 @@ loop-less c = search needs
 
 loop-again : tie.Need-loop-again Inv-loop μ-loop
 loop-again c =
-    let s = c .before .before .before .before .before .before .before .before .before .before .before in
+    let s = c .before .before .before .before .before .before .before .before .before .before in
     let a = s .args in
     let l = c .before .before .before .loop in
-    let k = c .node-key in
-    let n = c .before .before .before .before .least in
-    let less : l .i < min (getD (a .row .now) 0 0) (length (a .row .now) - 1) = omega (arith, n .ensures) in
-    let node = entry-at (a .row .now) (l .i) less in
-    ranking-more (rankedNode (a .vectors .now) (a .dimension) (a .p .now)) (rowEntries (a .row .now)) (a .keys .now) (a .ids .now) (l .keys) (l .ids) (l .i) (k .result) _
-    (omega (arith, length-entries (a .row .now))) (omega (arith, s .pre .keys-room)) (omega (arith, s .pre .ids-room)) (l .inv)
-    (k .ensures ∙ ap (λ (x : ℕ). rankedNode (a .vectors .now) (a .dimension) (a .p .now) x .0) node) node
+    let k = c .node-key in (
+      l .inv .0,
+      ranking-more (rankedNode (a .vectors .now) (a .dimension) (a .p .now)) (c .before .before .before .before .row-of .result .now) (a .keys .now) (a .ids .now) (l .keys) (l .ids) (l .i) (k .result) _
+          (omega arith) (omega (arith, s .pre .keys-room)) (omega (arith, s .pre .ids-room)) (l .inv .1) (k .ensures) refl,
+    )
 
 same-length : tie.Need-same-length Inv-loop μ-loop
-same-length c = c .before .loop .inv .keys-long
+same-length c = c .before .loop .inv .1 .keys-long
 
 same-length-2 : tie.Need-same-length-2 Inv-loop μ-loop
-same-length-2 c = c .before .loop .inv .ids-long
+same-length-2 c = c .before .loop .inv .1 .ids-long
 
 returns : tie.Need-returns Inv-loop μ-loop
 returns c =
-    let a = c .before .before .before .before .before .before .before .before .before .args in
+    let s = c .before .before .before .before .before .before .before .before in
+    let a = s .args in
     let l = c .before .loop in
-    let n = c .before .before .least in
+    let row = c .before .before .row-of in
     let f = rankedNode (a .vectors .now) (a .dimension) (a .p .now) in
-    let size = length-entries (a .row .now) in
-    let whole = ranking-end f (rowEntries (a .row .now)) (a .keys .now) (a .ids .now) (l .keys) (l .ids) (l .i) (omega (arith, n .ensures)) (l .inv) in
-    (n .ensures ∙ sym size ∙ sym (length-map (rowEntries (a .row .now)) f), whole .0, whole .1)
+    let is = row .ensures ∙ one-row (a .row .now) (s .pre .counted) in
+    let whole = ranking-end f (row .result .now) (a .keys .now) (a .ids .now) (l .keys) (l .ids) (l .i) (omega arith) (l .inv .1) in (
+      sym (length-map (row .result .now) f) ∙ ap (λ (xs : List ℕ). length (map f xs)) is,
+      whole .0 ∙ ap (λ (xs : List ℕ). keysOf (map f xs) (a .keys .now)) is,
+      whole .1 ∙ ap (λ (xs : List ℕ). idsOf (map f xs) (a .ids .now)) is,
+    )
 
 pub rank-row-spec : {M : Type 1} → statement M
 rank-row-spec =
@@ -98,12 +103,10 @@ rank-row-spec =
     (tie.spec
     Inv-loop
     μ-loop
-    shared-slice-read-least
-    cast-least
-    sub-least
-    least-requires
+    sub-degree
+    cast-degree
+    row-of-requires
     loop-holds
-    add-node
     mul-node
     shared-slice-read-node
     node-key-requires
