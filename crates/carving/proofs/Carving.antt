@@ -131,22 +131,32 @@ module _ (maxLeaf minLeaf : ℕ) (fraction : Float) (vs : List (List Float)) whe
 
 -- ---- a front part and the rest of a slice, lent one after the other
 
-module _ (xs front : List ℕ) (size : ℕ) (within : size ≤ length xs) (is : length front ≡ size) where
-  abbrev pub once : List ℕ
+pub record Front (xs front : List ℕ) (size : ℕ) : Type 0 where
+  pub within : size ≤ length xs
+  pub is : length front ≡ size
+
+pub front-back : (xs front : List ℕ) (size : ℕ) → size ≤ length xs → length front ≡ length (take size xs) → Front xs front size
+front-back xs front size h e = record { within = h; is = e ∙ length-take-le size xs h }
+
+module _ (xs front : List ℕ) (size : ℕ) (f : Front xs front size) where
+  abbrev once : List ℕ
   once = front ++ drop size xs
 
-  pub once-length : length once ≡ length xs
+  once-length : length once ≡ length xs
   once-length = omega (arith, length-append front (drop size xs), length-drop size xs)
 
+  pub rest-starts : size ≤ length once
+  rest-starts = omega (arith, once-length)
+
   rest-is : drop size once ≡ drop size xs
-  rest-is = drop-at front (drop size xs) size is
+  rest-is = drop-at front (drop size xs) size (f .is)
 
   pub lent-rest : take (length once - size) (drop size once) ≡ drop size xs
   lent-rest = ap (take (length once - size)) rest-is ∙ take-all (length once - size) (drop size xs) (omega (arith, once-length, length-drop size xs))
 
   pub both-back : (rest : List ℕ) → putMid size (length once - size) once rest ≡ front ++ rest
   both-back rest =
-      ap₂ (λ (a : List ℕ) (b : List ℕ). a ++ (rest ++ b)) (take-at front (drop size xs) size is)
+      ap₂ (λ (a : List ℕ) (b : List ℕ). a ++ (rest ++ b)) (take-at front (drop size xs) size (f .is))
       (drop-drop (length once - size) size once ∙ drop-of-length-le once {i = size + (length once - size)} (omega (arith, once-length)))
       ∙ ap (λ (r : List ℕ). front ++ r) (append-nil rest)
 

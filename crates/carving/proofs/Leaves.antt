@@ -1,12 +1,12 @@
 -- The first bucket that marks tell, empty ones passed over; and the leaves that hold a node. Assumes nothing.
 use mathlib.Core.Path.{_≡_, refl, sym, ap, ap₂, _∙_}
 use mathlib.Core.List.{List, [], _∷_, _++_, map, map-append, flatten, append-nil}
-use Prim.Native.Nat.{ℕ, zero, suc, _+_, _≤_, _<_}
+use Prim.Native.Nat.{ℕ, zero, suc, _+_, _-_, _≤_, _<_}
 use native.Mathlib.Numerals.{add-one}
 use native.Mathlib.Omega.{arith}
 use lib.Dec.{eqb}
 use lib.ListN.{length, getD, take, drop, set, replicate, length-append, length-drop, drop-of-length-le}
-use lib.Seq.{drop-cons, drop-at, drop-drop, take-suc-set, append-snoc}
+use lib.Seq.{drop-cons, drop-at, drop-drop, take-all, take-suc-set, append-snoc}
 use borrow.Author.Tests.{eq-eqb, ne-eqb}
 use Rattle.basics.specs.Choice.{pick, pick-true, pick-false, pick-ind}
 use Rattle.partition.specs.Partition.{eachBy}
@@ -54,6 +54,30 @@ zeroes-within (x ∷ xs) =
 pub first-within : (marks : List ℕ) → 0 < length marks → (1 ≤ firstSize marks) × (firstSize marks ≤ length marks)
 unfolding firstSize
 first-within marks h = let w = zeroes-within (drop 1 marks) in (omega arith, omega (arith, length-drop 1 marks))
+
+-- the bucket that starts at `at`: its size, which fits what is left
+pub record NextSize (marks : List ℕ) (at size : ℕ) : Type 0 where
+  pub is : size ≡ firstSize (drop at marks)
+  pub some : 1 ≤ size
+  pub within : at + size ≤ length marks
+
+pub next-size : (marks : List ℕ) (at size : ℕ) → at < length marks → size ≡ firstSize (take (length marks - at) (drop at marks)) → NextSize marks at size
+next-size marks at size h e =
+    let d = length-drop at marks in
+    let w = first-within (drop at marks) (omega arith) in
+    let is : size ≡ firstSize (drop at marks) = e ∙ ap firstSize (take-all (length marks - at) (drop at marks) (omega arith)) in
+    record { is = is; some = omega arith; within = omega arith }
+
+-- the first of buckets that hold a node: its size, which fits both slices
+pub record FirstBucket (nodes marks : List ℕ) (size : ℕ) : Type 0 where
+  pub some : 1 ≤ size
+  pub in-nodes : size ≤ length nodes
+  pub in-marks : size ≤ length marks
+
+pub first-bucket : (nodes marks : List ℕ) (size : ℕ) → length marks ≡ length nodes → (length nodes ≡ 0 → ⊥) → size ≡ firstSize marks → FirstBucket nodes marks size
+first-bucket nodes marks size e f is =
+    let w = first-within marks (omega arith) in
+    record { some = omega arith; in-nodes = omega arith; in-marks = omega arith }
 
 -- ---- the marks of buckets
 

@@ -1,11 +1,11 @@
 -- The measure is how many levels are left, each worth more than the nodes of a segment, then how many nodes the buckets have. A bucket is
 -- carved by what its marks tell, and those behind it are carved in the same way.
-use mathlib.Core.Path.{_≡_, sym, ap, _∙_, subst}
+use mathlib.Core.Path.{sym, ap, _∙_, subst}
 use mathlib.Core.List.{List}
-use Prim.Native.Nat.{ℕ, _+_, _-_, _*_, _≤_, _<_}
+use Prim.Native.Nat.{ℕ, _+_, _-_, _*_, _<_}
 use borrow.Author.Needs.{needs}
 use native.Mathlib.Omega.{arith}
-use lib.ListN.{length, take, drop, length-drop}
+use lib.ListN.{length, drop, length-drop}
 use lib.Seq.{length-take-le}
 use borrow.Fn.Kinds.{In}
 use borrow.Fn.PlainCycle.{Measures, is, falls, and}
@@ -13,8 +13,8 @@ use Rattle.vectors.specs.Vectors.{vectorsIn}
 use Rattle.partition.specs.Partition.{bucketsOf}
 use Rattle.dealing.specs.Deal.{Holding}
 use Rattle.carving.specs.Steps.{CarvesBuckets}
-use Rattle.carving.proofs.Leaves.{first-within}
-use Rattle.carving.proofs.Carving.{fan-some, leaf-small, leaf-deep, leaf-stays, dealt-down, buckets-end, buckets-step, once, once-length, lent-rest, both-back}
+use Rattle.carving.proofs.Leaves.{FirstBucket, first-bucket}
+use Rattle.carving.proofs.Carving.{fan-some, leaf-small, leaf-deep, leaf-stays, dealt-down, buckets-end, buckets-step, Front, front-back, rest-starts, lent-rest, both-back}
 use Rattle.carving.proofs.carve_buckets.Reads as carve-buckets
 use Rattle.carving.proofs.carve_buckets.Kinds as carve-buckets-kinds
 use Rattle.carving.proofs.+carve_buckets+carve_segment.Lts-carve_buckets as carve-buckets-lts
@@ -63,242 +63,116 @@ buckets-claims t = (first-size-reads.Asked, first-size-reads.Learnt, carve-segme
 abbrev segment-claims : ℕ → carve-segment-lts.Claims
 segment-claims t = (fan-of-reads.Asked, fan-of-reads.Learnt, deal-over-reads.Asked, deal-over-reads.Learnt, carve-buckets-below t, carve-buckets.Post)
 
-carve-buckets-returns : (t : ℕ) → carve-buckets-lts.Need-returns (buckets-claims t) (carve-buckets-at t) carve-buckets.Post
-carve-buckets-returns t c =
-    let s = c .before .before .before .before in
-    let x = s .args in
-    buckets-end (x .max-leaf) (x .min-leaf) (x .leader-fraction) (vectorsIn (x .dimension) (x .vectors .now)) (x .level) (x .nodes .now) (x .marks .now) (c .if1 .taken) (s .pre .1 .marked)
+module _ (t : ℕ) where
+  -- where the size of the first bucket is known, and where that bucket is carved
+  abbrev Sized : Type 0
+  Sized = carve-buckets-lts.After-first-size (buckets-claims t) (carve-buckets-at t) carve-buckets.Post
 
-carve-buckets-first-size-requires : (t : ℕ) → carve-buckets-lts.Need-first-size-requires (buckets-claims t) (carve-buckets-at t) carve-buckets.Post
-carve-buckets-first-size-requires t c κs = search needs
+  abbrev Begun : Type 0
+  Begun = carve-buckets-lts.After-carve-segment (buckets-claims t) (carve-buckets-at t) carve-buckets.Post
 
-carve-buckets-slice-relend-prefix-carve-segment : (t : ℕ) → carve-buckets-lts.Need-slice-relend-prefix-carve-segment (buckets-claims t) (carve-buckets-at t) carve-buckets.Post
-carve-buckets-slice-relend-prefix-carve-segment t c =
-    let s = c .before .before .before .before .before .before in
-    let x = s .args in
-    let seg = s .pre .1 in
-    let one = c .first-size in
-    let w = first-within (x .marks .now) (omega (arith, c .before .before .if1 .left, seg .marked)) in
-    let within : one .result ≤ length (x .nodes .now) = omega (arith, one .ensures, seg .marked) in
-    let within′ : one .result ≤ length (x .marks .now) = omega (arith, one .ensures) in
-    within
+  abbrev start : Sized → carve-buckets-lts.Start (buckets-claims t) (carve-buckets-at t) carve-buckets.Post
+  start c = c .before .before .before .before .before .before
 
-carve-buckets-slice-aggregate-carve-segment : (t : ℕ) → carve-buckets-lts.Need-slice-aggregate-carve-segment (buckets-claims t) (carve-buckets-at t) carve-buckets.Post
-carve-buckets-slice-aggregate-carve-segment t c =
-    let s = c .before .before .before .before .before .before .before in
-    let x = s .args in
-    let seg = s .pre .1 in
-    let one = c .before .first-size in
-    let w = first-within (x .marks .now) (omega (arith, c .before .before .before .if1 .left, seg .marked)) in
-    let within : one .result ≤ length (x .nodes .now) = omega (arith, one .ensures, seg .marked) in
-    let within′ : one .result ≤ length (x .marks .now) = omega (arith, one .ensures) in
-    sym (length-take-le _ _ within)
+  abbrev nodes : Sized → List ℕ
+  nodes c = start c .args .nodes .now
 
-carve-buckets-slice-relend-prefix-carve-segment-2 : (t : ℕ) → carve-buckets-lts.Need-slice-relend-prefix-carve-segment-2 (buckets-claims t) (carve-buckets-at t) carve-buckets.Post
-carve-buckets-slice-relend-prefix-carve-segment-2 t c =
-    let s = c .before .before .before .before .before .before .before in
-    let x = s .args in
-    let seg = s .pre .1 in
-    let one = c .before .first-size in
-    let w = first-within (x .marks .now) (omega (arith, c .before .before .before .if1 .left, seg .marked)) in
-    let within : one .result ≤ length (x .nodes .now) = omega (arith, one .ensures, seg .marked) in
-    let within′ : one .result ≤ length (x .marks .now) = omega (arith, one .ensures) in
-    within′
+  abbrev marks : Sized → List ℕ
+  marks c = start c .args .marks .now
 
-carve-buckets-slice-aggregate-carve-segment-2 : (t : ℕ) → carve-buckets-lts.Need-slice-aggregate-carve-segment-2 (buckets-claims t) (carve-buckets-at t) carve-buckets.Post
-carve-buckets-slice-aggregate-carve-segment-2 t c =
-    let s = c .before .before .before .before .before .before .before .before in
-    let x = s .args in
-    let seg = s .pre .1 in
-    let one = c .before .before .first-size in
-    let w = first-within (x .marks .now) (omega (arith, c .before .before .before .before .if1 .left, seg .marked)) in
-    let within : one .result ≤ length (x .nodes .now) = omega (arith, one .ensures, seg .marked) in
-    let within′ : one .result ≤ length (x .marks .now) = omega (arith, one .ensures) in
-    sym (length-take-le _ _ within′)
+  abbrev sized : Begun → Sized
+  sized c = c .before .before .before
 
-carve-buckets-carve-segment-requires : (t : ℕ) → carve-buckets-lts.Need-carve-segment-requires (buckets-claims t) (carve-buckets-at t) carve-buckets.Post
-carve-buckets-carve-segment-requires t c κs =
-    let s = c .before .before .before .before .before .before .before .before in
-    let x = s .args in
-    let seg = s .pre .1 in
-    let one = c .before .before .first-size in
-    let w = first-within (x .marks .now) (omega (arith, c .before .before .before .before .if1 .left, seg .marked)) in
-    let within : one .result ≤ length (x .nodes .now) = omega (arith, one .ensures, seg .marked) in
-    let within′ : one .result ≤ length (x .marks .now) = omega (arith, one .ensures) in
-    let a = length-take-le (one .result) (x .nodes .now) within in
-    let b = length-take-le (one .result) (x .marks .now) within′ in
-    (omega (arith, s .pre .0), record { some = seg .some; below = seg .below; levels = seg .levels; few = omega (arith, a, seg .few); marked = b ∙ sym a })
+  -- its nodes and marks, carved
+  abbrev n₁ : Begun → List ℕ
+  n₁ c = c .carve-segment .last .1 .1 .1 .1 .1 .1 .0
 
-carve-buckets-mul-carve-buckets : (t : ℕ) → carve-buckets-lts.Need-mul-carve-buckets (buckets-claims t) (carve-buckets-at t) carve-buckets.Post
-carve-buckets-mul-carve-buckets t c =
-    let s = c .before .before .before .before .before .before .before .before .before .before .before .before .before in
-    let x = s .args in
-    let seg = s .pre .1 in
-    let one = c .before .before .before .before .before .before .before .first-size in
-    let w = first-within (x .marks .now) (omega (arith, c .before .before .before .before .before .before .before .before .before .if1 .left, seg .marked)) in
-    let within : one .result ≤ length (x .nodes .now) = omega (arith, one .ensures, seg .marked) in
-    let within′ : one .result ≤ length (x .marks .now) = omega (arith, one .ensures) in
-    let first-one = c .before .before .before .before .carve-segment in
-    let n₁ : List ℕ = first-one .last .1 .1 .1 .1 .1 .1 .0 in
-    let m₁ : List ℕ = first-one .last .1 .1 .1 .1 .1 .1 .1 .0 in
-    let nodes-size : length n₁ ≡ one .result = first-one .kept .1 .1 .1 .1 .1 .1 .0 ∙ length-take-le _ _ within in
-    let marks-size : length m₁ ≡ one .result = first-one .kept .1 .1 .1 .1 .1 .1 .1 .0 ∙ length-take-le _ _ within′ in
-    let nodes-long = once-length (x .nodes .now) n₁ (one .result) within nodes-size in
-    let marks-long = once-length (x .marks .now) m₁ (one .result) within′ marks-size in
-    search needs
+  abbrev m₁ : Begun → List ℕ
+  m₁ c = c .carve-segment .last .1 .1 .1 .1 .1 .1 .1 .0
 
-carve-buckets-sub-carve-buckets : (t : ℕ) → carve-buckets-lts.Need-sub-carve-buckets (buckets-claims t) (carve-buckets-at t) carve-buckets.Post
-carve-buckets-sub-carve-buckets t c =
-    let s = c .before .before .before .before .before .before .before .before .before .before .before .before .before in
-    let x = s .args in
-    let seg = s .pre .1 in
-    let one = c .before .before .before .before .before .before .before .first-size in
-    let w = first-within (x .marks .now) (omega (arith, c .before .before .before .before .before .before .before .before .before .if1 .left, seg .marked)) in
-    let within : one .result ≤ length (x .nodes .now) = omega (arith, one .ensures, seg .marked) in
-    let within′ : one .result ≤ length (x .marks .now) = omega (arith, one .ensures) in
-    let first-one = c .before .before .before .before .carve-segment in
-    let n₁ : List ℕ = first-one .last .1 .1 .1 .1 .1 .1 .0 in
-    let m₁ : List ℕ = first-one .last .1 .1 .1 .1 .1 .1 .1 .0 in
-    let nodes-size : length n₁ ≡ one .result = first-one .kept .1 .1 .1 .1 .1 .1 .0 ∙ length-take-le _ _ within in
-    let marks-size : length m₁ ≡ one .result = first-one .kept .1 .1 .1 .1 .1 .1 .1 .0 ∙ length-take-le _ _ within′ in
-    let nodes-long = once-length (x .nodes .now) n₁ (one .result) within nodes-size in
-    let marks-long = once-length (x .marks .now) m₁ (one .result) within′ marks-size in
-    omega arith
+  first-fits : (c : Sized) → FirstBucket (nodes c) (marks c) (c .first-size .result)
+  first-fits c = first-bucket _ _ _ (start c .pre .1 .marked) (c .before .before .if1 .left) (c .first-size .ensures)
 
-carve-buckets-part-carve-buckets-start : (t : ℕ) → carve-buckets-lts.Need-part-carve-buckets-start (buckets-claims t) (carve-buckets-at t) carve-buckets.Post
-carve-buckets-part-carve-buckets-start t c =
-    let s = c .before .before .before .before .before .before .before .before .before .before .before .before .before in
-    let x = s .args in
-    let seg = s .pre .1 in
-    let one = c .before .before .before .before .before .before .before .first-size in
-    let w = first-within (x .marks .now) (omega (arith, c .before .before .before .before .before .before .before .before .before .if1 .left, seg .marked)) in
-    let within : one .result ≤ length (x .nodes .now) = omega (arith, one .ensures, seg .marked) in
-    let within′ : one .result ≤ length (x .marks .now) = omega (arith, one .ensures) in
-    let first-one = c .before .before .before .before .carve-segment in
-    let n₁ : List ℕ = first-one .last .1 .1 .1 .1 .1 .1 .0 in
-    let m₁ : List ℕ = first-one .last .1 .1 .1 .1 .1 .1 .1 .0 in
-    let nodes-size : length n₁ ≡ one .result = first-one .kept .1 .1 .1 .1 .1 .1 .0 ∙ length-take-le _ _ within in
-    let marks-size : length m₁ ≡ one .result = first-one .kept .1 .1 .1 .1 .1 .1 .1 .0 ∙ length-take-le _ _ within′ in
-    let nodes-long = once-length (x .nodes .now) n₁ (one .result) within nodes-size in
-    let marks-long = once-length (x .marks .now) m₁ (one .result) within′ marks-size in
-    omega arith
+  nodes-front : (c : Begun) → Front (nodes (sized c)) (n₁ c) (sized c .first-size .result)
+  nodes-front c = front-back _ _ _ (first-fits (sized c) .in-nodes) (c .carve-segment .kept .1 .1 .1 .1 .1 .1 .0)
 
-carve-buckets-part-carve-buckets-end : (t : ℕ) → carve-buckets-lts.Need-part-carve-buckets-end (buckets-claims t) (carve-buckets-at t) carve-buckets.Post
-carve-buckets-part-carve-buckets-end t c = search needs
+  marks-front : (c : Begun) → Front (marks (sized c)) (m₁ c) (sized c .first-size .result)
+  marks-front c = front-back _ _ _ (first-fits (sized c) .in-marks) (c .carve-segment .kept .1 .1 .1 .1 .1 .1 .1 .0)
 
-carve-buckets-mul-carve-buckets-2 : (t : ℕ) → carve-buckets-lts.Need-mul-carve-buckets-2 (buckets-claims t) (carve-buckets-at t) carve-buckets.Post
-carve-buckets-mul-carve-buckets-2 t c =
-    let s = c .before .before .before .before .before .before .before .before .before .before .before .before .before .before in
-    let x = s .args in
-    let seg = s .pre .1 in
-    let one = c .before .before .before .before .before .before .before .before .first-size in
-    let w = first-within (x .marks .now) (omega (arith, c .before .before .before .before .before .before .before .before .before .before .if1 .left, seg .marked)) in
-    let within : one .result ≤ length (x .nodes .now) = omega (arith, one .ensures, seg .marked) in
-    let within′ : one .result ≤ length (x .marks .now) = omega (arith, one .ensures) in
-    let first-one = c .before .before .before .before .before .carve-segment in
-    let n₁ : List ℕ = first-one .last .1 .1 .1 .1 .1 .1 .0 in
-    let m₁ : List ℕ = first-one .last .1 .1 .1 .1 .1 .1 .1 .0 in
-    let nodes-size : length n₁ ≡ one .result = first-one .kept .1 .1 .1 .1 .1 .1 .0 ∙ length-take-le _ _ within in
-    let marks-size : length m₁ ≡ one .result = first-one .kept .1 .1 .1 .1 .1 .1 .1 .0 ∙ length-take-le _ _ within′ in
-    let nodes-long = once-length (x .nodes .now) n₁ (one .result) within nodes-size in
-    let marks-long = once-length (x .marks .now) m₁ (one .result) within′ marks-size in
-    search needs
+  carve-buckets-returns : carve-buckets-lts.Need-returns (buckets-claims t) (carve-buckets-at t) carve-buckets.Post
+  carve-buckets-returns c =
+      let s = c .before .before .before .before in
+      let x = s .args in
+      buckets-end (x .max-leaf) (x .min-leaf) (x .leader-fraction) (vectorsIn (x .dimension) (x .vectors .now)) (x .level) (x .nodes .now) (x .marks .now) (c .if1 .taken) (s .pre .1 .marked)
 
-carve-buckets-sub-carve-buckets-2 : (t : ℕ) → carve-buckets-lts.Need-sub-carve-buckets-2 (buckets-claims t) (carve-buckets-at t) carve-buckets.Post
-carve-buckets-sub-carve-buckets-2 t c =
-    let s = c .before .before .before .before .before .before .before .before .before .before .before .before .before .before in
-    let x = s .args in
-    let seg = s .pre .1 in
-    let one = c .before .before .before .before .before .before .before .before .first-size in
-    let w = first-within (x .marks .now) (omega (arith, c .before .before .before .before .before .before .before .before .before .before .if1 .left, seg .marked)) in
-    let within : one .result ≤ length (x .nodes .now) = omega (arith, one .ensures, seg .marked) in
-    let within′ : one .result ≤ length (x .marks .now) = omega (arith, one .ensures) in
-    let first-one = c .before .before .before .before .before .carve-segment in
-    let n₁ : List ℕ = first-one .last .1 .1 .1 .1 .1 .1 .0 in
-    let m₁ : List ℕ = first-one .last .1 .1 .1 .1 .1 .1 .1 .0 in
-    let nodes-size : length n₁ ≡ one .result = first-one .kept .1 .1 .1 .1 .1 .1 .0 ∙ length-take-le _ _ within in
-    let marks-size : length m₁ ≡ one .result = first-one .kept .1 .1 .1 .1 .1 .1 .1 .0 ∙ length-take-le _ _ within′ in
-    let nodes-long = once-length (x .nodes .now) n₁ (one .result) within nodes-size in
-    let marks-long = once-length (x .marks .now) m₁ (one .result) within′ marks-size in
-    omega arith
+  carve-buckets-slice-relend-prefix-carve-segment : carve-buckets-lts.Need-slice-relend-prefix-carve-segment (buckets-claims t) (carve-buckets-at t) carve-buckets.Post
+  carve-buckets-slice-relend-prefix-carve-segment c = first-fits c .in-nodes
 
-carve-buckets-part-carve-buckets-start-2 : (t : ℕ) → carve-buckets-lts.Need-part-carve-buckets-start-2 (buckets-claims t) (carve-buckets-at t) carve-buckets.Post
-carve-buckets-part-carve-buckets-start-2 t c =
-    let s = c .before .before .before .before .before .before .before .before .before .before .before .before .before .before in
-    let x = s .args in
-    let seg = s .pre .1 in
-    let one = c .before .before .before .before .before .before .before .before .first-size in
-    let w = first-within (x .marks .now) (omega (arith, c .before .before .before .before .before .before .before .before .before .before .if1 .left, seg .marked)) in
-    let within : one .result ≤ length (x .nodes .now) = omega (arith, one .ensures, seg .marked) in
-    let within′ : one .result ≤ length (x .marks .now) = omega (arith, one .ensures) in
-    let first-one = c .before .before .before .before .before .carve-segment in
-    let n₁ : List ℕ = first-one .last .1 .1 .1 .1 .1 .1 .0 in
-    let m₁ : List ℕ = first-one .last .1 .1 .1 .1 .1 .1 .1 .0 in
-    let nodes-size : length n₁ ≡ one .result = first-one .kept .1 .1 .1 .1 .1 .1 .0 ∙ length-take-le _ _ within in
-    let marks-size : length m₁ ≡ one .result = first-one .kept .1 .1 .1 .1 .1 .1 .1 .0 ∙ length-take-le _ _ within′ in
-    let nodes-long = once-length (x .nodes .now) n₁ (one .result) within nodes-size in
-    let marks-long = once-length (x .marks .now) m₁ (one .result) within′ marks-size in
-    omega arith
+  carve-buckets-slice-aggregate-carve-segment : carve-buckets-lts.Need-slice-aggregate-carve-segment (buckets-claims t) (carve-buckets-at t) carve-buckets.Post
+  carve-buckets-slice-aggregate-carve-segment c = sym (length-take-le _ _ (first-fits (c .before) .in-nodes))
 
-carve-buckets-part-carve-buckets-end-2 : (t : ℕ) → carve-buckets-lts.Need-part-carve-buckets-end-2 (buckets-claims t) (carve-buckets-at t) carve-buckets.Post
-carve-buckets-part-carve-buckets-end-2 t c = search needs
+  carve-buckets-slice-relend-prefix-carve-segment-2 : carve-buckets-lts.Need-slice-relend-prefix-carve-segment-2 (buckets-claims t) (carve-buckets-at t) carve-buckets.Post
+  carve-buckets-slice-relend-prefix-carve-segment-2 c = first-fits (c .before) .in-marks
 
-carve-buckets-carve-buckets-requires : (t : ℕ) → carve-buckets-lts.Need-carve-buckets-requires (buckets-claims t) (carve-buckets-at t) carve-buckets.Post
-carve-buckets-carve-buckets-requires t c κs =
-    let s = c .before .before .before .before .before .before .before .before .before .before .before .before .before .before .before in
-    let x = s .args in
-    let seg = s .pre .1 in
-    let one = c .before .before .before .before .before .before .before .before .before .first-size in
-    let w = first-within (x .marks .now) (omega (arith, c .before .before .before .before .before .before .before .before .before .before .before .if1 .left, seg .marked)) in
-    let within : one .result ≤ length (x .nodes .now) = omega (arith, one .ensures, seg .marked) in
-    let within′ : one .result ≤ length (x .marks .now) = omega (arith, one .ensures) in
-    let first-one = c .before .before .before .before .before .before .carve-segment in
-    let n₁ : List ℕ = first-one .last .1 .1 .1 .1 .1 .1 .0 in
-    let m₁ : List ℕ = first-one .last .1 .1 .1 .1 .1 .1 .1 .0 in
-    let nodes-size : length n₁ ≡ one .result = first-one .kept .1 .1 .1 .1 .1 .1 .0 ∙ length-take-le _ _ within in
-    let marks-size : length m₁ ≡ one .result = first-one .kept .1 .1 .1 .1 .1 .1 .1 .0 ∙ length-take-le _ _ within′ in
-    let nodes-long = once-length (x .nodes .now) n₁ (one .result) within nodes-size in
-    let marks-long = once-length (x .marks .now) m₁ (one .result) within′ marks-size in
-    let a = ap length (lent-rest (x .nodes .now) n₁ (one .result) within nodes-size) in
-    let b = ap length (lent-rest (x .marks .now) m₁ (one .result) within′ marks-size) in
-    let d = length-drop (one .result) (x .nodes .now) in
-    let e = length-drop (one .result) (x .marks .now) in
-    (omega (arith, s .pre .0, one .ensures), record { some = seg .some; below = seg .below; levels = seg .levels; few = omega (arith, seg .few); marked = omega (arith, seg .marked) })
+  carve-buckets-slice-aggregate-carve-segment-2 : carve-buckets-lts.Need-slice-aggregate-carve-segment-2 (buckets-claims t) (carve-buckets-at t) carve-buckets.Post
+  carve-buckets-slice-aggregate-carve-segment-2 c = sym (length-take-le _ _ (first-fits (c .before .before) .in-marks))
 
-carve-buckets-same-length : (t : ℕ) → carve-buckets-lts.Need-same-length (buckets-claims t) (carve-buckets-at t) carve-buckets.Post
-carve-buckets-same-length t c = search needs
+  carve-buckets-carve-segment-requires : carve-buckets-lts.Need-carve-segment-requires (buckets-claims t) (carve-buckets-at t) carve-buckets.Post
+  carve-buckets-carve-segment-requires c κs =
+      let f = first-fits (c .before .before) in
+      let s = start (c .before .before) in
+      let seg = s .pre .1 in
+      let a = length-take-le (c .before .before .first-size .result) (s .args .nodes .now) (f .in-nodes) in
+      let b = length-take-le (c .before .before .first-size .result) (s .args .marks .now) (f .in-marks) in
+      (omega (arith, s .pre .0), record { some = seg .some; below = seg .below; levels = seg .levels; few = omega (arith, a, seg .few); marked = b ∙ sym a })
 
-carve-buckets-same-length-2 : (t : ℕ) → carve-buckets-lts.Need-same-length-2 (buckets-claims t) (carve-buckets-at t) carve-buckets.Post
-carve-buckets-same-length-2 t c = search needs
+  carve-buckets-mul-carve-buckets : carve-buckets-lts.Need-mul-carve-buckets (buckets-claims t) (carve-buckets-at t) carve-buckets.Post
+  carve-buckets-mul-carve-buckets c = let f = first-fits (sized (c .before .before .before .before)) in search needs
 
-carve-buckets-returns-2 : (t : ℕ) → carve-buckets-lts.Need-returns-2 (buckets-claims t) (carve-buckets-at t) carve-buckets.Post
-carve-buckets-returns-2 t c =
-    let s = c .before .before .before .before .before .before .before .before .before .before .before .before .before .before .before .before .before .before .before .before in
-    let x = s .args in
-    let seg = s .pre .1 in
-    let one = c .before .before .before .before .before .before .before .before .before .before .before .before .before .before .first-size in
-    let w = first-within (x .marks .now) (omega (arith, c .before .before .before .before .before .before .before .before .before .before .before .before .before .before .before .before .if1 .left, seg .marked)) in
-    let within : one .result ≤ length (x .nodes .now) = omega (arith, one .ensures, seg .marked) in
-    let within′ : one .result ≤ length (x .marks .now) = omega (arith, one .ensures) in
-    let first-one = c .before .before .before .before .before .before .before .before .before .before .before .carve-segment in
-    let n₁ : List ℕ = first-one .last .1 .1 .1 .1 .1 .1 .0 in
-    let m₁ : List ℕ = first-one .last .1 .1 .1 .1 .1 .1 .1 .0 in
-    let nodes-size : length n₁ ≡ one .result = first-one .kept .1 .1 .1 .1 .1 .1 .0 ∙ length-take-le _ _ within in
-    let marks-size : length m₁ ≡ one .result = first-one .kept .1 .1 .1 .1 .1 .1 .1 .0 ∙ length-take-le _ _ within′ in
-    let nodes-long = once-length (x .nodes .now) n₁ (one .result) within nodes-size in
-    let marks-long = once-length (x .marks .now) m₁ (one .result) within′ marks-size in
-    let others = c .before .before .before .before .carve-buckets in
-    let n₂ : List ℕ = others .last .1 .1 .1 .1 .1 .1 .0 in
-    let m₂ : List ℕ = others .last .1 .1 .1 .1 .1 .1 .1 .0 in
-    let whole : List ℕ = once (x .nodes .now) n₁ (one .result) within nodes-size in
-    let post : CarvesBuckets (x .max-leaf) (x .min-leaf) (x .leader-fraction) (vectorsIn (x .dimension) (x .vectors .now)) (x .level) (drop (one .result) (x .nodes .now)) (drop (one .result) (x .marks .now)) n₂ m₂ =
-    subst (λ (l : List ℕ). CarvesBuckets (x .max-leaf) (x .min-leaf) (x .leader-fraction) (vectorsIn (x .dimension) (x .vectors .now)) (x .level) l (drop (one .result) (x .marks .now)) n₂ m₂) (lent-rest (x .nodes .now) n₁ (one .result) within nodes-size)
-    (subst (λ (l : List ℕ). CarvesBuckets (x .max-leaf) (x .min-leaf) (x .leader-fraction) (vectorsIn (x .dimension) (x .vectors .now)) (x .level) (take (length whole - one .result) (drop (one .result) whole)) l n₂ m₂) (lent-rest (x .marks .now) m₁ (one .result) within′ marks-size) (others .ensures)) in
-    let step = buckets-step (x .max-leaf) (x .min-leaf) (x .leader-fraction) (vectorsIn (x .dimension) (x .vectors .now)) (x .level) (x .nodes .now) (x .marks .now) n₁ m₁ n₂ m₂ (one .result) (omega (arith, c .before .before .before .before .before .before .before .before .before .before .before .before .before .before .before .before .if1 .left)) (one .ensures) (first-one .ensures) post in
-    λ bs h. (both-back (x .nodes .now) n₁ (one .result) within nodes-size n₂ ∙ step bs h .0, both-back (x .marks .now) m₁ (one .result) within′ marks-size m₂ ∙ step bs h .1)
+  carve-buckets-sub-carve-buckets : carve-buckets-lts.Need-sub-carve-buckets (buckets-claims t) (carve-buckets-at t) carve-buckets.Post
+  carve-buckets-sub-carve-buckets c = rest-starts _ _ _ (nodes-front (c .before .before .before .before))
 
-carve-segment-fan-of-requires : (t : ℕ) → carve-segment-lts.Need-fan-of-requires (segment-claims t) (carve-segment-at t) carve-segment.Post
-carve-segment-fan-of-requires t c κs = search needs
+  carve-buckets-part-carve-buckets-start : carve-buckets-lts.Need-part-carve-buckets-start (buckets-claims t) (carve-buckets-at t) carve-buckets.Post
+  carve-buckets-part-carve-buckets-start c = rest-starts _ _ _ (nodes-front (c .before .before .before .before))
+
+  carve-buckets-mul-carve-buckets-2 : carve-buckets-lts.Need-mul-carve-buckets-2 (buckets-claims t) (carve-buckets-at t) carve-buckets.Post
+  carve-buckets-mul-carve-buckets-2 c = let f = first-fits (sized (c .before .before .before .before .before)) in search needs
+
+  carve-buckets-sub-carve-buckets-2 : carve-buckets-lts.Need-sub-carve-buckets-2 (buckets-claims t) (carve-buckets-at t) carve-buckets.Post
+  carve-buckets-sub-carve-buckets-2 c = rest-starts _ _ _ (marks-front (c .before .before .before .before .before))
+
+  carve-buckets-part-carve-buckets-start-2 : carve-buckets-lts.Need-part-carve-buckets-start-2 (buckets-claims t) (carve-buckets-at t) carve-buckets.Post
+  carve-buckets-part-carve-buckets-start-2 c = rest-starts _ _ _ (marks-front (c .before .before .before .before .before))
+
+  carve-buckets-carve-buckets-requires : carve-buckets-lts.Need-carve-buckets-requires (buckets-claims t) (carve-buckets-at t) carve-buckets.Post
+  carve-buckets-carve-buckets-requires c κs =
+      let begun = c .before .before .before .before .before .before in
+      let one = sized begun .first-size .result in
+      let s = start (sized begun) in
+      let seg = s .pre .1 in
+      let f = first-fits (sized begun) in
+      let a = ap length (lent-rest (s .args .nodes .now) (n₁ begun) one (nodes-front begun)) in
+      let b = ap length (lent-rest (s .args .marks .now) (m₁ begun) one (marks-front begun)) in
+      let d = length-drop one (s .args .nodes .now) in
+      let e = length-drop one (s .args .marks .now) in
+      (omega (arith, s .pre .0), record { some = seg .some; below = seg .below; levels = seg .levels; few = omega (arith, seg .few); marked = omega (arith, seg .marked) })
+
+  carve-buckets-returns-2 : carve-buckets-lts.Need-returns-2 (buckets-claims t) (carve-buckets-at t) carve-buckets.Post
+  carve-buckets-returns-2 c =
+      let begun = c .before .before .before .before .before .before .before .before .before .before .before in
+      let at = sized begun in
+      let one = at .first-size .result in
+      let x = start at .args in
+      let others = c .before .before .before .before .carve-buckets in
+      let n₂ : List ℕ = others .last .1 .1 .1 .1 .1 .1 .0 in
+      let m₂ : List ℕ = others .last .1 .1 .1 .1 .1 .1 .1 .0 in
+      let vs = vectorsIn (x .dimension) (x .vectors .now) in
+      let rest-nodes = lent-rest (x .nodes .now) (n₁ begun) one (nodes-front begun) in
+      let rest-marks = lent-rest (x .marks .now) (m₁ begun) one (marks-front begun) in
+      let post : CarvesBuckets (x .max-leaf) (x .min-leaf) (x .leader-fraction) vs (x .level) (drop one (x .nodes .now)) (drop one (x .marks .now)) n₂ m₂ =
+      rw (← rest-nodes, ← rest-marks) (others .ensures) in
+      let step = buckets-step (x .max-leaf) (x .min-leaf) (x .leader-fraction) vs (x .level) (x .nodes .now) (x .marks .now) (n₁ begun) (m₁ begun) n₂ m₂ one (omega (arith, first-fits at .some, first-fits at .in-nodes)) (at .first-size .ensures) (begun .carve-segment .ensures) post in
+      λ bs h. (both-back (x .nodes .now) (n₁ begun) one (nodes-front begun) n₂ ∙ step bs h .0, both-back (x .marks .now) (m₁ begun) one (marks-front begun) m₂ ∙ step bs h .1)
 
 carve-segment-returns : (t : ℕ) → carve-segment-lts.Need-returns (segment-claims t) (carve-segment-at t) carve-segment.Post
 carve-segment-returns t c =
@@ -316,9 +190,6 @@ carve-segment-deal-over-requires t c κs =
     let seg = s .pre .1 in
     (seg .below, fan-some (s .args .level) (λ z. c .before .before .before .if1 .left (c .before .before .before .before .fan-of .ensures ∙ z)), omega (arith, seg .some, c .before .before .if2 .left), seg .few, seg .marked)
 
-carve-segment-add-carve-buckets : (t : ℕ) → carve-segment-lts.Need-add-carve-buckets (segment-claims t) (carve-segment-at t) carve-segment.Post
-carve-segment-add-carve-buckets t c = search needs
-
 carve-segment-carve-buckets-requires : (t : ℕ) → carve-segment-lts.Need-carve-buckets-requires (segment-claims t) (carve-segment-at t) carve-segment.Post
 carve-segment-carve-buckets-requires t c κs =
     let s = c .before .before .before .before .before .before .before .before .before .before .before .before .before .before .before in
@@ -328,12 +199,6 @@ carve-segment-carve-buckets-requires t c κs =
     let a = over .kept .1 .1 .1 .1 .1 .0 in
     let b = over .kept .1 .1 .1 .1 .1 .1 .0 in
     (omega (arith, s .pre .0, a, seg .few), record { some = seg .some; below = omega arith; levels = omega arith; few = omega (arith, a, seg .few); marked = b ∙ seg .marked ∙ sym a })
-
-carve-segment-same-length : (t : ℕ) → carve-segment-lts.Need-same-length (segment-claims t) (carve-segment-at t) carve-segment.Post
-carve-segment-same-length t c = search needs
-
-carve-segment-same-length-2 : (t : ℕ) → carve-segment-lts.Need-same-length-2 (segment-claims t) (carve-segment-at t) carve-segment.Post
-carve-segment-same-length-2 t c = search needs
 
 carve-segment-returns-3 : (t : ℕ) → carve-segment-lts.Need-returns-3 (segment-claims t) (carve-segment-at t) carve-segment.Post
 carve-segment-returns-3 t c m =
@@ -349,7 +214,7 @@ pub +carve-buckets+carve-segment-spec : {M : Type 1} → statement M
     (carve-buckets-at t)
     carve-buckets.Post
     (carve-buckets-returns t)
-    (carve-buckets-first-size-requires t)
+    (search needs)
     (carve-buckets-slice-relend-prefix-carve-segment t)
     (carve-buckets-slice-aggregate-carve-segment t)
     (carve-buckets-slice-relend-prefix-carve-segment-2 t)
@@ -358,24 +223,24 @@ pub +carve-buckets+carve-segment-spec : {M : Type 1} → statement M
     (carve-buckets-mul-carve-buckets t)
     (carve-buckets-sub-carve-buckets t)
     (carve-buckets-part-carve-buckets-start t)
-    (carve-buckets-part-carve-buckets-end t)
+    (search needs)
     (carve-buckets-mul-carve-buckets-2 t)
     (carve-buckets-sub-carve-buckets-2 t)
     (carve-buckets-part-carve-buckets-start-2 t)
-    (carve-buckets-part-carve-buckets-end-2 t)
+    (search needs)
     (carve-buckets-carve-buckets-requires t)
-    (carve-buckets-same-length t)
-    (carve-buckets-same-length-2 t)
+    (search needs)
+    (search needs)
     (carve-buckets-returns-2 t))
     λ t. carve-segment-lts.spec (segment-claims t)
     (carve-segment-at t)
     carve-segment.Post
-    (carve-segment-fan-of-requires t)
+    (search needs)
     (carve-segment-returns t)
     (carve-segment-returns-2 t)
     (carve-segment-deal-over-requires t)
-    (carve-segment-add-carve-buckets t)
+    (search needs)
     (carve-segment-carve-buckets-requires t)
-    (carve-segment-same-length t)
-    (carve-segment-same-length-2 t)
+    (search needs)
+    (search needs)
     (carve-segment-returns-3 t)

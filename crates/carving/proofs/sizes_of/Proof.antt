@@ -1,13 +1,11 @@
 -- The invariant, for any leaves whose marks these are: the sizes of some are listed, and the marks of the others follow (`Listed`). The measure is how
 -- many marks are left. Assumes nothing.
-use mathlib.Core.Path.{_≡_, refl, ap, _∙_}
+use mathlib.Core.Path.{_≡_, refl, _∙_}
 use mathlib.Core.List.{List}
 use Prim.Native.Nat.{ℕ, _-_, _≤_}
-use lib.ListN.{length, take, drop, length-drop, length-set}
-use lib.Seq.{take-all}
+use lib.ListN.{length, length-set}
 use Rattle.dealing.specs.Marks.{marksOf}
-use Rattle.carving.specs.Steps.{firstSize}
-use Rattle.carving.proofs.Leaves.{Listed, listed-none, listed-more, listed-done, first-within}
+use Rattle.carving.proofs.Leaves.{Listed, listed-none, listed-more, listed-done, NextSize, next-size}
 use borrow.Author.Needs.{needs}
 use native.Mathlib.Omega.{arith}
 use Rattle.carving.proofs.sizes_of.Statement.{statement}
@@ -38,99 +36,36 @@ part-first-size-end c = search needs
 first-size-requires : tie.Need-first-size-requires Inv-loop μ-loop
 first-size-requires c κs = search needs
 
+next : (c : tie.After-first-size Inv-loop μ-loop) → NextSize (c .before .before .before .before .before .before .args .marks .now) (c .before .before .before .loop .at) (c .first-size .result)
+next c = next-size _ _ _ (c .before .before .loop-test .taken) (c .first-size .ensures)
+
 cast-sizes : tie.Need-cast-sizes Inv-loop μ-loop
-cast-sizes c =
-    let l = c .before .before .before .loop in
-    let s = c .before .before .before .before .before .before in
-    let m : List ℕ = s .args .marks .now in
-    let one = c .first-size in
-    let all : take (length m - l .at) (drop (l .at) m) ≡ drop (l .at) m = take-all (length m - l .at) (drop (l .at) m) (omega (arith, length-drop (l .at) m)) in
-    let is : one .result ≡ firstSize (drop (l .at) m) = one .ensures ∙ ap firstSize all in
-    let w = first-within (drop (l .at) m) (omega (arith, length-drop (l .at) m, c .before .before .loop-test .taken)) in
-    let d = length-drop (l .at) m in
-    let k = l .inv in
-    omega (arith, s .pre .0)
+cast-sizes c = let n = next c in omega (arith, c .before .before .before .before .before .before .pre .0)
 
 mul-sizes : tie.Need-mul-sizes Inv-loop μ-loop
-mul-sizes c =
-    let l = c .before .before .before .loop in
-    let s = c .before .before .before .before .before .before in
-    let m : List ℕ = s .args .marks .now in
-    let one = c .first-size in
-    let all : take (length m - l .at) (drop (l .at) m) ≡ drop (l .at) m = take-all (length m - l .at) (drop (l .at) m) (omega (arith, length-drop (l .at) m)) in
-    let is : one .result ≡ firstSize (drop (l .at) m) = one .ensures ∙ ap firstSize all in
-    let w = first-within (drop (l .at) m) (omega (arith, length-drop (l .at) m, c .before .before .loop-test .taken)) in
-    let d = length-drop (l .at) m in
-    let k = l .inv in
-    search needs
+mul-sizes c = search needs
 
 slice-write-sizes : tie.Need-slice-write-sizes Inv-loop μ-loop
-slice-write-sizes c =
-    let l = c .before .before .before .loop in
-    let s = c .before .before .before .before .before .before in
-    let m : List ℕ = s .args .marks .now in
-    let one = c .first-size in
-    let all : take (length m - l .at) (drop (l .at) m) ≡ drop (l .at) m = take-all (length m - l .at) (drop (l .at) m) (omega (arith, length-drop (l .at) m)) in
-    let is : one .result ≡ firstSize (drop (l .at) m) = one .ensures ∙ ap firstSize all in
-    let w = first-within (drop (l .at) m) (omega (arith, length-drop (l .at) m, c .before .before .loop-test .taken)) in
-    let d = length-drop (l .at) m in
-    let k = l .inv in
-    omega (arith, s .pre .1)
+slice-write-sizes c = let n = next c in omega (arith, c .before .before .before .before .before .before .pre .1)
 
 add-count : tie.Need-add-count Inv-loop μ-loop
-add-count c =
-    let l = c .before .before .before .loop in
-    let s = c .before .before .before .before .before .before in
-    let m : List ℕ = s .args .marks .now in
-    let one = c .first-size in
-    let all : take (length m - l .at) (drop (l .at) m) ≡ drop (l .at) m = take-all (length m - l .at) (drop (l .at) m) (omega (arith, length-drop (l .at) m)) in
-    let is : one .result ≡ firstSize (drop (l .at) m) = one .ensures ∙ ap firstSize all in
-    let w = first-within (drop (l .at) m) (omega (arith, length-drop (l .at) m, c .before .before .loop-test .taken)) in
-    let d = length-drop (l .at) m in
-    let k = l .inv in
-    omega arith
+add-count c = let n = next c in omega arith
 
 add-at : tie.Need-add-at Inv-loop μ-loop
-add-at c =
-    let l = c .before .before .before .loop in
-    let s = c .before .before .before .before .before .before in
-    let m : List ℕ = s .args .marks .now in
-    let one = c .first-size in
-    let all : take (length m - l .at) (drop (l .at) m) ≡ drop (l .at) m = take-all (length m - l .at) (drop (l .at) m) (omega (arith, length-drop (l .at) m)) in
-    let is : one .result ≡ firstSize (drop (l .at) m) = one .ensures ∙ ap firstSize all in
-    let w = first-within (drop (l .at) m) (omega (arith, length-drop (l .at) m, c .before .before .loop-test .taken)) in
-    let d = length-drop (l .at) m in
-    let k = l .inv in
-    omega arith
+add-at c = let n = next c in omega arith
 
 loop-less : tie.Need-loop-less Inv-loop μ-loop
-loop-less c =
-    let l = c .before .before .before .loop in
-    let s = c .before .before .before .before .before .before in
-    let m : List ℕ = s .args .marks .now in
-    let one = c .first-size in
-    let all : take (length m - l .at) (drop (l .at) m) ≡ drop (l .at) m = take-all (length m - l .at) (drop (l .at) m) (omega (arith, length-drop (l .at) m)) in
-    let is : one .result ≡ firstSize (drop (l .at) m) = one .ensures ∙ ap firstSize all in
-    let w = first-within (drop (l .at) m) (omega (arith, length-drop (l .at) m, c .before .before .loop-test .taken)) in
-    let d = length-drop (l .at) m in
-    let k = l .inv in
-    omega arith
+loop-less c = let n = next c in omega arith
 
 loop-again : tie.Need-loop-again Inv-loop μ-loop
 loop-again c =
     let l = c .before .before .before .loop in
     let s = c .before .before .before .before .before .before in
-    let m : List ℕ = s .args .marks .now in
-    let one = c .first-size in
-    let all : take (length m - l .at) (drop (l .at) m) ≡ drop (l .at) m = take-all (length m - l .at) (drop (l .at) m) (omega (arith, length-drop (l .at) m)) in
-    let is : one .result ≡ firstSize (drop (l .at) m) = one .ensures ∙ ap firstSize all in
-    let w = first-within (drop (l .at) m) (omega (arith, length-drop (l .at) m, c .before .before .loop-test .taken)) in
-    let d = length-drop (l .at) m in
-    let k = l .inv in (
+    let n = next c in (
       omega arith,
       omega arith,
       length-set (l .sizes) (l .count) _ ∙ l .inv .2,
-      λ leaves e. listed-more leaves m (l .sizes) (l .at) (l .count) (one .result) (l .inv .3 leaves e) (c .before .before .loop-test .taken) (omega (arith, s .pre .1)) is,
+      λ leaves e. listed-more leaves (s .args .marks .now) (l .sizes) (l .at) (l .count) (c .first-size .result) (l .inv .3 leaves e) (c .before .before .loop-test .taken) (omega (arith, s .pre .1)) (n .is),
     )
 
 same-length : tie.Need-same-length Inv-loop μ-loop
