@@ -3,7 +3,7 @@
 use borrow.Author.Needs.{needs}
 use native.Mathlib.Omega.{arith}
 use mathlib.Core.Path.{_≡_, refl, _∙_}
-use Prim.Native.Nat.{_-_, _≤_}
+use Prim.Native.Nat.{_-_, _≤_, _<_}
 use lib.ListN.{length, getD, length-set}
 use Rattle.basics.proofs.Members.{in-getD}
 use Rattle.leaf_candidates.specs.Candidates.{nodeIn, farIn}
@@ -17,6 +17,10 @@ Inv-loop leaf floats lane places candidates₀ far₀ c₀ candidates far c = (c
 abbrev μ-loop : tie.MeasureT-loop
 μ-loop leaf floats lane places candidates₀ far₀ c₀ candidates far c = length places - c
 
+-- the place that is read is one of the leaf
+in-leaf : (c : tie.In-loop Inv-loop μ-loop) → getD (c .before .before .args .places .now) (c .before .loop .c) 0 < length (c .before .before .args .leaf .now)
+in-leaf c = c .before .before .pre .1 _ (in-getD (c .before .before .args .places .now) (c .before .loop .c) 0 (c .loop-test .taken))
+
 loop-holds : tie.Need-loop-holds Inv-loop μ-loop
 loop-holds c =
     let x = c .args in (
@@ -27,50 +31,26 @@ loop-holds c =
       copied-none (farIn (x .floats .now) (x .lane)) (x .places .now) (x .far .now) (c .pre .3),
     )
 
-mul-place : tie.Need-mul-place Inv-loop μ-loop
-mul-place c = search needs
-
-shared-slice-read-place : tie.Need-shared-slice-read-place Inv-loop μ-loop
-shared-slice-read-place c = search needs
-
 cast-place : tie.Need-cast-place Inv-loop μ-loop
 cast-place c = omega (arith, c .shared-slice-known .given (c .before .before .loop .c))
 
 mul-candidates : tie.Need-mul-candidates Inv-loop μ-loop
-mul-candidates c = omega (arith, c .before .before .before .pre .1 (getD (c .before .before .before .args .places .now) (c .before .before .loop .c) 0) (in-getD (c .before .before .before .args .places .now) (c .before .before .loop .c) 0 (omega arith)))
+mul-candidates c = omega (arith, in-leaf (c .before))
 
 shared-slice-read-candidates : tie.Need-shared-slice-read-candidates Inv-loop μ-loop
-shared-slice-read-candidates c = omega (arith, c .before .before .before .before .pre .1 (getD (c .before .before .before .before .args .places .now) (c .before .before .before .loop .c) 0) (in-getD (c .before .before .before .before .args .places .now) (c .before .before .before .loop .c) 0 (omega arith)))
-
-mul-candidates-2 : tie.Need-mul-candidates-2 Inv-loop μ-loop
-mul-candidates-2 c = search needs
-
-slice-write-candidates : tie.Need-slice-write-candidates Inv-loop μ-loop
-slice-write-candidates c = search needs
+shared-slice-read-candidates c = omega (arith, in-leaf (c .before .before))
 
 mul-far : tie.Need-mul-far Inv-loop μ-loop
-mul-far c = omega (arith, c .before .before .before .before .pre .1 (getD (c .before .before .before .before .args .places .now) (c .before .before .before .loop .c) 0) (in-getD (c .before .before .before .before .args .places .now) (c .before .before .before .loop .c) 0 (omega arith)))
+mul-far c = omega (arith, in-leaf (c .before .before))
 
 add-far : tie.Need-add-far Inv-loop μ-loop
-add-far c = omega (arith, c .before .before .before .before .pre .1 (getD (c .before .before .before .before .args .places .now) (c .before .before .before .loop .c) 0) (in-getD (c .before .before .before .before .args .places .now) (c .before .before .before .loop .c) 0 (omega arith)))
+add-far c = omega (arith, in-leaf (c .before .before))
 
 mul-far-2 : tie.Need-mul-far-2 Inv-loop μ-loop
-mul-far-2 c = omega (arith, c .before .before .before .before .pre .1 (getD (c .before .before .before .before .args .places .now) (c .before .before .before .loop .c) 0) (in-getD (c .before .before .before .before .args .places .now) (c .before .before .before .loop .c) 0 (omega arith)))
+mul-far-2 c = omega (arith, in-leaf (c .before .before))
 
 shared-slice-read-far : tie.Need-shared-slice-read-far Inv-loop μ-loop
-shared-slice-read-far c = omega (arith, c .before .before .before .before .before .pre .1 (getD (c .before .before .before .before .before .args .places .now) (c .before .before .before .before .loop .c) 0) (in-getD (c .before .before .before .before .before .args .places .now) (c .before .before .before .before .loop .c) 0 (omega arith)))
-
-mul-far-3 : tie.Need-mul-far-3 Inv-loop μ-loop
-mul-far-3 c = search needs
-
-slice-write-far : tie.Need-slice-write-far Inv-loop μ-loop
-slice-write-far c = search needs
-
-add-c : tie.Need-add-c Inv-loop μ-loop
-add-c c = search needs
-
-loop-less : tie.Need-loop-less Inv-loop μ-loop
-loop-less c = search needs
+shared-slice-read-far c = omega (arith, in-leaf (c .before .before .before))
 
 loop-again : tie.Need-loop-again Inv-loop μ-loop
 loop-again c =
@@ -107,21 +87,16 @@ gather-spec =
     Inv-loop
     μ-loop
     loop-holds
-    mul-place
-    shared-slice-read-place
+    (search needs) (search needs)
     cast-place
     mul-candidates
     shared-slice-read-candidates
-    mul-candidates-2
-    slice-write-candidates
+    (search needs) (search needs)
     mul-far
     add-far
     mul-far-2
     shared-slice-read-far
-    mul-far-3
-    slice-write-far
-    add-c
-    loop-less
+    (search needs) (search needs) (search needs) (search needs)
     loop-again
     same-length
     same-length-2
