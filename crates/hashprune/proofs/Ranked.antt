@@ -64,17 +64,12 @@ module _ (f : ℕ → ℕ × ℕ) (xs keys₀ ids₀ : List ℕ) where
 
 -- ---- pairs put over others, and sorted
 
-keys-over : (ss ps : List (ℕ × ℕ)) (ks : List ℕ) → length ss ≡ length ps → keysOf ss (keysOf ps ks) ≡ keysOf ss ks
-unfolding keysOf
-keys-over ss ps ks e =
-    ap (λ (l : List ℕ). map keyIn ss ++ l)
-    (drop-at (map keyIn ps) (drop (length ps) ks) (length ss) (length-map ps keyIn ∙ sym e) ∙ ap (λ (k : ℕ). drop k ks) (sym e))
-
-ids-over : (ss ps : List (ℕ × ℕ)) (is : List ℕ) → length ss ≡ length ps → idsOf ss (idsOf ps is) ≡ idsOf ss is
-unfolding idsOf
-ids-over ss ps is e =
-    ap (λ (l : List ℕ). map idIn ss ++ l)
-    (drop-at (map idIn ps) (drop (length ps) is) (length ss) (length-map ps idIn ∙ sym e) ∙ ap (λ (k : ℕ). drop k is) (sym e))
+-- one slice of the two
+put-over : (g : ℕ × ℕ → ℕ) (ss ps : List (ℕ × ℕ)) (l : List ℕ) → length ss ≡ length ps
+    → map g ss ++ drop (length ss) (map g ps ++ drop (length ps) l) ≡ map g ss ++ drop (length ss) l
+put-over g ss ps l e =
+    ap (λ (r : List ℕ). map g ss ++ r)
+    (drop-at (map g ps) (drop (length ps) l) (length ss) (length-map ps g ∙ sym e) ∙ ap (λ (k : ℕ). drop k l) (sym e))
 
 module _ (n : ℕ) (ks is : List ℕ) (hk : n ≤ length ks) (hi : n ≤ length is) where
   sorted-size : length (sortedPairs n ks is) ≡ n
@@ -119,7 +114,7 @@ pub put-sorted : (f : ℕ → ℕ × ℕ) (places nodes : List ℕ) (n held : �
     → (keys₁ ≡ keysOf (map f places) keys) × (ids₁ ≡ idsOf (map f places) ids)
     → (keys₂ ≡ sortedKeys held keys₁ ids₁) × (ids₂ ≡ sortedIds held keys₁ ids₁)
     → Selected (sortBy keyIn (map f nodes)) n held keys ids keys₂ ids₂
-unfolding sortedPairs
+unfolding sortedPairs keysOf idsOf
 put-sorted f places nodes n held keys ids keys₁ ids₁ keys₂ ids₂ e long few put sorted =
     let ps : List (ℕ × ℕ) = map f nodes in
     let size : length ps ≡ held = length-map nodes f ∙ ap length (sym e) ∙ long in
@@ -130,8 +125,8 @@ put-sorted f places nodes n held keys ids keys₁ ids₁ keys₂ ids₂ e long f
     let same : length (sortBy keyIn ps) ≡ length ps = length-sort keyIn ps in record {
       many = sym (same ∙ size);
       few = few;
-      keys-are = sorted .0 ∙ ap₂ keysOf are k ∙ keys-over (sortBy keyIn ps) ps keys same;
-      ids-are = sorted .1 ∙ ap₂ idsOf are i ∙ ids-over (sortBy keyIn ps) ps ids same;
+      keys-are = sorted .0 ∙ ap₂ keysOf are k ∙ put-over keyIn (sortBy keyIn ps) ps keys same;
+      ids-are = sorted .1 ∙ ap₂ idsOf are i ∙ put-over idIn (sortBy keyIn ps) ps ids same;
     }
 
 -- pairs at the front, others put right behind them: so many of all read back
@@ -150,26 +145,19 @@ both-back ps ss ks is kr ir m h ek ei =
     ∙ pairs-append (map keyIn ps) (map idIn ps) (map keyIn (take m ss)) (map idIn (take m ss)) (length-map ps keyIn ∙ sym (length-map ps idIn))
     ∙ ap₂ (λ (x y : List (ℕ × ℕ)). x ++ y) (pairs-of ps) (pairs-of (take m ss))
 
-keys-joined : (ps ss : List (ℕ × ℕ)) (keys keys₁ part keysₓ post : List ℕ) (a : ℕ) → a ≡ length ps → keys₁ ≡ keysOf ps keys → keysₓ ≡ keysOf ss part
-    → take a keys₁ ++ (keysₓ ++ post) ≡ map keyIn ps ++ (map keyIn ss ++ (drop (length ss) part ++ post))
-unfolding keysOf
-keys-joined ps ss keys keys₁ part keysₓ post a e put more =
-    ap₂ (λ (x y : List ℕ). x ++ (y ++ post)) (ap (take a) put ∙ take-at (map keyIn ps) (drop (length ps) keys) a (length-map ps keyIn ∙ sym e)) more
-    ∙ ap (λ (l : List ℕ). map keyIn ps ++ l) (append-assoc (map keyIn ss) (drop (length ss) part) post)
-
-ids-joined : (ps ss : List (ℕ × ℕ)) (ids ids₁ part idsₓ post : List ℕ) (a : ℕ) → a ≡ length ps → ids₁ ≡ idsOf ps ids → idsₓ ≡ idsOf ss part
-    → take a ids₁ ++ (idsₓ ++ post) ≡ map idIn ps ++ (map idIn ss ++ (drop (length ss) part ++ post))
-unfolding idsOf
-ids-joined ps ss ids ids₁ part idsₓ post a e put more =
-    ap₂ (λ (x y : List ℕ). x ++ (y ++ post)) (ap (take a) put ∙ take-at (map idIn ps) (drop (length ps) ids) a (length-map ps idIn ∙ sym e)) more
-    ∙ ap (λ (l : List ℕ). map idIn ps ++ l) (append-assoc (map idIn ss) (drop (length ss) part) post)
+front-joined : (g : ℕ × ℕ → ℕ) (ps ss : List (ℕ × ℕ)) (l l₁ part lₓ post : List ℕ) (a : ℕ) → a ≡ length ps → l₁ ≡ map g ps ++ drop (length ps) l
+    → lₓ ≡ map g ss ++ drop (length ss) part → take a l₁ ++ (lₓ ++ post) ≡ map g ps ++ (map g ss ++ (drop (length ss) part ++ post))
+front-joined g ps ss l l₁ part lₓ post a e put more =
+    ap₂ (λ (x y : List ℕ). x ++ (y ++ post)) (ap (take a) put ∙ take-at (map g ps) (drop (length ps) l) a (length-map ps g ∙ sym e)) more
+    ∙ ap (λ (r : List ℕ). map g ps ++ r) (append-assoc (map g ss) (drop (length ss) part) post)
 
 -- the pairs ps at the front of two slices, ss put right behind them: all of ps and the first D of ss
 pub joined : (D : ℕ) (ps ss : List (ℕ × ℕ)) (a m : ℕ) (keys ids keys₁ ids₁ key-part id-part keysₓ idsₓ key-post id-post : List ℕ)
     → a ≡ length ps → m ≡ min D (length ss) → keys₁ ≡ keysOf ps keys → ids₁ ≡ idsOf ps ids → keysₓ ≡ keysOf ss key-part → idsₓ ≡ idsOf ss id-part
     → pairs (take (a + m) (take a keys₁ ++ (keysₓ ++ key-post))) (take (a + m) (take a ids₁ ++ (idsₓ ++ id-post))) ≡ ps ++ take D ss
+unfolding keysOf idsOf
 joined D ps ss a m keys ids keys₁ ids₁ key-part id-part keysₓ idsₓ key-post id-post ea em k i kx ix =
     ap₂ (λ (n : ℕ) (j : ℕ). pairs (take (n + j) (take a keys₁ ++ (keysₓ ++ key-post))) (take (n + j) (take a ids₁ ++ (idsₓ ++ id-post)))) ea em
-    ∙ both-back ps ss _ _ _ _ (min D (length ss)) (omega arith) (keys-joined ps ss keys keys₁ key-part keysₓ key-post a ea k kx)
-    (ids-joined ps ss ids ids₁ id-part idsₓ id-post a ea i ix)
+    ∙ both-back ps ss _ _ _ _ (min D (length ss)) (omega arith) (front-joined keyIn ps ss keys keys₁ key-part keysₓ key-post a ea k kx)
+    (front-joined idIn ps ss ids ids₁ id-part idsₓ id-post a ea i ix)
     ∙ ap (λ (l : List (ℕ × ℕ)). ps ++ l) (take-least D ss)

@@ -1,5 +1,5 @@
 -- The invariant: the first k words are the row's. The measure is how many are left. Assumes nothing.
-use mathlib.Core.Path.{ap, _∙_}
+use mathlib.Core.Path.{_≡_, ap, _∙_}
 use Prim.Native.Nat.{ℕ, _-_}
 use lib.ListN.{length, set, take, length-set}
 use Rattle.store.specs.View.{rowBlock}
@@ -15,48 +15,20 @@ Inv-loop row₀ nodes k₀ row k = Written row₀ nodes row k
 abbrev μ-loop : tie.MeasureT-loop
 μ-loop row₀ nodes k₀ row k = length row₀ - k
 
-sub-least : tie.Need-sub-least Inv-loop μ-loop
-sub-least c = search needs
-
-least-requires : tie.Need-least-requires Inv-loop μ-loop
-least-requires c κs = search needs
-
-cast-row : tie.Need-cast-row Inv-loop μ-loop
-cast-row c = search needs
-
-slice-write-row : tie.Need-slice-write-row Inv-loop μ-loop
-slice-write-row c = search needs
+-- the row keeps its length
+long : (c : tie.At-loop Inv-loop μ-loop) → length (c .loop .row) ≡ length (c .before .before .before .before .args .row .now)
+long c = c .loop .inv .long ∙ length-set (c .before .before .before .before .args .row .now) 0 (c .before .least .result)
 
 loop-holds : tie.Need-loop-holds Inv-loop μ-loop
 loop-holds c =
     let s = c .before .before .before in
     written-count (s .args .nodes .now) (s .args .row .now) (c .least .result) (s .pre .0) (c .least .ensures)
 
-sub-node-or-zero : tie.Need-sub-node-or-zero Inv-loop μ-loop
-sub-node-or-zero c = search needs
-
-node-or-zero-requires : tie.Need-node-or-zero-requires Inv-loop μ-loop
-node-or-zero-requires c κs = search needs
-
 mul-row : tie.Need-mul-row Inv-loop μ-loop
-mul-row c =
-    let s = c .before .before .before .before .before .before in
-    let l = c .before .before .loop in
-    let long = l .inv .long ∙ length-set (s .args .row .now) 0 (c .before .before .before .least .result) in
-    omega (arith, s .good)
-
-slice-write-row-2 : tie.Need-slice-write-row-2 Inv-loop μ-loop
-slice-write-row-2 c = search needs
+mul-row c = omega (arith, long (c .before .before), c .before .before .before .before .before .before .good)
 
 add-k : tie.Need-add-k Inv-loop μ-loop
-add-k c =
-    let s = c .before .before .before .before .before .before in
-    let l = c .before .before .loop in
-    let long = l .inv .long ∙ length-set (s .args .row .now) 0 (c .before .before .before .least .result) in
-    omega (arith, s .good)
-
-loop-less : tie.Need-loop-less Inv-loop μ-loop
-loop-less c = search needs
+add-k c = omega (arith, long (c .before .before), c .before .before .before .before .before .before .good)
 
 loop-again : tie.Need-loop-again Inv-loop μ-loop
 loop-again c =
@@ -66,7 +38,7 @@ loop-again c =
     written-more (a .nodes .now) (set (a .row .now) 0 n) (l .row) (l .k) (c .node-or-zero .result) (omega arith) (l .inv) (c .node-or-zero .ensures)
 
 same-length : tie.Need-same-length Inv-loop μ-loop
-same-length c = c .before .loop .inv .long ∙ length-set (c .before .before .before .before .before .args .row .now) 0 (c .before .before .least .result)
+same-length c = long (c .before)
 
 returns : tie.Need-returns Inv-loop μ-loop
 returns c =
@@ -82,17 +54,13 @@ write-row-spec =
     (tie.spec
     Inv-loop
     μ-loop
-    sub-least
-    least-requires
-    cast-row
-    slice-write-row
+    (search needs) (search needs) (search needs) (search needs)
     loop-holds
-    sub-node-or-zero
-    node-or-zero-requires
+    (search needs) (search needs)
     mul-row
-    slice-write-row-2
+    (search needs)
     add-k
-    loop-less
+    (search needs)
     loop-again
     same-length
     returns)
