@@ -1,7 +1,7 @@
 -- The invariant: the best so far is the nearest of the rows passed; row i starts at `at`. The measure is how many rows are left. Assumes nothing.
 use native.Mathlib.Omega.{arith}
 use mathlib.Core.Path.{_≡_, refl, ap, _∙_}
-use Prim.Native.Nat.{ℕ, _-_, _*_, _≤_}
+use Prim.Native.Nat.{ℕ, _+_, _-_, _*_, _≤_}
 use lib.ListN.{length}
 use lib.Ieee.{binary32, ofBits, nanBits}
 use Rattle.basics.specs.Lists.{pieces}
@@ -26,45 +26,18 @@ loop-holds : tie.Need-loop-holds Inv-loop μ-loop
 unfolding ofBits nearestTo
 loop-holds c = (omega arith, omega arith, record { node-is = refl; distance-is = refl })
 
+-- row i lies within
+fits : (c : tie.In-loop Inv-loop μ-loop) → c .before .loop .at + length (c .before .before .before .before .args .centroid .now) ≤ length (c .before .before .before .before .args .vectors .now)
+fits c = let s = c .before .before .before .before in row-end (s .args .n) _ _ (c .before .loop .i) _ (s .pre) (c .loop-test .taken) (c .before .loop .inv .1)
+
 add-end : tie.Need-add-end Inv-loop μ-loop
-add-end c =
-    let l = c .before .loop in
-    let start = c .before .before .before .before in
-    let h = row-end (start .args .n) (length (start .args .centroid .now)) (length (start .args .vectors .now)) (l .i) (l .at) (start .pre) (c .loop-test .taken) (l .inv .1) in
-    omega arith
+add-end c = omega (arith, fits c)
 
 mul-cosine-distance-normalized : tie.Need-mul-cosine-distance-normalized Inv-loop μ-loop
-mul-cosine-distance-normalized c =
-    let l = c .before .loop in
-    let start = c .before .before .before .before in
-    let h = row-end (start .args .n) (length (start .args .centroid .now)) (length (start .args .vectors .now)) (l .i) (l .at) (start .pre) (c .loop-test .taken) (l .inv .1) in
-    search needs
-
-sub-cosine-distance-normalized : tie.Need-sub-cosine-distance-normalized Inv-loop μ-loop
-sub-cosine-distance-normalized c = search needs
-
-part-cosine-distance-normalized-start :
-    tie.Need-part-cosine-distance-normalized-start Inv-loop μ-loop
-part-cosine-distance-normalized-start c = search needs
+mul-cosine-distance-normalized c = let h = fits c in search needs
 
 part-cosine-distance-normalized-end : tie.Need-part-cosine-distance-normalized-end Inv-loop μ-loop
-part-cosine-distance-normalized-end c =
-    let l = c .before .loop in
-    let start = c .before .before .before .before in
-    let h = row-end (start .args .n) (length (start .args .centroid .now)) (length (start .args .vectors .now)) (l .i) (l .at) (start .pre) (c .loop-test .taken) (l .inv .1) in
-    h
-
-cosine-distance-normalized-requires : tie.Need-cosine-distance-normalized-requires Inv-loop μ-loop
-cosine-distance-normalized-requires c κs = search needs
-
-nearer-requires : tie.Need-nearer-requires Inv-loop μ-loop
-nearer-requires c κs = search needs
-
-add-i : tie.Need-add-i Inv-loop μ-loop
-add-i c = search needs
-
-loop-less : tie.Need-loop-less Inv-loop μ-loop
-loop-less c = search needs
+part-cosine-distance-normalized-end c = fits c
 
 loop-again : tie.Need-loop-again Inv-loop μ-loop
 loop-again c =
@@ -96,12 +69,8 @@ nearest-row-spec =
     loop-holds
     add-end
     mul-cosine-distance-normalized
-    sub-cosine-distance-normalized
-    part-cosine-distance-normalized-start
+    (search needs) (search needs)
     part-cosine-distance-normalized-end
-    cosine-distance-normalized-requires
-    nearer-requires
-    add-i
-    loop-less
+    (search needs) (search needs) (search needs) (search needs)
     loop-again
     returns)

@@ -23,45 +23,24 @@ loop-holds c =
     let x = c .before .before .args in
     (omega arith, omega arith, refl, summing-none (x .vectors .now) (length (x .sums .now)) (x .n) (x .sums .now))
 
+-- row i lies within
+fits : (c : tie.In-loop Inv-loop μ-loop) → c .before .loop .at + length (c .before .before .before .before .args .sums .now) ≤ length (c .before .before .before .before .args .vectors .now)
+fits c = let s = c .before .before .before .before in row-end (s .args .n) _ _ (c .before .loop .i) _ (s .pre) (c .loop-test .taken) (c .before .loop .inv .1)
+
 add-end : tie.Need-add-end Inv-loop μ-loop
-add-end c =
-    let l = c .before .loop in
-    let start = c .before .before .before .before in
-    let h = row-end (start .args .n) (length (start .args .sums .now)) (length (start .args .vectors .now)) (l .i) (l .at) (start .pre) (c .loop-test .taken) (l .inv .1) in
-    omega arith
+add-end c = omega (arith, fits c)
 
 mul-add-row : tie.Need-mul-add-row Inv-loop μ-loop
-mul-add-row c =
-    let l = c .before .loop in
-    let start = c .before .before .before .before in
-    let h = row-end (start .args .n) (length (start .args .sums .now)) (length (start .args .vectors .now)) (l .i) (l .at) (start .pre) (c .loop-test .taken) (l .inv .1) in
-    search needs
-
-sub-add-row : tie.Need-sub-add-row Inv-loop μ-loop
-sub-add-row c = search needs
+mul-add-row c = let h = fits c in search needs
 
 part-add-row-start : tie.Need-part-add-row-start Inv-loop μ-loop
 part-add-row-start c = omega arith
 
 part-add-row-end : tie.Need-part-add-row-end Inv-loop μ-loop
-part-add-row-end c =
-    let l = c .before .loop in
-    let start = c .before .before .before .before in
-    let h = row-end (start .args .n) (length (start .args .sums .now)) (length (start .args .vectors .now)) (l .i) (l .at) (start .pre) (c .loop-test .taken) (l .inv .1) in
-    h
+part-add-row-end c = fits c
 
 add-row-requires : tie.Need-add-row-requires Inv-loop μ-loop
-add-row-requires c κs =
-    let l = c .before .before .before .loop in
-    let start = c .before .before .before .before .before .before in
-    let h = row-end (start .args .n) (length (start .args .sums .now)) (length (start .args .vectors .now)) (l .i) (l .at) (start .pre) (c .before .before .loop-test .taken) (l .inv .1) in
-    part-length (start .args .vectors .now) (l .at) (length (start .args .sums .now)) h ∙ sym (l .inv .2)
-
-add-i : tie.Need-add-i Inv-loop μ-loop
-add-i c = search needs
-
-loop-less : tie.Need-loop-less Inv-loop μ-loop
-loop-less c = search needs
+add-row-requires c κs = part-length _ (c .before .before .before .loop .at) _ (fits (c .before .before)) ∙ sym (c .before .before .before .loop .inv .2)
 
 loop-again : tie.Need-loop-again Inv-loop μ-loop
 loop-again c =
@@ -94,12 +73,11 @@ sum-rows-spec =
     loop-holds
     add-end
     mul-add-row
-    sub-add-row
+    (search needs)
     part-add-row-start
     part-add-row-end
     add-row-requires
-    add-i
-    loop-less
+    (search needs) (search needs)
     loop-again
     same-length
     returns)
