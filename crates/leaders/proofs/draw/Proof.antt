@@ -1,7 +1,7 @@
 -- The invariant is `Drawing`; the measure is how many are left to draw. A position is below those left, being a remainder by their number.
 -- Assumes nothing.
 use borrow.Author.Needs.{needs}
-use Prim.Native.Nat.{ℕ, _-_, _/_, _%_, _<_}
+use Prim.Native.Nat.{_-_, _/_, _%_, _<_}
 use native.Mathlib.Nat.{mod-lt}
 use lib.ListN.{length}
 use Rattle.leaders.proofs.Draws.{Drawing, drawing-none, drawing-turn, drawing-done}
@@ -9,74 +9,42 @@ use native.Mathlib.Omega.{arith}
 use Rattle.leaders.proofs.draw.Statement.{statement}
 use Rattle.leaders.proofs.draw.Tie as tie
 
--- a remainder by how many are left is a place of theirs
-place : (h n i : ℕ) → i < n → h % (n - i) < n
-place h n i l = let p : 0 < n - i = omega arith in omega (arith, mod-lt h p)
-
 abbrev Inv-loop : tie.InvT-loop
 Inv-loop left₀ out₀ count start r₀ i₀ left out r i = Drawing count start left₀ out₀ i r left out
 
 abbrev μ-loop : tie.MeasureT-loop
 μ-loop left₀ out₀ count start r₀ i₀ left out r i = count - i
 
+-- a remainder by how many are left is a place of theirs
+place-within : (c : tie.After-next-draw Inv-loop μ-loop) → let l = c .before .before .loop in
+    c .next-draw .result / 8589934592 % (length (l .left) - l .i) < length (l .left)
+place-within c =
+    let l = c .before .before .loop in
+    let some : 0 < length (l .left) - l .i = omega (arith, l .inv .within, l .inv .same-left) in
+    omega (arith, mod-lt (c .next-draw .result / 8589934592) some)
+
 loop-holds : tie.Need-loop-holds Inv-loop μ-loop
 loop-holds c =
     let x = c .before .before .args in
     drawing-none (x .count) (x .start) (x .left .now) (x .out .now)
 
-next-draw-requires : tie.Need-next-draw-requires Inv-loop μ-loop
-next-draw-requires c κs = search needs
-
-sub-rest : tie.Need-sub-rest Inv-loop μ-loop
-sub-rest c = search needs
-
-rem-p : tie.Need-rem-p Inv-loop μ-loop
-rem-p c = search needs
-
-sub-last : tie.Need-sub-last Inv-loop μ-loop
-sub-last c = search needs
-
-mul-last : tie.Need-mul-last Inv-loop μ-loop
-mul-last c = search needs
-
 slice-read-last : tie.Need-slice-read-last Inv-loop μ-loop
 slice-read-last c = let l = c .before .before .before .loop in omega (arith, l .inv .same-left)
 
 mul-out : tie.Need-mul-out Inv-loop μ-loop
-mul-out c =
-    let l = c .before .before .before .loop in
-    let h = place (c .before .next-draw .result / 8589934592) (length (l .left)) (l .i) (omega (arith, l .inv .within, l .inv .same-left)) in
-    search needs
+mul-out c = let h = place-within (c .before) in search needs
 
 slice-read-out : tie.Need-slice-read-out Inv-loop μ-loop
-slice-read-out c =
-    let l = c .before .before .before .before .loop in
-    let h = place (c .before .before .next-draw .result / 8589934592) (length (l .left)) (l .i) (omega (arith, l .inv .within, l .inv .same-left)) in
-    h
-
-mul-out-2 : tie.Need-mul-out-2 Inv-loop μ-loop
-mul-out-2 c = search needs
+slice-read-out c = place-within (c .before .before)
 
 slice-write-out : tie.Need-slice-write-out Inv-loop μ-loop
 slice-write-out c = let l = c .before .before .before .before .loop in omega (arith, l .inv .same-out)
 
 mul-left : tie.Need-mul-left Inv-loop μ-loop
-mul-left c =
-    let l = c .before .before .before .before .loop in
-    let h = place (c .before .before .next-draw .result / 8589934592) (length (l .left)) (l .i) (omega (arith, l .inv .within, l .inv .same-left)) in
-    search needs
+mul-left c = let h = place-within (c .before .before) in search needs
 
 slice-write-left : tie.Need-slice-write-left Inv-loop μ-loop
-slice-write-left c =
-    let l = c .before .before .before .before .loop in
-    let h = place (c .before .before .next-draw .result / 8589934592) (length (l .left)) (l .i) (omega (arith, l .inv .within, l .inv .same-left)) in
-    h
-
-add-i : tie.Need-add-i Inv-loop μ-loop
-add-i c = search needs
-
-loop-less : tie.Need-loop-less Inv-loop μ-loop
-loop-less c = search needs
+slice-write-left c = place-within (c .before .before)
 
 loop-again : tie.Need-loop-again Inv-loop μ-loop
 loop-again c =
@@ -104,20 +72,15 @@ draw-spec =
     Inv-loop
     μ-loop
     loop-holds
-    next-draw-requires
-    sub-rest
-    rem-p
-    sub-last
-    mul-last
+    (search needs) (search needs) (search needs) (search needs) (search needs)
     slice-read-last
     mul-out
     slice-read-out
-    mul-out-2
+    (search needs)
     slice-write-out
     mul-left
     slice-write-left
-    add-i
-    loop-less
+    (search needs) (search needs)
     loop-again
     same-length
     same-length-2
