@@ -41,12 +41,6 @@ struct Went {
     done: bool,
 }
 
-fn least(a: usize, b: usize) -> usize
-    ensures { λ r. ⌜ r ≡ min a b ⌝ }
-{
-    if a < b { a } else { b }
-}
-
 // A count as a u32, which none of a walk's is too large for.
 fn small(count: usize) -> u32
     ensures { λ r. ⌜ r ≡ min count 4294967295 ⌝ }
@@ -90,7 +84,7 @@ fn take_in(
     ensures { λ r. ⌜ (take (2 * size) (now (words .exit)) ≡ take (2 * size) (now (words .entry)))
         × TakingIn (farFrom (now (query .entry)) (vectorsIn dimension (now (vectors .entry)))) size places count (now (words .entry)) (now (words .exit)) (now (floats .entry)) (now (floats .exit)) (now (nodes .entry)) (now (nodes .exit)) walk r ⌝ }
 {
-    let many = least(count, size);
+    let many = slices::lesser(count, size);
     let end = size + many;
     scoring::score(floats, query, vectors, dimension, &words[size..end]);
     beam_state::push_all(words, floats, nodes, size, places, walk, many)
@@ -293,7 +287,7 @@ fn start(
 fn tell(distances: &mut [f32], nodes: &[u32], floats: &[f32], count: usize)
     ensures { λ _. ⌜ Telling count (now (nodes .entry)) (now (floats .entry)) (now (distances .entry)) (now (distances .exit)) ⌝ }
 {
-    let many = least(count, least(nodes.len(), distances.len()));
+    let many = slices::lesser(count, slices::lesser(nodes.len(), distances.len()));
     let mut i = 0;
     while i < many {
         distances[i] = queues::distance_of(floats, nodes[i]);

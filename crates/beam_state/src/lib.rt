@@ -29,12 +29,6 @@ fn one_more(count: u32) -> u32
     count + 1
 }
 
-fn least(a: usize, b: usize) -> usize
-    ensures { λ r. ⌜ r ≡ min a b ⌝ }
-{
-    if a < b { a } else { b }
-}
-
 // A node that has its distance goes into the frontier, is offered to the held, and to the answer.
 fn push(
     words: &mut [u32],
@@ -82,7 +76,7 @@ pub fn push_all(
     if words.len() / 11 < size {
         return walk;
     }
-    let many = least(count, size);
+    let many = slices::lesser(count, size);
     let mut now = walk;
     let mut i = 0;
     while i < many {

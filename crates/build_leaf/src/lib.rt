@@ -9,8 +9,7 @@
 // specs/Built    what the functions leave of the rows
 // proofs/Rows    one row, one place, eight places, a leaf
 // proofs/Leaves  leaf after leaf
-ghost use mathlib.Core.Path.{_≡_};
-ghost use Prim.Native.Nat.{_+_, _≤_, _<_, min};
+ghost use Prim.Native.Nat.{_+_, _≤_, _<_};
 ghost use lib.ListN.{length};
 ghost use Rattle.build_leaf.specs.Built.{RowPut, PlacePut, PlacesPut, LeafBuilt, LeavesBuilt, PlanesMade, Built};
 
@@ -107,7 +106,7 @@ fn build_leaf(
     let mut first: usize = 0;
     while first < leaf.len() {
         leaf_distances::distances_into(vectors, dimension, leaf, first, floats);
-        let end = at_most(first + 8, leaf.len());
+        let end = slices::lesser(first + 8, leaf.len());
         each_place(
             vectors,
             dimension,
@@ -122,12 +121,6 @@ fn build_leaf(
         );
         first = end;
     }
-}
-
-fn at_most(n: usize, top: usize) -> usize
-    ensures { λ r. ⌜ r ≡ min n top ⌝ }
-{
-    if n < top { n } else { top }
 }
 
 // The places from `first` on and before `end`, whose distances stand in the lanes of the floats.

@@ -10,7 +10,7 @@
 // proofs/Reading  the equations of a chain's reader: none, one more
 // proofs/Laws     chains with one bridge more; what a reader finds is the other ends, in order
 ghost use mathlib.Core.Path.{_≡_};
-ghost use Prim.Native.Nat.{_-_, _<_, _^_, min};
+ghost use Prim.Native.Nat.{_-_, _<_, _^_};
 ghost use lib.ListN.{set};
 ghost use Rattle.chains.specs.Chains.{otherEndAt, firstLink, nextLink, clearedLinks, linkPlace, appendSlot, chainBridge};
 
@@ -18,7 +18,7 @@ ghost use Rattle.chains.specs.Chains.{otherEndAt, firstLink, nextLink, c
 pub fn clear_links(links: &mut [u32], n: u32)
     ensures { λ _. ⌜ now (links .exit) ≡ clearedLinks n (now (links .entry)) ⌝ }
 {
-    let end = lesser(2 * n as usize, links.len());
+    let end = slices::lesser(2 * n as usize, links.len());
     let start: usize = 0;
     slices::clear_words(&mut links[start..end]);
 }
@@ -105,10 +105,4 @@ fn before(x: usize) -> usize
         return 0;
     }
     x - 1
-}
-
-fn lesser(a: usize, b: usize) -> usize
-    ensures { λ r. ⌜ r ≡ min a b ⌝ }
-{
-    if a < b { a } else { b }
 }

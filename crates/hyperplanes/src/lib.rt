@@ -1043,16 +1043,10 @@ pub fn planes_into(out: &mut [f32])
     ensures { λ _. ⌜ now (out .exit) ≡ planeNumbers binary32 (min (length (now (out .entry))) 1024) ++ drop (min (length (now (out .entry))) 1024) (now (out .entry)) ⌝ }
 {
     let table = PLANES;
-    let n = at_most(out.len(), 1024);
+    let n = slices::lesser(out.len(), 1024);
     let mut k: usize = 0;
     while k < n {
         out[k] = f32::from_bits(table[k]);
         k += 1;
     }
-}
-
-fn at_most(n: usize, top: usize) -> usize
-    ensures { λ r. ⌜ r ≡ min n top ⌝ }
-{
-    if n < top { n } else { top }
 }

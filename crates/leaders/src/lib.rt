@@ -42,7 +42,7 @@ fn floor_to(x: f64, top: u64) -> u64
 pub fn draw_leaders(level: u32, n: u32, left: &mut [u32], out: &mut [u32])
     ensures { λ _. ⌜ now (out .exit) ≡ drawnInto level (min n (length (now (left .entry)))) (now (out .entry)) ⌝ }
 {
-    let room = lesser(n as usize, left.len());
+    let room = slices::lesser(n as usize, left.len());
     draw_segment(level, &mut left[..room], out);
 }
 
@@ -51,7 +51,7 @@ pub fn draw_leaders(level: u32, n: u32, left: &mut [u32], out: &mut [u32])
 pub fn all_positions(n: u32, left: &mut [u32])
     ensures { λ _. ⌜ now (left .exit) ≡ upTo (min n (length (now (left .entry)))) ++ drop (min n (length (now (left .entry)))) (now (left .entry)) ⌝ }
 {
-    let room = lesser(n as usize, left.len());
+    let room = slices::lesser(n as usize, left.len());
     count_up(&mut left[..room]);
 }
 
@@ -61,14 +61,8 @@ fn draw_segment(level: u32, left: &mut [u32], out: &mut [u32])
     ensures { λ _. ⌜ now (out .exit) ≡ drawnInto level (length (now (left .entry))) (now (out .entry)) ⌝ }
 {
     count_up(left);
-    let count = lesser(out.len(), left.len());
+    let count = slices::lesser(out.len(), left.len());
     draw(left, out, count, (level as u64) * 2654435761 + 42);
-}
-
-fn lesser(a: usize, b: usize) -> usize
-    ensures { λ r. ⌜ r ≡ min a b ⌝ }
-{
-    if a < b { a } else { b }
 }
 
 // 0, 1, 2 and so on.

@@ -7,8 +7,7 @@
 //
 // specs/Candidates   what is offered, and what the candidates are
 // proofs/Laws        places for nodes: sorting sees both alike
-ghost use mathlib.Core.Path.{_≡_};
-ghost use Prim.Native.Nat.{_+_, _-_, _*_, _≤_, _<_, min};
+ghost use Prim.Native.Nat.{_+_, _-_, _*_, _≤_, _<_};
 ghost use lib.ListN.{length};
 ghost use Rattle.basics.specs.Nodes.{Below};
 ghost use Rattle.leaf_candidates.specs.Candidates.{Offered, Nearest, Gathered, Candidates, Sized, Fits};
@@ -64,7 +63,7 @@ fn candidates_within(
 {
     let mut keys = [0u32; 64];
     let mut places = [0u32; 64];
-    let most = 2 * at_most(degree as usize, leaf.len() - 1);
+    let most = 2 * slices::lesser(degree as usize, leaf.len() - 1);
     let held = nearest(
         floats,
         lane,
@@ -75,12 +74,6 @@ fn candidates_within(
     );
     gather(leaf, floats, lane, &places[..held], candidates, far);
     held
-}
-
-fn at_most(n: usize, top: usize) -> usize
-    ensures { λ r. ⌜ r ≡ min n top ⌝ }
-{
-    if n < top { n } else { top }
 }
 
 // The first of the other places by the key of their distance.

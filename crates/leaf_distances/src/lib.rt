@@ -10,7 +10,7 @@
 // proofs/Laws   lanes of a block: one written, the others kept
 ghost use mathlib.Core.Path.{_≡_};
 ghost use mathlib.Core.List.{_++_};
-ghost use Prim.Native.Nat.{_+_, _*_, _≤_, _<_, min};
+ghost use Prim.Native.Nat.{_+_, _*_, _≤_, _<_};
 ghost use lib.ListN.{length, take, drop};
 ghost use Rattle.vectors.specs.Vectors.{vectorsIn};
 ghost use Rattle.leaf_distances.specs.Lanes.{eightList, LanePut, BlockTurned, LanesFilled, Distances};
@@ -42,12 +42,6 @@ pub fn distances_into(
     distance_rows(vectors, dimension, leaf, &block[..width], floats);
 }
 
-fn at_most(n: usize, top: usize) -> usize
-    ensures { λ r. ⌜ r ≡ min n top ⌝ }
-{
-    if n < top { n } else { top }
-}
-
 // The vectors of the eight places as a block.
 fn turn_block(vectors: &[f32], dimension: u32, leaf: &[u32], first: usize, block: &mut [f32])
     requires { ⌜ (first < length (now leaf)) × (8 * dimension ≤ length (now block)) ⌝ }
@@ -56,7 +50,7 @@ fn turn_block(vectors: &[f32], dimension: u32, leaf: &[u32], first: usize, block
     let last = leaf.len() - 1;
     let mut g: usize = 0;
     while g < 8 {
-        let place = at_most(first + g, last);
+        let place = slices::lesser(first + g, last);
         let v = vectors::get_vector(vectors, dimension, leaf[place]);
         put_lane(block, g, v);
         g += 1;

@@ -7,7 +7,7 @@
 // Components are summed node by node, in the order of adding, each step rounded, and then divided by
 // the number of nodes as an f32. Equal to `centroidOf` of specs/Centroid.
 ghost use mathlib.Core.Path.{_≡_};
-ghost use Prim.Native.Nat.{_*_, _^_, _≤_, min};
+ghost use Prim.Native.Nat.{_*_, _^_, _≤_};
 ghost use lib.ListN.{length};
 ghost use lib.Ieee.{binary32, lt};
 ghost use Rattle.basics.specs.Choice.{pick};
@@ -25,7 +25,7 @@ pub fn centroid(vectors: &[f32], n: u16, out: &mut [f32])
     if dimension == 0 {
         return;
     }
-    let rows = lesser(n as usize, vectors.len() / dimension);
+    let rows = slices::lesser(n as usize, vectors.len() / dimension);
     mean(vectors, rows, out);
 }
 
@@ -39,14 +39,8 @@ pub fn compute_medoid(vectors: &[f32], n: u16, centroid: &mut [f32]) -> Node
     if dimension == 0 {
         return Node(0);
     }
-    let rows = lesser(n as usize, vectors.len() / dimension);
+    let rows = slices::lesser(n as usize, vectors.len() / dimension);
     nearest_row(vectors, rows as u32, centroid)
-}
-
-fn lesser(a: usize, b: usize) -> usize
-    ensures { λ r. ⌜ r ≡ min a b ⌝ }
-{
-    if a < b { a } else { b }
 }
 
 // The same of rows that are all there, and few enough that an f32 counts them without a gap.

@@ -1,10 +1,17 @@
-// Clearing and copying slices. The Rust uses `vec![0; n]`, `fill` and `extend_from_slice`.
+// Clearing and copying slices, and the lesser of two lengths. The Rust uses `vec![0; n]`, `fill`, `extend_from_slice` and `min`.
 //
 // Each function is total, and its contract gives the whole slice that it leaves.
 ghost use mathlib.Core.Path.{_≡_};
 ghost use mathlib.Core.List.{_++_};
+ghost use Prim.Native.Nat.{min};
 ghost use lib.ListN.{length, take, drop, replicate};
 ghost use Rattle.basics.specs.Sum.{+zero};
+
+pub fn lesser(a: usize, b: usize) -> usize
+    ensures { λ r. ⌜ r ≡ min a b ⌝ }
+{
+    if a < b { a } else { b }
+}
 
 // Zeroes every word.
 pub fn clear_words(s: &mut [u32])

@@ -6,8 +6,8 @@ use borrow.Author.Needs.{needs}
 use Rattle.beam_search.proofs.take_in.Statement.{statement}
 use Rattle.beam_search.proofs.take_in.Tie as tie
 
-least-requires : tie.Need-least-requires
-least-requires c κs = search needs
+lesser-requires : tie.Need-lesser-requires
+lesser-requires c κs = search needs
 
 add-end : tie.Need-add-end
 add-end c = search needs
@@ -45,15 +45,15 @@ returns c =
     let push = c .before .before .before .before .push-all in
     let score = c .before .before .before .before .before .before .before .before .before .before .score in (
       push .ensures .0,
-      taking-in (farFrom (a .query .now) (vectorsIn (a .dimension) (a .vectors .now))) (a .size) (a .places) (a .count) (c .before .before .before .before .before .before .before .before .before .before .before .before .before .before .least .result) (a .words .now) (push .last .0) (a .floats .now) (score .last .0) (a .nodes .now) (push .last .1 .1 .0) (a .walk) (push .result)
-          (c .before .before .before .before .before .before .before .before .before .before .before .before .before .before .least .ensures) ((c .before .before .before .before .before .before .before .before .before .before .before .before .before .before .before .before .before .before .before .before) .pre) (score .ensures) (score .kept .0) (push .ensures .1),
+      taking-in (farFrom (a .query .now) (vectorsIn (a .dimension) (a .vectors .now))) (a .size) (a .places) (a .count) (c .before .before .before .before .before .before .before .before .before .before .before .before .before .before .lesser .result) (a .words .now) (push .last .0) (a .floats .now) (score .last .0) (a .nodes .now) (push .last .1 .1 .0) (a .walk) (push .result)
+          (c .before .before .before .before .before .before .before .before .before .before .before .before .before .before .lesser .ensures) ((c .before .before .before .before .before .before .before .before .before .before .before .before .before .before .before .before .before .before .before .before) .pre) (score .ensures) (score .kept .0) (push .ensures .1),
     )
 
 pub take-in-spec : {M : Type 1} → statement M
 take-in-spec =
     tie.close
     (tie.spec
-    least-requires
+    lesser-requires
     add-end
     mul-score
     sub-score

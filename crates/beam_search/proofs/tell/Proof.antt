@@ -18,8 +18,8 @@ abbrev μ-loop : tie.MeasureT-loop
 μ-loop distances₀ nodes floats count many i₀ distances i = many - i
 
 -- as many as both slices have
-room : (c : tie.After-least2 Inv-loop μ-loop) → (c .least2 .result ≤ length (c .before .before .before .before .before .args .nodes .now)) × (c .least2 .result ≤ length (c .before .before .before .before .before .args .distances .now))
-room c = let e1 = c .least2 .ensures in let e2 = c .before .least .ensures in (omega arith, omega arith)
+room : (c : tie.After-lesser2 Inv-loop μ-loop) → (c .lesser2 .result ≤ length (c .before .before .before .before .before .args .nodes .now)) × (c .lesser2 .result ≤ length (c .before .before .before .before .before .args .distances .now))
+room c = let e1 = c .lesser2 .ensures in let e2 = c .before .lesser .ensures in (omega arith, omega arith)
 
 kept : (c : tie.At-loop Inv-loop μ-loop) → length (c .loop .distances) ≡ length (c .before .before .before .before .before .before .args .distances .now)
 kept c =
@@ -27,11 +27,11 @@ kept c =
     let m = room (c .before) in
     ap length (c .loop .inv .1) ∙ told-length (λ v. getD (a .floats .now) v (inf false)) (a .nodes .now) (a .distances .now) (c .loop .i) (omega (arith, c .loop .inv .0)) (omega (arith, c .loop .inv .0))
 
-least-requires : tie.Need-least-requires Inv-loop μ-loop
-least-requires c κs = search needs
+lesser-requires : tie.Need-lesser-requires Inv-loop μ-loop
+lesser-requires c κs = search needs
 
-least-requires-2 : tie.Need-least-requires-2 Inv-loop μ-loop
-least-requires-2 c κs = search needs
+lesser-requires-2 : tie.Need-lesser-requires-2 Inv-loop μ-loop
+lesser-requires-2 c κs = search needs
 
 loop-holds : tie.Need-loop-holds Inv-loop μ-loop
 loop-holds c = (omega arith, refl)
@@ -72,8 +72,8 @@ returns : tie.Need-returns Inv-loop μ-loop
 returns c =
     let a = (c .before .before .before .before .before .before .before) .args in
     let l = c .before .loop in
-    let e1 = c .before .before .least2 .ensures in
-    let e2 = c .before .before .before .least .ensures in
+    let e1 = c .before .before .lesser2 .ensures in
+    let e2 = c .before .before .before .lesser .ensures in
     λ h k.
     let all : l .i ≡ a .count = omega (arith, l .inv .0, c .loop-test .left) in
     l .inv .1 ∙ ap (told (λ v. getD (a .floats .now) v (inf false)) (a .nodes .now) (a .distances .now)) all
@@ -84,8 +84,8 @@ tell-spec =
     (tie.spec
     Inv-loop
     μ-loop
-    least-requires
-    least-requires-2
+    lesser-requires
+    lesser-requires-2
     loop-holds
     mul-distance-of
     shared-slice-read-distance-of

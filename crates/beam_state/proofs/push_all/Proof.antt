@@ -17,14 +17,14 @@ abbrev μ-loop : tie.MeasureT-loop
 returns : tie.Need-returns Inv-loop μ-loop
 returns c = (refl, λ long. absurd (omega (arith, c .if1 .taken)))
 
-least-requires : tie.Need-least-requires Inv-loop μ-loop
-least-requires c κs = search needs
+lesser-requires : tie.Need-lesser-requires Inv-loop μ-loop
+lesser-requires c κs = search needs
 
 loop-holds : tie.Need-loop-holds Inv-loop μ-loop
-loop-holds c = let a = (c .before .before .before .before .before) .args in going-none (a .size) (a .places) (a .count) (c .least .result) (a .floats .now) (a .words .now) (a .nodes .now) (a .walk)
+loop-holds c = let a = (c .before .before .before .before .before) .args in going-none (a .size) (a .places) (a .count) (c .lesser .result) (a .floats .now) (a .words .now) (a .nodes .now) (a .walk)
 
 add-node : tie.Need-add-node Inv-loop μ-loop
-add-node c = omega (arith, (c .before .before .before) .if1 .left, (c .before .before) .least .ensures, c .loop-test .taken)
+add-node c = omega (arith, (c .before .before .before) .if1 .left, (c .before .before) .lesser .ensures, c .loop-test .taken)
 
 mul-node : tie.Need-mul-node Inv-loop μ-loop
 mul-node c = search needs
@@ -42,7 +42,7 @@ loop-less : tie.Need-loop-less Inv-loop μ-loop
 loop-less c = search needs
 
 loop-again : tie.Need-loop-again Inv-loop μ-loop
-loop-again c = let l = c .before .before .before .before .before .before .before .before .before .loop in let p = c .before .before .before .before .push in going-more (l .inv) (c .before .before .before .before .before .before .before .before .before .before .least .ensures) (c .before .before .before .before .before .before .before .before .loop-test .taken) (omega (arith, c .before .before .before .before .before .before .before .before .before .before .before .if1 .left)) (p .kept .0) (p .kept .1 .1 .0) (p .ensures .0) (p .ensures .1)
+loop-again c = let l = c .before .before .before .before .before .before .before .before .before .loop in let p = c .before .before .before .before .push in going-more (l .inv) (c .before .before .before .before .before .before .before .before .before .before .lesser .ensures) (c .before .before .before .before .before .before .before .before .loop-test .taken) (omega (arith, c .before .before .before .before .before .before .before .before .before .before .before .if1 .left)) (p .kept .0) (p .kept .1 .1 .0) (p .ensures .0) (p .ensures .1)
 
 same-length : tie.Need-same-length Inv-loop μ-loop
 same-length c = c .before .loop .inv .words-kept
@@ -51,7 +51,7 @@ same-length-2 : tie.Need-same-length-2 Inv-loop μ-loop
 same-length-2 c = c .before .loop .inv .nodes-kept
 
 returns-2 : tie.Need-returns-2 Inv-loop μ-loop
-returns-2 c = let l = c .before .loop in (l .inv .frame, going-all (l .inv) (c .before .before .least .ensures) (c .loop-test .left))
+returns-2 c = let l = c .before .loop in (l .inv .frame, going-all (l .inv) (c .before .before .lesser .ensures) (c .loop-test .left))
 
 pub push-all-spec : {M : Type 1} → statement M
 push-all-spec =
@@ -60,7 +60,7 @@ push-all-spec =
     Inv-loop
     μ-loop
     returns
-    least-requires
+    lesser-requires
     loop-holds
     add-node
     mul-node

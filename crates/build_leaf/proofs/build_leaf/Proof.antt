@@ -24,11 +24,11 @@ loop-holds c = let x = c .before .before .before .before .before .before .args i
 distances-into-requires : tie.Need-distances-into-requires Inv-loop μ-loop
 distances-into-requires c κs = search needs
 
-add-at-most : tie.Need-add-at-most Inv-loop μ-loop
-add-at-most c = search needs
+add-lesser : tie.Need-add-lesser Inv-loop μ-loop
+add-lesser c = search needs
 
-at-most-requires : tie.Need-at-most-requires Inv-loop μ-loop
-at-most-requires c κs = search needs
+lesser-requires : tie.Need-lesser-requires Inv-loop μ-loop
+lesser-requires c κs = search needs
 
 each-place-requires : tie.Need-each-place-requires Inv-loop μ-loop
 each-place-requires c κs = search needs
@@ -70,8 +70,8 @@ build-leaf-spec =
     returns
     loop-holds
     distances-into-requires
-    add-at-most
-    at-most-requires
+    add-lesser
+    lesser-requires
     each-place-requires
     loop-less
     loop-again

@@ -39,12 +39,12 @@ Inv-loop out₀ table n k₀ out k = (k ≤ n) × (n ≤ length out₀) × (n �
 abbrev μ-loop : tie.MeasureT-loop
 μ-loop out₀ table n k₀ out k = n - k
 
-at-most-requires : tie.Need-at-most-requires Inv-loop μ-loop
-at-most-requires c κs = search needs
+lesser-requires : tie.Need-lesser-requires Inv-loop μ-loop
+lesser-requires c κs = search needs
 
 loop-holds : tie.Need-loop-holds Inv-loop μ-loop
 unfolding planeNumbers
-loop-holds c = (omega arith, omega (arith, c .at-most .ensures), omega (arith, c .at-most .ensures), refl, refl)
+loop-holds c = (omega arith, omega (arith, c .lesser .ensures), omega (arith, c .lesser .ensures), refl, refl)
 
 mul-out : tie.Need-mul-out Inv-loop μ-loop
 mul-out c = search needs
@@ -88,7 +88,7 @@ returns : tie.Need-returns Inv-loop μ-loop
 returns c =
     let l = c .before .loop in
     let out₀ = c .before .before .before .before .args .out .now in
-    let e : l .k ≡ min (length out₀) 1024 = omega (arith, c .before .before .at-most .ensures) in
+    let e : l .k ≡ min (length out₀) 1024 = omega (arith, c .before .before .lesser .ensures) in
     l .inv .4 ∙ ap (λ (k : ℕ). planeNumbers binary32 k ++ drop k out₀) e
 
 pub planes-into-spec : {M : Type 1} → statement M
@@ -97,7 +97,7 @@ planes-into-spec =
     (tie.spec
     Inv-loop
     μ-loop
-    at-most-requires
+    lesser-requires
     loop-holds
     mul-out
     array-read-out

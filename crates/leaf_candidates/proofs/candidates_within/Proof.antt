@@ -6,11 +6,11 @@ use borrow.Author.Needs.{needs}
 use Rattle.leaf_candidates.proofs.candidates_within.Statement.{statement}
 use Rattle.leaf_candidates.proofs.candidates_within.Tie as tie
 
-sub-at-most : tie.Need-sub-at-most
-sub-at-most c = search needs
+sub-lesser : tie.Need-sub-lesser
+sub-lesser c = search needs
 
-at-most-requires : tie.Need-at-most-requires
-at-most-requires c κs = search needs
+lesser-requires : tie.Need-lesser-requires
+lesser-requires c κs = search needs
 
 mul-most : tie.Need-mul-most
 mul-most c = search needs
@@ -75,8 +75,8 @@ pub candidates-within-spec : {M : Type 1} → statement M
 candidates-within-spec =
     tie.close
     (tie.spec
-    sub-at-most
-    at-most-requires
+    sub-lesser
+    lesser-requires
     mul-most
     array-borrow-prefix-keys
     slice-aggregate-nearest

@@ -22,11 +22,11 @@ sub-last c = search needs
 loop-holds : tie.Need-loop-holds Inv-loop μ-loop
 loop-holds c = let x = c .before .before .before .args in (omega arith, refl, turned-none (vectorsIn (x .dimension) (x .vectors .now)) (x .leaf .now) (x .first) (x .block .now))
 
-add-at-most : tie.Need-add-at-most Inv-loop μ-loop
-add-at-most c = search needs
+add-lesser : tie.Need-add-lesser Inv-loop μ-loop
+add-lesser c = search needs
 
-at-most-requires : tie.Need-at-most-requires Inv-loop μ-loop
-at-most-requires c κs = search needs
+lesser-requires : tie.Need-lesser-requires Inv-loop μ-loop
+lesser-requires c κs = search needs
 
 mul-get-vector : tie.Need-mul-get-vector Inv-loop μ-loop
 mul-get-vector c = search needs
@@ -41,7 +41,7 @@ put-lane-requires : tie.Need-put-lane-requires Inv-loop μ-loop
 put-lane-requires c κs =
     let x = c .before .before .before .before .before .before .before .before .before .args in
     let v = c .before .get-vector in
-    (omega arith, omega (arith, ap length (v .ensures), vector-short (x .dimension) (x .vectors .now) (getD (x .leaf .now) (c .before .before .before .at-most .result) 0)))
+    (omega arith, omega (arith, ap length (v .ensures), vector-short (x .dimension) (x .vectors .now) (getD (x .leaf .now) (c .before .before .before .lesser .result) 0)))
 
 add-g : tie.Need-add-g Inv-loop μ-loop
 add-g c = search needs
@@ -55,8 +55,8 @@ loop-again c =
     let x = c .before .before .before .before .before .before .before .before .before .before .before .before .args in (
       omega arith,
       c .before .before .put-lane .kept .0 ∙ l .inv .1,
-      turned-more (vectorsIn (x .dimension) (x .vectors .now)) (x .leaf .now) (x .first) (l .g) (c .before .before .before .before .before .before .at-most .result) (l .block) _ (c .before .before .before .before .get-vector .result .now) (c .before .before .before .before .before .before .before .loop-test .taken)
-          (c .before .before .before .before .before .before .at-most .ensures) (c .before .before .before .before .get-vector .ensures) (l .inv .2) (c .before .before .put-lane .ensures),
+      turned-more (vectorsIn (x .dimension) (x .vectors .now)) (x .leaf .now) (x .first) (l .g) (c .before .before .before .before .before .before .lesser .result) (l .block) _ (c .before .before .before .before .get-vector .result .now) (c .before .before .before .before .before .before .before .loop-test .taken)
+          (c .before .before .before .before .before .before .lesser .ensures) (c .before .before .before .before .get-vector .ensures) (l .inv .2) (c .before .before .put-lane .ensures),
     )
 
 same-length : tie.Need-same-length Inv-loop μ-loop
@@ -77,8 +77,8 @@ turn-block-spec =
     μ-loop
     sub-last
     loop-holds
-    add-at-most
-    at-most-requires
+    add-lesser
+    lesser-requires
     mul-get-vector
     shared-slice-read-get-vector
     get-vector-requires
