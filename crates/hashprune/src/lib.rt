@@ -12,7 +12,7 @@
 // are what `hyperplanes` and `simhash` make. specs/Steps has what the steps say of each other.
 ghost use mathlib.Core.Path.{_≡_};
 ghost use mathlib.Core.List.{map};
-ghost use Prim.Native.Nat.{_+_, _-_, _≤_, _<_, min};
+ghost use Prim.Native.Nat.{_+_, _-_, _≤_, _<_};
 ghost use mathlib.Core.Bool.{_&&_};
 ghost use lib.Dec.{ltb, eqb};
 ghost use lib.Ieee.{binary32, lt};
@@ -29,18 +29,12 @@ ghost use Rattle.hashprune.specs.Steps.{CellRoom, PlaceRoom, RowRoom, So
 ghost use Rattle.hashprune.specs.Steps.{rankedPlace, selectedPairs, oldPairs, mergedPairs};
 ghost use Rattle.hashprune.specs.Hashprune.{Inserted};
 
-fn least(a: usize, b: usize) -> usize
-    ensures { λ r. ⌜ r ≡ min a b ⌝ }
-{
-    if a < b { a } else { b }
-}
-
 // The hash of a candidate's residual, seen from p.
 fn hash_of(p: &[f32], c: &[f32], planes: &[f32], bits: u32) -> u32
     ensures { λ r. ⌜ r ≡ hashBy (now (planes .entry)) bits (now (p .entry)) (now (c .entry)) ⌝ }
 {
     let mut room = [0.0f32; 64];
-    let n = least(64, least(p.len(), c.len()));
+    let n = slices::lesser(64, slices::lesser(p.len(), c.len()));
     simhash::residual_into(c, p, &mut room[..n]);
     simhash::simhash_residual(&room[..n], planes, bits)
 }
@@ -243,7 +237,7 @@ fn write_row(row: &mut [u32], nodes: &[u32])
     requires { ⌜ (1 ≤ length (now row)) × (length (now nodes) ≤ 64) ⌝ }
     ensures { λ _. ⌜ now (row .exit) ≡ rowBlock (length (now (row .entry)) - 1) (take (length (now (row .entry)) - 1) (now (nodes .entry))) ⌝ }
 {
-    row[0] = least(row.len() - 1, nodes.len()) as u32;
+    row[0] = slices::lesser(row.len() - 1, nodes.len()) as u32;
     let mut k: usize = 1;
     while k < row.len() {
         row[k] = node_or_zero(nodes, k - 1);
@@ -350,7 +344,7 @@ fn insert_with(
         &mut keys[old..],
         &mut ids[old..],
     );
-    let all = old + least(row.len() - 1, new);
+    let all = old + slices::lesser(row.len() - 1, new);
     merge_row(&mut keys[..all], &mut ids[..all], hashes, places, row);
 }
 

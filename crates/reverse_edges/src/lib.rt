@@ -10,7 +10,7 @@
 // proofs/Laws      a node's own row in its turn; what the words are after each step
 ghost use mathlib.Core.Path.{_≡_};
 ghost use lib.ListN.{length};
-ghost use Prim.Native.Nat.{_≤_, min};
+ghost use Prim.Native.Nat.{_≤_};
 ghost use Rattle.basics.specs.Nodes.{has};
 ghost use Rattle.reverse_edges.specs.Reversed.{Reversed, Turned, BackAdded, EntryAdded};
 
@@ -20,18 +20,12 @@ pub fn add_reverse_edges(rows: &mut [u32], degree: u16)
     ensures { λ _. ⌜ Reversed degree (now (rows .entry)) (now (rows .exit)) ⌝ }
 {
     let size = 1 + degree as usize;
-    let n = lesser(rows.len() / size, 1024) as u32;
+    let n = slices::lesser(rows.len() / size, 1024) as u32;
     let mut i: u32 = 0;
     while i < n {
         add_backs(rows, degree, i);
         i += 1;
     }
-}
-
-fn lesser(a: usize, b: usize) -> usize
-    ensures { λ r. ⌜ r ≡ min a b ⌝ }
-{
-    if a < b { a } else { b }
 }
 
 // A node's turn: it goes to the rows of its neighbours, in their order.

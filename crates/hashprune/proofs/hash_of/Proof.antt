@@ -13,11 +13,11 @@ use borrow.Author.Needs.{needs}
 use Rattle.hashprune.proofs.hash_of.Statement.{statement}
 use Rattle.hashprune.proofs.hash_of.Tie as tie
 
-least-requires : tie.Need-least-requires
-least-requires c κs = search needs
+lesser-requires : tie.Need-lesser-requires
+lesser-requires c κs = search needs
 
-least-requires-2 : tie.Need-least-requires-2
-least-requires-2 c κs = search needs
+lesser-requires-2 : tie.Need-lesser-requires-2
+lesser-requires-2 c κs = search needs
 
 array-borrow-prefix-room : tie.Need-array-borrow-prefix-room
 array-borrow-prefix-room c = search needs
@@ -45,7 +45,7 @@ returns : tie.Need-returns
 returns c =
     let a = c .before .before .before .before .before .before .before .before .before .before .args in
     let r = c .before .before .before .residual-into in
-    let n = c .before .before .before .before .before .least2 .result in
+    let n = c .before .before .before .before .before .lesser2 .result in
     let long = length-residual binary32 (a .c .now) (a .p .now) in
     c .simhash-residual .ensures
     ∙ ap (λ (l : List Float). blocksHash l (a .planes .now) (min (a .bits) 16))
@@ -55,8 +55,8 @@ pub hash-of-spec : {M : Type 1} → statement M
 hash-of-spec =
     tie.close
     (tie.spec
-    least-requires
-    least-requires-2
+    lesser-requires
+    lesser-requires-2
     array-borrow-prefix-room
     slice-aggregate-residual-into
     residual-into-requires

@@ -25,8 +25,8 @@ key-room c = omega (arith, few c, c .rank-row .kept .1 .1 .1 .1 .0, c .before .b
 id-room : (c : tie.After-rank-row) → c .rank-row .result + 64 ≤ length (c .rank-row .last .1 .1 .1 .1 .1 .0)
 id-room c = omega (arith, few c, c .rank-row .kept .1 .1 .1 .1 .1 .0, c .before .before .before .before .before .before .before .before .before .before .before .before .before .before .pre .1 .ids-room)
 
-all-few : (c : tie.After-least) → c .before .before .before .before .before .before .before .before .before .before .before .before .before .before .before .before .before .before .rank-row .result + c .least .result ≤ 64
-all-few c = omega (arith, few (c .before .before .before .before .before .before .before .before .before .before .before .before .before .before .before .before .before .before), c .least .ensures, c .before .before .before .before .before .before .before .before .before .before .before .before .before .before .before .before .before .before .before .before .before .before .before .before .before .before .before .before .before .before .before .before .pre .0 .short)
+all-few : (c : tie.After-lesser) → c .before .before .before .before .before .before .before .before .before .before .before .before .before .before .before .before .before .before .rank-row .result + c .lesser .result ≤ 64
+all-few c = omega (arith, few (c .before .before .before .before .before .before .before .before .before .before .before .before .before .before .before .before .before .before), c .lesser .ensures, c .before .before .before .before .before .before .before .before .before .before .before .before .before .before .before .before .before .before .before .before .before .before .before .before .before .before .before .before .before .before .before .before .pre .0 .short)
 
 rank-row-requires : tie.Need-rank-row-requires
 rank-row-requires c κs =
@@ -79,11 +79,11 @@ select-requires c κs =
       ids-room = simp (length-take, length-drop) (omega arith);
     }
 
-sub-least : tie.Need-sub-least
-sub-least c = omega (arith, c .before .before .before .before .before .before .before .before .before .before .before .before .before .before .before .before .before .before .before .before .before .before .before .before .before .before .before .before .before .before .before .pre .0 .counted)
+sub-lesser : tie.Need-sub-lesser
+sub-lesser c = omega (arith, c .before .before .before .before .before .before .before .before .before .before .before .before .before .before .before .before .before .before .before .before .before .before .before .before .before .before .before .before .before .before .before .pre .0 .counted)
 
-least-requires : tie.Need-least-requires
-least-requires c κs = search needs
+lesser-requires : tie.Need-lesser-requires
+lesser-requires c κs = search needs
 
 add-all : tie.Need-add-all
 add-all c = omega (arith, all-few c)
@@ -137,7 +137,7 @@ returns c =
     let a = c .before .before .before .before .before .before .before .before .before .before .before .before .before .before .before .before .before .before .before .before .before .before .before .before .before .before .before .before .before .before .before .before .before .before .before .before .before .before .before .before .before .before .before .before .before .before .before .before .args in
     let r = c .before .before .before .before .before .before .before .before .before .before .before .before .before .before .before .before .before .before .before .before .before .before .before .before .before .before .before .before .before .before .before .before .before .before .rank-row in
     let t = c .before .before .before .before .before .before .before .before .before .before .before .before .before .before .before .before .before .before .before .before .before .before .before .before .before .select in
-    let m = c .before .before .before .before .before .before .before .before .before .before .before .before .before .before .before .before .least in
+    let m = c .before .before .before .before .before .before .before .before .before .before .before .before .before .before .before .before .lesser in
     let D : ℕ = length (a .row .now) - 1 in
     c .before .before .before .before .before .before .before .before .before .before .merge-row .ensures
     ∙ ap (λ (ps : List (ℕ × ℕ)). rowBlock D (mergedPairs D ps))
@@ -160,8 +160,8 @@ insert-with-spec =
     part-select-start-2
     part-select-end-2
     select-requires
-    sub-least
-    least-requires
+    sub-lesser
+    lesser-requires
     add-all
     slice-relend-prefix-merge-row
     slice-aggregate-merge-row

@@ -17,12 +17,12 @@ abbrev μ-loop : tie.MeasureT-loop
 
 -- the row keeps its length
 long : (c : tie.At-loop Inv-loop μ-loop) → length (c .loop .row) ≡ length (c .before .before .before .before .args .row .now)
-long c = c .loop .inv .long ∙ length-set (c .before .before .before .before .args .row .now) 0 (c .before .least .result)
+long c = c .loop .inv .long ∙ length-set (c .before .before .before .before .args .row .now) 0 (c .before .lesser .result)
 
 loop-holds : tie.Need-loop-holds Inv-loop μ-loop
 loop-holds c =
     let s = c .before .before .before in
-    written-count (s .args .nodes .now) (s .args .row .now) (c .least .result) (s .pre .0) (c .least .ensures)
+    written-count (s .args .nodes .now) (s .args .row .now) (c .lesser .result) (s .pre .0) (c .lesser .ensures)
 
 mul-row : tie.Need-mul-row Inv-loop μ-loop
 mul-row c = omega (arith, long (c .before .before), c .before .before .before .before .before .before .good)
@@ -34,7 +34,7 @@ loop-again : tie.Need-loop-again Inv-loop μ-loop
 loop-again c =
     let l = c .before .before .loop in
     let a = c .before .before .before .before .before .before .args in
-    let n = c .before .before .before .least .result in
+    let n = c .before .before .before .lesser .result in
     written-more (a .nodes .now) (set (a .row .now) 0 n) (l .row) (l .k) (c .node-or-zero .result) (omega arith) (l .inv) (c .node-or-zero .ensures)
 
 same-length : tie.Need-same-length Inv-loop μ-loop
@@ -44,7 +44,7 @@ returns : tie.Need-returns Inv-loop μ-loop
 returns c =
     let l = c .before .loop in
     let a = c .before .before .before .before .before .args in
-    let n = c .before .before .least .result in
+    let n = c .before .before .lesser .result in
     written-end (a .nodes .now) (set (a .row .now) 0 n) (l .row) (l .k) (omega arith) (l .inv)
     ∙ ap (λ (m : ℕ). rowBlock (m - 1) (take (m - 1) (a .nodes .now))) (length-set (a .row .now) 0 n)
 
