@@ -17,6 +17,7 @@ use Rattle.walk.specs.Walk.{State, expand, walk}
 use Rattle.beam.specs.KeepClosest.{heldOf}
 use Rattle.beam.specs.Beam.{stopFactor, stopMultiplier, toFrontier, tooFar, tooMany}
 use Rattle.queues.specs.Queues.{frontRank, Queue, Held, Taken, Popping}
+use Rattle.ids.specs.declared.Node.{Node}
 use Rattle.queues.specs.declared.Popped.{Popped}
 use Rattle.queues.specs.declared.Popped.the-variants.{At, Empty}
 use Rattle.gathering.specs.Gathering.{Linked}
@@ -62,7 +63,7 @@ module _ (bridges links : List ℕ) (far : ℕ → Float) (n b : ℕ) (list : �
     taken : (nodes₀ seen front : List ℕ) → Between far n b nodes₀ words floats nodes w seen front → Taken far n front x popped
     taken nodes₀ seen front t = pop far n front (record { few = t .known .few; f32s = t .known .f32s; there = λ v m. t .known .there v (t .standing .sub v m) }) (t .standing .frontier)
 
-    not-both : (d : Float) (v : ℕ) → popped ≡ Empty → popped ≡ At d v → ⊥
+    not-both : (d : Float) (v : Node) → popped ≡ Empty → popped ≡ At d v → ⊥
     not-both d v p q = let z : _≡_ {A = ℕ} 0 1 = cc in omega arith
 
     pub step-empty : popped ≡ Empty → Stepping bridges links far n b list words words₁ floats floats nodes nodes w w true
@@ -74,14 +75,14 @@ module _ (bridges links : List ℕ) (far : ℕ → Float) (n b : ℕ) (list : �
       ends = λ _ more. refl;
       goes = λ f. absurd (mathlib.Core.Bool.true≢false f);
     }
-    step-empty e linked nodes₀ seen (u ∷ rest) t = absurd (not-both (far u) u e (taken nodes₀ seen (u ∷ rest) t .0))
+    step-empty e linked nodes₀ seen (u ∷ rest) t = absurd (not-both (far u) (record { 0 = u }) e (taken nodes₀ seen (u ∷ rest) t .0))
 
-    module _ (d : Float) (v : ℕ) (got : popped ≡ At d v) (stop : Bool) (stop-is : stop ≡ (leb b (w .held) && lt (mul binary32 (w .cutoff) stopFactor) d)) where
-      same-distance : (u : ℕ) → popped ≡ At (far u) u → d ≡ far u
+    module _ (d : Float) (v : Node) (got : popped ≡ At d v) (stop : Bool) (stop-is : stop ≡ (leb b (w .held) && lt (mul binary32 (w .cutoff) stopFactor) d)) where
+      same-distance : (u : ℕ) → popped ≡ At (far u) (record { 0 = u }) → d ≡ far u
       same-distance u e = cc
 
-      same-node : (u : ℕ) → popped ≡ At (far u) u → v ≡ u
-      same-node u e = cc
+      same-node : (u : ℕ) → popped ≡ At (far u) (record { 0 = u }) → v .0 ≡ u
+      same-node u e = let same : v ≡ record { 0 = u } = cc in ap (λ (x : Node). x .0) same
 
       too-far-is : (nodes₀ seen rest : List ℕ) (u : ℕ) → Between far n b nodes₀ words floats nodes w seen (u ∷ rest) → tooFar far b seen u ≡ stop
       unfolding tooFar
@@ -102,7 +103,7 @@ module _ (bridges links : List ℕ) (far : ℕ → Float) (n b : ℕ) (list : �
       }
 
       pub step-on : (words′ : List ℕ) (floats′ : List Float) (nodes′ : List ℕ) (r : Walk) (done : Bool) → stop ≡ false → ((u y : ℕ) → In y (list u) → y < n)
-          → Expanding bridges links far n b list v words₁ words′ floats floats′ nodes nodes′ w r → done ≡ (ltb (stopMultiplier * b) (r .scored) || leb n (r .scored))
+          → Expanding bridges links far n b list (v .0) words₁ words′ floats floats′ nodes nodes′ w r → done ≡ (ltb (stopMultiplier * b) (r .scored) || leb n (r .scored))
           → Stepping bridges links far n b list words words′ floats floats′ nodes nodes′ w r done
       unfolding walk tooMany
       step-on words′ floats′ nodes′ r done s below expanding di linked nodes₀ seen [] t = absurd (not-both d v (taken nodes₀ seen [] t .0) got)
@@ -117,10 +118,10 @@ module _ (bridges links : List ℕ) (far : ℕ → Float) (n b : ℕ) (list : �
           next : State
           next = expand (toFrontier far) (record { seen = seen; front = rest }) (list u)
 
-          at : v ≡ u
+          at : v .0 ≡ u
           at = same-node u (taken nodes₀ seen (u ∷ rest) t .0)
 
-          v-below : v < n
+          v-below : v .0 < n
           v-below = subst (λ (y : ℕ). y < n) (sym at) (t .standing .inside u (t .standing .sub u (here refl)))
 
           there′ : Between far n b nodes₀ words′ floats′ nodes′ r (next .seen) (next .front)

@@ -181,7 +181,7 @@ fn step(
         size,
         places,
         walk,
-        node,
+        node.0,
     );
     let done = ends_after(next, places, size);
     Went { walk: next, done }
@@ -240,7 +240,7 @@ fn prepare(words: &mut [u32], size: usize, places: u32)
 {
     let front = 2 * size;
     let held = 6 * size;
-    let held_end = held + 4 * least(places as usize, size);
+    let held_end = held + 4 * slices::lesser(places as usize, size);
     slices::clear_words(&mut words[..size]);
     tournament::clear(&mut words[front..held]);
     tournament::clear(&mut words[held..held_end]);

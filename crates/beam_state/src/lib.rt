@@ -45,7 +45,7 @@ fn push(
 {
     let front = 2 * size;
     let held = 6 * size;
-    let held_end = held + 4 * least(places as usize, size);
+    let held_end = held + 4 * slices::lesser(places as usize, size);
     let keys = 10 * size;
     let end = 11 * size;
     queues::enter(&mut words[front..held], floats, node);

@@ -17,6 +17,7 @@ use Rattle.tournament.proofs.Laws.{rank-id}
 use Rattle.beam.specs.KeepClosest.{keyAt, sooner}
 use Rattle.beam.specs.Beam.{toFrontier}
 use Rattle.queues.specs.Queues.{frontRank, Queue, Known, Entering, Popping}
+use Rattle.ids.specs.declared.Node.{Node}
 use Rattle.queues.specs.declared.Popped.the-variants.{At, Empty}
 use Rattle.queues.proofs.Laws.{put-in, take-out, first-node, none-first, queue-size}
 use Rattle.queues.proofs.Ranks.{front-order, front-below, front-one}
@@ -47,6 +48,9 @@ module _ (a b : ℕ → ℕ) (n : ℕ) (tree : List ℕ) where
 
 -- ---- the frontier
 
+abbrev node : ℕ → Node
+node v = record { 0 = v }
+
 pub entering : (v : ℕ) (floats : List Float) (tree tree′ : List ℕ) (d : Float) (k : ℕ) → d ≡ getD floats v (inf false) → k ≡ keyOf binary32 d
     → Putting v (rankOf k v) tree tree′ → Entering v floats tree tree′
 unfolding toFrontier
@@ -73,10 +77,10 @@ module _ (floats : List Float) (tree tree′ : List ℕ) (id : ℕ) (first : id 
       let same : id ≡ u = front-id far n u l known q in
       absurd (omega arith)
 
-  pub pop-at : (id ≡ 0xffff_ffff → ⊥) → (d : Float) → d ≡ getD floats id (inf false) → Putting id nothing tree tree′ → Popping floats tree tree′ (At d id)
+  pub pop-at : (id ≡ 0xffff_ffff → ⊥) → (d : Float) → d ≡ getD floats id (inf false) → Putting id nothing tree tree′ → Popping floats tree tree′ (At d (node id))
   pop-at ne d e put far n [] known q = absurd (ne (first ∙ none-id (keyAt far) (λ v. v) n tree j k q))
   pop-at ne d e put far n (u ∷ l) known q =
       let same : id ≡ u = front-id far n u l known q in (
-        ap₂ At (e ∙ ap (λ (v : ℕ). getD floats v (inf false)) same ∙ known .there u (here refl)) same,
+        ap₂ At (e ∙ ap (λ (v : ℕ). getD floats v (inf false)) same ∙ known .there u (here refl)) (ap node same),
         take-out (frontRank far) n u l tree tree′ (subst (λ (v : ℕ). Putting v nothing tree tree′) same put) q,
       )

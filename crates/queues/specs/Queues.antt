@@ -57,7 +57,7 @@ Entering v floats tree tree′ =
 -- what taking from a frontier gives and leaves
 abbrev pub Taken : (ℕ → Float) → ℕ → List ℕ → List ℕ → Popped → Type 0
 Taken far n [] tree′ r = (r ≡ Empty) × Queue (frontRank far) n [] tree′
-Taken far n (u ∷ front) tree′ r = (r ≡ At (far u) u) × Queue (frontRank far) n front tree′
+Taken far n (u ∷ front) tree′ r = (r ≡ At (far u) (record { 0 = u })) × Queue (frontRank far) n front tree′
 
 abbrev pub Popping : List Float → List ℕ → List ℕ → Popped → Type 0
 Popping floats tree tree′ r =

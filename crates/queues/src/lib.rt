@@ -18,12 +18,13 @@ ghost use lib.ListN.{getD};
 ghost use Rattle.tournament.specs.Tournament.{Putting};
 ghost use Rattle.order.specs.Order.{keyOf};
 ghost use Rattle.queues.specs.Queues.{Popping, Worst, Keeping, Entering, heldRank};
+use ids::Node;
 
 const NOTHING: u32 = 0xffff_ffff;
 
 // The nearest node of the frontier with its distance, or nothing where the frontier is empty.
 pub enum Popped {
-    At(f32, u32),
+    At(f32, Node),
     Empty,
 }
 
@@ -62,7 +63,7 @@ pub fn pop(tree: &mut [u32], floats: &[f32]) -> Popped
         return Popped::Empty;
     }
     tournament::put(tree, node, NOTHING, NOTHING);
-    Popped::At(distance_of(floats, node), node)
+    Popped::At(distance_of(floats, node), Node(node))
 }
 
 // Puts a distance at a place of the held.

@@ -77,7 +77,7 @@ pub const ZERO: usize = 15;
 pub const HEADER_SIZE: usize = 16;
 
 // A bridge's words: near, far.
-const BRIDGE_SIZE: usize = 2;
+pub const BRIDGE_SIZE: usize = 2;
 
 // What the state word says.
 pub const OPEN: u32 = 0;

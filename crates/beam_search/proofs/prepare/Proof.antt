@@ -14,8 +14,8 @@ mul-front c = search needs
 mul-held : tie.Need-mul-held
 mul-held c = search needs
 
-least-requires : tie.Need-least-requires
-least-requires c κs = search needs
+lesser-requires : tie.Need-lesser-requires
+lesser-requires c κs = search needs
 
 mul-held-end : tie.Need-mul-held-end
 mul-held-end c = search needs
@@ -73,7 +73,7 @@ returns c =
     let front = c .before .before .before .before .before .before .clear in
     let held = c .before .before .clear2 in
     prepared (a .size) (a .places) (a .words .now) (marks .last .0) (front .last .0) (held .last .0) (start .pre) (marks .ensures) (front .kept .0) _
-    (ap (λ (m : ℕ). 6 * a .size + 4 * m) (c .before .before .before .before .before .before .before .before .before .before .before .before .least .ensures)) (held .kept .0) (front .ensures) (held .ensures)
+    (ap (λ (m : ℕ). 6 * a .size + 4 * m) (c .before .before .before .before .before .before .before .before .before .before .before .before .lesser .ensures)) (held .kept .0) (front .ensures) (held .ensures)
 
 pub prepare-spec : {M : Type 1} → statement M
 prepare-spec =
@@ -81,7 +81,7 @@ prepare-spec =
     (tie.spec
     mul-front
     mul-held
-    least-requires
+    lesser-requires
     mul-held-end
     add-held-end
     slice-relend-prefix-clear-words

@@ -12,8 +12,8 @@ mul-front c = search needs
 mul-held : tie.Need-mul-held
 mul-held c = search needs
 
-least-requires : tie.Need-least-requires
-least-requires c κs = search needs
+lesser-requires : tie.Need-lesser-requires
+lesser-requires c κs = search needs
 
 mul-held-end : tie.Need-mul-held-end
 mul-held-end c = search needs
@@ -96,7 +96,7 @@ returns c =
     let far = c .before .before .before .before .before .before .before .before .before .distance-of in
     let key = c .before .before .before .before .before .before .before .before .key in
     let first = c .before .before .before .before .before .keep-first in
-    let end = ap (λ (m : ℕ). 6 * a .size + 4 * m) (c .before .before .before .before .before .before .before .before .before .before .before .before .before .before .before .before .before .before .least .ensures) in (
+    let end = ap (λ (m : ℕ). 6 * a .size + 4 * m) (c .before .before .before .before .before .before .before .before .before .before .before .before .before .before .before .before .before .before .lesser .ensures) in (
       push-frame (a .size) (a .places) (a .node) (a .floats .now) (a .walk) (a .words .now) (a .nodes .now) (start .pre) (enter .last .0) (keep .last .0) (first .last .0) (first .last .1 .0)
           (enter .kept .0) _ end (keep .kept .0) (first .kept .0),
       push-is (a .size) (a .places) (a .node) (a .floats .now) (a .walk) (a .words .now) (a .nodes .now) (start .pre) (enter .last .0) (keep .last .0) (first .last .0) (first .last .1 .0)
@@ -110,7 +110,7 @@ push-spec =
     (tie.spec
     mul-front
     mul-held
-    least-requires
+    lesser-requires
     mul-held-end
     add-held-end
     mul-keys
