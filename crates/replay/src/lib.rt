@@ -19,8 +19,8 @@ pub struct Line {
     pub next: usize,
 }
 
-// The value of a hexadecimal digit, and 16 for any other byte.
-fn digit(b: u8) -> u64
+// The value of a hexadecimal digit in lower case, and 16 for any other byte.
+pub fn digit(b: u8) -> u64
     ensures { λ r. ⌜ r ≤ 16 ⌝ }
 {
     match b {

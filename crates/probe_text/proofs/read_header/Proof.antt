@@ -1,8 +1,8 @@
 -- The invariant: the key is one of the ten, or the one after the last. The measure is how many keys are left. Assumes nothing.
 use Prim.Native.Nat.{_-_, _≤_}
 use borrow.Author.Needs.{needs}
-use Rattle.probe_lines.proofs.read_header.Statement.{statement}
-use Rattle.probe_lines.proofs.read_header.Tie as tie
+use Rattle.probe_text.proofs.read_header.Statement.{statement}
+use Rattle.probe_text.proofs.read_header.Tie as tie
 
 abbrev Inv-loop : tie.InvT-loop
 Inv-loop line key₀ key = key ≤ 10

@@ -2,8 +2,8 @@
 use Prim.Native.Nat.{_-_, _≤_}
 use lib.ListN.{length}
 use borrow.Author.Needs.{needs}
-use Rattle.probe_lines.proofs.past.Statement.{statement}
-use Rattle.probe_lines.proofs.past.Tie as tie
+use Rattle.probe_text.proofs.past.Statement.{statement}
+use Rattle.probe_text.proofs.past.Tie as tie
 
 abbrev Inv-loop : tie.InvT-loop
 Inv-loop line start i₀ i = i ≤ length start

@@ -3,8 +3,8 @@ use Prim.Native.Nat.{_-_, _≤_}
 use mathlib.Core.Path.{_≡_}
 use lib.ListN.{length}
 use borrow.Author.Needs.{needs}
-use Rattle.probe_lines.proofs.put.Statement.{statement}
-use Rattle.probe_lines.proofs.put.Tie as tie
+use Rattle.probe_text.proofs.put.Statement.{statement}
+use Rattle.probe_text.proofs.put.Tie as tie
 
 abbrev Inv-loop : tie.InvT-loop
 Inv-loop out₀ at text to₀ i₀ out to i = (length out ≡ length out₀) × (i ≤ length text)

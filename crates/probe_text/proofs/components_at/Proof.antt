@@ -4,8 +4,8 @@ use mathlib.Core.Path.{_≡_}
 use lib.ListN.{length}
 use native.Mathlib.Omega.{arith}
 use borrow.Author.Needs.{needs}
-use Rattle.probe_lines.proofs.components_at.Statement.{statement}
-use Rattle.probe_lines.proofs.components_at.Tie as tie
+use Rattle.probe_text.proofs.components_at.Statement.{statement}
+use Rattle.probe_text.proofs.components_at.Tie as tie
 
 abbrev Inv-loop : tie.InvT-loop
 Inv-loop line at vector₀ count₀ i₀ vector count i = length vector ≡ length vector₀

@@ -3,8 +3,8 @@ use Prim.Native.Nat.{_-_, _≤_}
 use mathlib.Core.Path.{_≡_}
 use lib.ListN.{length}
 use borrow.Author.Needs.{needs}
-use Rattle.probe_lines.proofs.put_ranks.Statement.{statement}
-use Rattle.probe_lines.proofs.put_ranks.Tie as tie
+use Rattle.probe_text.proofs.put_ranks.Statement.{statement}
+use Rattle.probe_text.proofs.put_ranks.Tie as tie
 
 abbrev Inv-loop : tie.InvT-loop
 Inv-loop out₀ from count docs distances at₀ i₀ out at i = (length out ≡ length out₀) × (i ≤ count)

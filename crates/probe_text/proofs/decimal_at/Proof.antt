@@ -2,8 +2,8 @@
 use Prim.Native.Nat.{_-_, _≤_}
 use lib.ListN.{length}
 use borrow.Author.Needs.{needs}
-use Rattle.probe_lines.proofs.decimal_at.Statement.{statement}
-use Rattle.probe_lines.proofs.decimal_at.Tie as tie
+use Rattle.probe_text.proofs.decimal_at.Statement.{statement}
+use Rattle.probe_text.proofs.decimal_at.Tie as tie
 
 abbrev Inv-loop : tie.InvT-loop
 Inv-loop line at value₀ i₀ value i = value ≤ 4294967295

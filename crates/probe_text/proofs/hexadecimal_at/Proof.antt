@@ -1,8 +1,8 @@
 -- The invariant: the place went on from `at`. The measure is how many digits are left. Assumes nothing.
 use Prim.Native.Nat.{_≤_}
 use borrow.Author.Needs.{needs}
-use Rattle.probe_lines.proofs.hexadecimal_at.Statement.{statement}
-use Rattle.probe_lines.proofs.hexadecimal_at.Tie as tie
+use Rattle.probe_text.proofs.hexadecimal_at.Statement.{statement}
+use Rattle.probe_text.proofs.hexadecimal_at.Tie as tie
 
 abbrev Inv-loop : tie.InvT-loop
 Inv-loop line at digits value₀ i₀ left₀ value i left = at ≤ i
