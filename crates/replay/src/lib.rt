@@ -3,7 +3,7 @@
 //
 // Everything here is proved safe on every text, and nothing more: what a replay prints is compared with
 // what it should print. A token that is missing counts as 0.
-ghost use Prim.Native.Nat.{_+_, _-_, _≤_};
+ghost use Prim.Native.Nat.{_+_, _-_, _≤_, _<_};
 ghost use mathlib.Core.Path.{_≡_};
 ghost use lib.ListN.{length, take};
 ghost use Rattle.replay.specs.Bounds.{Advanced};
@@ -279,6 +279,55 @@ pub fn same_words(tokens: &[u64], from: usize, xs: &[u32]) -> bool {
     same
 }
 
+// Kinds of lines are named by a list of words, each with a space after it, and numbered in its order. The
+// number after the last stands for a line of no kind.
+
+// Where the name that starts at `from` ends, after its space.
+fn past_name(names: &[u8], from: usize) -> usize
+    requires { ⌜ from < length (now names) ⌝ }
+    ensures { λ r. ⌜ (from < r) × (r ≤ length (now (names .entry))) ⌝ }
+{
+    let mut i = from;
+    while i < names.len() {
+        if names[i] == b' ' {
+            return i + 1;
+        }
+        i += 1;
+    }
+    i
+}
+
+// The kind of the line that starts at `at`.
+pub fn kind_at(names: &[u8], text: &[u8], at: usize) -> usize {
+    let mut kind: usize = 0;
+    let mut from: usize = 0;
+    while from < names.len() {
+        let next = past_name(names, from);
+        if starts(text, at, &names[from..next]) {
+            return kind;
+        }
+        kind += 1;
+        from = next;
+    }
+    kind
+}
+
+fn bump(tallies: &mut [u64], i: usize, by: u64) {
+    if i < tallies.len() {
+        tallies[i] = std::num::wrapping_add_u64(tallies[i], by);
+    }
+}
+
+// Counts a case at place `kind`, and one that differs as far into the second half too.
+pub fn count(tallies: &mut [u64], kind: usize, same: bool) {
+    let half = tallies.len() / 2;
+    if half <= kind {
+        return;
+    }
+    bump(tallies, kind, 1);
+    bump(tallies, half + kind, (!same) as u64);
+}
+
 // Ends a line that names a kind: how many cases there were, and how many differ.
 pub fn write_tally(cases: u64, differ: u64) {
     io::write_all(STDOUT_FILENO, b": ");
@@ -286,4 +335,20 @@ pub fn write_tally(cases: u64, differ: u64) {
     io::write_all(STDOUT_FILENO, b" cases, ");
     io::print_decimal(STDOUT_FILENO, differ);
     io::write_all(STDOUT_FILENO, b" differ\n");
+}
+
+// Writes a line for each kind that has a name, and one for lines of no kind.
+pub fn write_tallies(names: &[u8], tallies: &[u64]) {
+    let half = tallies.len() / 2;
+    let mut kind: usize = 0;
+    let mut from: usize = 0;
+    while from < names.len() {
+        let next = past_name(names, from);
+        io::write_all(STDOUT_FILENO, &names[from..next - 1]);
+        write_tally(token(tallies, 0, kind), token(tallies, half, kind));
+        kind += 1;
+        from = next;
+    }
+    io::write_all(STDOUT_FILENO, b"of no kind");
+    write_tally(token(tallies, 0, kind), token(tallies, half, kind));
 }

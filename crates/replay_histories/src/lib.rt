@@ -4,7 +4,6 @@
 // `replay_input` takes all of standard input and prints for each kind of line how many cases there were and
 // how many differ. The programs replay_store, replay_build, replay_search and replay_recognise are that, each
 // on its own recorded text. Everything here is proved safe on every text, and nothing more.
-ghost use Prim.Native.Nat.{_≤_};
 ghost use mathlib.Core.Path.{_≡_};
 ghost use lib.ListN.{length};
 use graph_histories::Outcome;
@@ -12,35 +11,16 @@ use histories::History;
 use libc::STDOUT_FILENO;
 use replay::Line;
 
-// The kinds: those whose answers are compared, in the order in which they are told, the last of these for a
-// line of no kind; those that prepare; and leaves that cannot be compared.
-const NEW: usize = 0;
-
-const ADD: usize = 1;
-
-const ADDS: usize = 2;
-
-const BUILD: usize = 3;
-
-const FIND: usize = 4;
-
-const SUM: usize = 5;
-
-const WORDS: usize = 6;
-
-const LEAVES: usize = 7;
+// The kinds whose answers are compared, in the order in which they are told.
+const NAMES: [u8; 83] =
+    *b"new add adds build find sum words leaves leavesof recognise score decide household ";
 
 const LEAVESOF: usize = 8;
 
-const RECOGNISE: usize = 9;
-
-const SCORE: usize = 10;
-
-const DECIDE: usize = 11;
-
-const HOUSEHOLD: usize = 12;
-
 const NO_KIND: usize = 13;
+
+// Those that prepare, numbered after the others.
+const PREPARING: [u8; 21] = *b"fill lend word float ";
 
 const FILL: usize = 14;
 
@@ -50,103 +30,15 @@ const WORD: usize = 16;
 
 const FLOAT: usize = 17;
 
+// Leaves that cannot be compared are counted behind all kinds.
 const NOT_COMPARED: usize = 18;
 
-const KINDS: usize = 19;
-
-fn call_kind_at(text: &[u8], at: usize) -> usize
-    ensures { λ r. ⌜ r ≤ 13 ⌝ }
-{
-    if replay::starts(text, at, b"new ") {
-        return NEW;
+fn kind_at(text: &[u8], at: usize) -> usize {
+    let preparing = replay::kind_at(&PREPARING, text, at);
+    if preparing < 4 {
+        return FILL + preparing;
     }
-    if replay::starts(text, at, b"add ") {
-        return ADD;
-    }
-    if replay::starts(text, at, b"adds ") {
-        return ADDS;
-    }
-    if replay::starts(text, at, b"build ") {
-        return BUILD;
-    }
-    if replay::starts(text, at, b"find ") {
-        return FIND;
-    }
-    NO_KIND
-}
-
-fn recognising_kind_at(text: &[u8], at: usize) -> usize
-    ensures { λ r. ⌜ r ≤ 13 ⌝ }
-{
-    if replay::starts(text, at, b"recognise ") {
-        return RECOGNISE;
-    }
-    if replay::starts(text, at, b"score ") {
-        return SCORE;
-    }
-    if replay::starts(text, at, b"decide ") {
-        return DECIDE;
-    }
-    if replay::starts(text, at, b"household ") {
-        return HOUSEHOLD;
-    }
-    call_kind_at(text, at)
-}
-
-fn asking_kind_at(text: &[u8], at: usize) -> usize
-    ensures { λ r. ⌜ r ≤ 13 ⌝ }
-{
-    if replay::starts(text, at, b"sum ") {
-        return SUM;
-    }
-    if replay::starts(text, at, b"words ") {
-        return WORDS;
-    }
-    if replay::starts(text, at, b"leaves ") {
-        return LEAVES;
-    }
-    if replay::starts(text, at, b"leavesof ") {
-        return LEAVESOF;
-    }
-    recognising_kind_at(text, at)
-}
-
-fn kind_at(text: &[u8], at: usize) -> usize
-    ensures { λ r. ⌜ r ≤ 17 ⌝ }
-{
-    if replay::starts(text, at, b"fill ") {
-        return FILL;
-    }
-    if replay::starts(text, at, b"lend ") {
-        return LEND;
-    }
-    if replay::starts(text, at, b"word ") {
-        return WORD;
-    }
-    if replay::starts(text, at, b"float ") {
-        return FLOAT;
-    }
-    asking_kind_at(text, at)
-}
-
-fn write_kind(kind: usize) {
-    match kind {
-        0 => io::write_all(STDOUT_FILENO, b"new"),
-        1 => io::write_all(STDOUT_FILENO, b"add"),
-        2 => io::write_all(STDOUT_FILENO, b"adds"),
-        3 => io::write_all(STDOUT_FILENO, b"build"),
-        4 => io::write_all(STDOUT_FILENO, b"find"),
-        5 => io::write_all(STDOUT_FILENO, b"sum"),
-        6 => io::write_all(STDOUT_FILENO, b"words"),
-        7 => io::write_all(STDOUT_FILENO, b"leaves"),
-        8 => io::write_all(STDOUT_FILENO, b"leavesof"),
-        9 => io::write_all(STDOUT_FILENO, b"recognise"),
-        10 => io::write_all(STDOUT_FILENO, b"score"),
-        11 => io::write_all(STDOUT_FILENO, b"decide"),
-        12 => io::write_all(STDOUT_FILENO, b"household"),
-        _ => io::write_all(STDOUT_FILENO, b"of no kind"),
-    }
-    ;
+    replay::kind_at(&NAMES, text, at)
 }
 
 // Whether a case is as recorded.
@@ -200,26 +92,12 @@ fn prepared(
     h
 }
 
-fn bump(tallies: &mut [u64], i: usize, by: u64) {
-    if i < tallies.len() {
-        tallies[i] = std::num::wrapping_add_u64(tallies[i], by);
-    }
-}
-
-// Counts a line at place `kind`, and a case that differs KINDS places further on too.
-fn count(tallies: &mut [u64], kind: usize, same: bool)
-    requires { ⌜ kind ≤ 18 ⌝ }
-{
-    bump(tallies, kind, 1);
-    bump(tallies, KINDS + kind, (!same) as u64);
-}
-
 // Counts a line of leaves that are recorded by their checksum.
 fn count_outcome(tallies: &mut [u64], outcome: Outcome) {
     match outcome {
-        Outcome::Same => count(tallies, LEAVESOF, true),
-        Outcome::Differs => count(tallies, LEAVESOF, false),
-        Outcome::NotCompared => count(tallies, NOT_COMPARED, true),
+        Outcome::Same => replay::count(tallies, LEAVESOF, true),
+        Outcome::Differs => replay::count(tallies, LEAVESOF, false),
+        Outcome::NotCompared => replay::count(tallies, NOT_COMPARED, true),
     }
 }
 
@@ -233,9 +111,7 @@ fn replay_tokens(
     vector: &mut [f32],
     tallies: &mut [u64],
     h: History,
-) -> History
-    requires { ⌜ kind ≤ 17 ⌝ }
-{
+) -> History {
     if kind == LEAVESOF {
         let outcome = graph_histories::leavesof_is_same(tokens, asked, vector);
         count_outcome(tallies, outcome);
@@ -243,7 +119,7 @@ fn replay_tokens(
     }
     if kind <= NO_KIND {
         let same = is_same(kind, tokens, asked, words, floats, vector, h);
-        count(tallies, kind, same);
+        replay::count(tallies, kind, same);
         return h;
     }
     prepared(kind, tokens, words, floats, h)
@@ -259,9 +135,7 @@ fn replay_line(
     vector: &mut [f32],
     tallies: &mut [u64],
     h: History,
-) -> History
-    requires { ⌜ kind ≤ 17 ⌝ }
-{
+) -> History {
     let own = replay::front_tokens(tokens, line.count);
     replay_tokens(kind, own, line.asked, words, floats, vector, tallies, h)
 }
@@ -322,18 +196,6 @@ fn replay_all(
     }
 }
 
-fn write_tallies(tallies: &[u64]) {
-    let mut kind: usize = 0;
-    while kind <= NO_KIND {
-        write_kind(kind);
-        replay::write_tally(
-            replay::token(tallies, 0, kind),
-            replay::token(tallies, KINDS, kind),
-        );
-        kind += 1;
-    }
-}
-
 fn write_not_compared(tallies: &[u64]) {
     io::write_all(STDOUT_FILENO, b"leavesof with leaves of no node: ");
     io::print_decimal(STDOUT_FILENO, replay::token(tallies, 0, NOT_COMPARED));
@@ -383,6 +245,6 @@ pub fn replay_input() {
         &mut vector,
         &mut tallies,
     );
-    write_tallies(&tallies);
+    replay::write_tallies(&NAMES, &tallies);
     write_not_compared(&tallies);
 }

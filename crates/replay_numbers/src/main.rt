@@ -4,7 +4,6 @@
 ghost use Prim.Native.Nat.{_≤_};
 ghost use mathlib.Core.Path.{_≡_};
 ghost use lib.ListN.{length};
-use libc::STDOUT_FILENO;
 use simd::Eight;
 
 // Past a counted list that starts at `at`.
@@ -115,56 +114,11 @@ fn centroid_is_same(tokens: &[u64], asked: usize, vectors: &mut [f32], sums: &mu
     replay::same_floats(tokens, asked, replay::front(sums, dimension))
 }
 
-// The kinds, in the order in which they are told; the last stands for a line of no kind.
-const KINDS: usize = 10;
+// The kinds, in the order in which they are told.
+const NAMES: [u8; 61] = *b"dot distance root scale multiply plane leaders draw centroid ";
 
-fn kind_at(text: &[u8], at: usize) -> usize
-    ensures { λ r. ⌜ r ≤ 9 ⌝ }
-{
-    if replay::starts(text, at, b"dot ") {
-        return 0;
-    }
-    if replay::starts(text, at, b"distance ") {
-        return 1;
-    }
-    if replay::starts(text, at, b"root ") {
-        return 2;
-    }
-    if replay::starts(text, at, b"scale ") {
-        return 3;
-    }
-    if replay::starts(text, at, b"multiply ") {
-        return 4;
-    }
-    if replay::starts(text, at, b"plane ") {
-        return 5;
-    }
-    if replay::starts(text, at, b"leaders ") {
-        return 6;
-    }
-    if replay::starts(text, at, b"draw ") {
-        return 7;
-    }
-    if replay::starts(text, at, b"centroid ") {
-        return 8;
-    }
-    9
-}
-
-fn write_kind(kind: usize) {
-    match kind {
-        0 => io::write_all(STDOUT_FILENO, b"dot"),
-        1 => io::write_all(STDOUT_FILENO, b"distance"),
-        2 => io::write_all(STDOUT_FILENO, b"root"),
-        3 => io::write_all(STDOUT_FILENO, b"scale"),
-        4 => io::write_all(STDOUT_FILENO, b"multiply"),
-        5 => io::write_all(STDOUT_FILENO, b"plane"),
-        6 => io::write_all(STDOUT_FILENO, b"leaders"),
-        7 => io::write_all(STDOUT_FILENO, b"draw"),
-        8 => io::write_all(STDOUT_FILENO, b"centroid"),
-        _ => io::write_all(STDOUT_FILENO, b"of no kind"),
-    }
-    ;
+fn kind_at(text: &[u8], at: usize) -> usize {
+    replay::kind_at(&NAMES, text, at)
 }
 
 // Whether a case is as recorded.
@@ -191,20 +145,6 @@ fn is_same(
     }
 }
 
-fn bump(tallies: &mut [u64], i: usize, by: u64) {
-    if i < tallies.len() {
-        tallies[i] = std::num::wrapping_add_u64(tallies[i], by);
-    }
-}
-
-// Counts a case at place `kind`, and one that differs KINDS places further on too.
-fn count(tallies: &mut [u64], kind: usize, same: bool)
-    requires { ⌜ kind ≤ 9 ⌝ }
-{
-    bump(tallies, kind, 1);
-    bump(tallies, KINDS + kind, (!same) as u64);
-}
-
 // Replays the lines whose end stands in the text. Answers where the first of the others starts.
 fn replay_lines(
     text: &[u8],
@@ -222,7 +162,7 @@ fn replay_lines(
         if !line.whole {
             return at;
         }
-        count(tallies, kind, is_same(kind, tokens, line.asked, a, b, w, v));
+        replay::count(tallies, kind, is_same(kind, tokens, line.asked, a, b, w, v));
         at = line.next;
     }
     at
@@ -248,18 +188,6 @@ fn replay_all(
         }
         at = replay_lines(replay::front_bytes(text, end), tokens, a, b, w, v, tallies);
         turns -= 1;
-    }
-}
-
-fn write_tallies(tallies: &[u64]) {
-    if tallies.len() < 2 * KINDS {
-        return;
-    }
-    let mut kind: usize = 0;
-    while kind < KINDS {
-        write_kind(kind);
-        replay::write_tally(tallies[kind], tallies[KINDS + kind]);
-        kind += 1;
     }
 }
 
@@ -298,5 +226,5 @@ fn main() {
         &mut v,
         &mut tallies,
     );
-    write_tallies(&tallies);
+    replay::write_tallies(&NAMES, &tallies);
 }

@@ -1,10 +1,8 @@
 // Replays the recorded answers on the order of distances (recorded/README.md, sorting): all of them sorted,
 // and the first few, each compared with the oracle's places. Prints for each kind how many cases there
 // were and how many differ.
-ghost use Prim.Native.Nat.{_≤_};
 ghost use mathlib.Core.Path.{_≡_};
 ghost use lib.ListN.{length};
-use libc::STDOUT_FILENO;
 
 // The keys of up to n distances, from `from` on, and their places, at the fronts of two slices.
 fn load_keys(tokens: &[u64], from: usize, n: usize, keys: &mut [u32], places: &mut [u32]) {
@@ -64,28 +62,11 @@ fn first_is_same(tokens: &[u64], asked: usize, keys: &mut [u32], places: &mut [u
     replay::same_words(tokens, asked, replay::front_words(places, held))
 }
 
-// The kinds, in the order in which they are told; the last stands for a line of no kind.
-const KINDS: usize = 3;
+// The kinds, in the order in which they are told.
+const NAMES: [u8; 11] = *b"sort first ";
 
-fn kind_at(text: &[u8], at: usize) -> usize
-    ensures { λ r. ⌜ r ≤ 2 ⌝ }
-{
-    if replay::starts(text, at, b"sort ") {
-        return 0;
-    }
-    if replay::starts(text, at, b"first ") {
-        return 1;
-    }
-    2
-}
-
-fn write_kind(kind: usize) {
-    match kind {
-        0 => io::write_all(STDOUT_FILENO, b"sort"),
-        1 => io::write_all(STDOUT_FILENO, b"first"),
-        _ => io::write_all(STDOUT_FILENO, b"of no kind"),
-    }
-    ;
+fn kind_at(text: &[u8], at: usize) -> usize {
+    replay::kind_at(&NAMES, text, at)
 }
 
 // Whether a case is as recorded.
@@ -105,20 +86,6 @@ fn is_same(
     }
 }
 
-fn bump(tallies: &mut [u64], i: usize, by: u64) {
-    if i < tallies.len() {
-        tallies[i] = std::num::wrapping_add_u64(tallies[i], by);
-    }
-}
-
-// Counts a case at place `kind`, and one that differs KINDS places further on too.
-fn count(tallies: &mut [u64], kind: usize, same: bool)
-    requires { ⌜ kind ≤ 2 ⌝ }
-{
-    bump(tallies, kind, 1);
-    bump(tallies, KINDS + kind, (!same) as u64);
-}
-
 // Replays the lines whose end stands in the text. Answers where the first of the others starts.
 fn replay_lines(
     text: &[u8],
@@ -136,7 +103,7 @@ fn replay_lines(
         if !line.whole {
             return at;
         }
-        count(tallies, kind, is_same(kind, tokens, line.asked, w, v, x, y));
+        replay::count(tallies, kind, is_same(kind, tokens, line.asked, w, v, x, y));
         at = line.next;
     }
     at
@@ -162,18 +129,6 @@ fn replay_all(
         }
         at = replay_lines(replay::front_bytes(text, end), tokens, w, v, x, y, tallies);
         turns -= 1;
-    }
-}
-
-fn write_tallies(tallies: &[u64]) {
-    if tallies.len() < 2 * KINDS {
-        return;
-    }
-    let mut kind: usize = 0;
-    while kind < KINDS {
-        write_kind(kind);
-        replay::write_tally(tallies[kind], tallies[KINDS + kind]);
-        kind += 1;
     }
 }
 
@@ -206,5 +161,5 @@ fn main() {
         &mut y,
         &mut tallies,
     );
-    write_tallies(&tallies);
+    replay::write_tallies(&NAMES, &tallies);
 }
