@@ -29,9 +29,9 @@ use Rattle.calls.specs.Build.{ownBuildChecks, buildChecks, buildSpec}
 use Rattle.calls.specs.Search.{mostNodes, mostBeam, ownSearchChecks, searchChecks, Reply, refused, replyOf, searchWithEfSpec, searchSpec}
 use Rattle.calls.proofs.Taken.{build-taken, search-replied}
 use Rattle.promise.specs.Calls.{Typed, Call, new, add, build, searchWithEf, search, outcome, Index, Past, nothing, opened, built, then}
-use Rattle.promise.proofs.Made.{Made, open-state, call-made}
+use Rattle.promise.proofs.Made.{Made, open-state, built-state, call-made}
 use Rattle.acceptance.specs.Acceptance.{Accepted, Scratch, Opens, Adds, Builds, Asks, AsksWithEf, Welcome, Accepts}
-use Rattle.acceptance.proofs.Sound.{Sound, Kept, Shown, open-shown, built-shown, built-state, open-passes, built-passes}
+use Rattle.acceptance.proofs.Sound.{Sound, Kept, Shown, open-shown, built-shown, open-passes, built-passes}
 use Rattle.acceptance.proofs.Keeping.{call-kept}
 
 pass-both : (first second : List Check) → Pass first → Pass second → Pass (first ++ second)

@@ -3,12 +3,12 @@
 use mathlib.Core.Path.{_≡_, refl, sym, ap, ap₂, _∙_, subst}
 use mathlib.Core.Bool.{Bool, true, _&&_}
 use mathlib.Core.List.{List, [], _∷_, map-append}
-use Prim.Native.Nat.{ℕ, zero, suc, _+_, _*_, _≤_, _<_}
+use Prim.Native.Nat.{ℕ, suc, _+_, _*_, _≤_, _<_}
 use native.Mathlib.Nat.{add-zero}
 use native.Mathlib.Numerals.{add-one}
 use native.Mathlib.Omega.{arith}
 use lib.Dec.{eqb, eqb→eq}
-use lib.ListN.{length, getD, take, drop, set, length-append}
+use lib.ListN.{getD, take, drop, set, length-append}
 use lib.Seq.{drop-drop, getD-take, getD-drop}
 use lib.Ieee.{Float, binary32}
 use lib.Ieee.Scale.{finite}
@@ -21,47 +21,25 @@ use Rattle.basics.proofs.Pieces.{pieces-more}
 use Rattle.params.specs.declared.PipnnParams.{PipnnParams}
 use Rattle.params.specs.Limits.{mostDimension, mostCapacity}
 use Rattle.norm.specs.Norm.{scaledOf}
-use Rattle.store.specs.Layout.{word, builtState, stateAt, dimensionAt, nodesAt, degreeAt, finalPruneAt, capacityAt, zeroAt, docsAt, rowsAt, rowSize, rowAt, wordsSize}
+use Rattle.store.specs.Layout.{word, builtState, stateAt, nodesAt, degreeAt, finalPruneAt, capacityAt, zeroAt, docsAt, rowsAt, rowSize, rowAt}
 use Rattle.store.specs.View.{paramsOf, emptyHeader, rowWords, view}
 use Rattle.store.specs.WellFormed.{countOk}
-use Rattle.store.proofs.Reading.{vectors-read}
-use Rattle.pipnn.specs.Answer.{Answer, unlessRefused}
 use Rattle.pipnn.specs.New.{newChecks, newWords, newFloats, newSpec}
 use Rattle.pipnn.specs.Add.{addChecks, addedWords, addedFloats, addSpec}
-use Rattle.pipnn.proofs.Answer.{changed, left-alone}
 use Rattle.pipnn.proofs.NewLaws.{NewTaken, new-taken}
 use Rattle.pipnn.proofs.AddLaws.{AddTaken, add-taken}
 use Rattle.pipnn.proofs.Views.{kept, counted, rows-kept}
 use Rattle.pipnn.proofs.Open.{OpenStore, new-open, add-open}
-use Rattle.graph_rows.specs.Rows.{Settings}
-use Rattle.calls.specs.Graph.{Graph, settingsOf, graphFor}
+use Rattle.calls.specs.Graph.{Graph, graphFor}
 use Rattle.calls.specs.Build.{buildChecks, builtWords, buildSpec}
 use Rattle.calls.specs.Search.{searchWithEfSpec, searchSpec}
 use Rattle.calls.proofs.Taken.{BuildTaken, build-taken}
-use Rattle.calls.proofs.Graph.{graph-many, graph-short, graph-few}
+use Rattle.calls.proofs.Views.{Fits, built-word, built-length, built-rows, build-fits}
 use Rattle.promise.specs.Calls.{Typed, Call, new, add, build, searchWithEf, search, outcome, Added, Index, Past, nothing, opened, built, withNode, accepted, then, vectorsOf, docsOf}
-use Rattle.promise.proofs.Made.{Made, open-state}
+use Rattle.promise.proofs.Made.{Made, changes, same-past, open-state, built-state}
 use Rattle.acceptance.proofs.Finite.{scaled-finite}
-use Rattle.acceptance.proofs.Parts.{every-both}
-use Rattle.acceptance.proofs.Laid.{built-word, built-length, built-counts}
-use Rattle.acceptance.proofs.Sound.{Sound, Kept, Shown, open-shown, built-state}
-
--- ---- a call that changes the stores, accepted or refused
-
-changes : (c : Call) (past : Past) (r : ℕ) (w : List ℕ) (f : List Float) (words : List ℕ) (floats : List Float) → Kept past w f
-    → (r ≡ 0 → Kept (accepted c past) words floats)
-    → Kept (then c (unlessRefused r w f words floats .0) past) (unlessRefused r w f words floats .1) (unlessRefused r w f words floats .2)
-unfolding then
-changes c past zero w f words floats s taken =
-    subst (λ (a : Answer). Kept (then c (a .0) past) (a .1) (a .2)) (changed 0 w f words floats refl) (taken refl)
-changes c past (suc r) w f words floats s taken =
-    subst (λ (a : Answer). Kept (then c (a .0) past) (a .1) (a .2)) (left-alone (suc r) w f words floats (λ e. omega arith)) s
-
--- a search changes nothing
-stays : (c : Call) (r : ℕ) (past : Past) (w : List ℕ) (f : List Float) → accepted c past ≡ past → Kept past w f → Kept (then c r past) w f
-unfolding then
-stays c zero past w f e s = subst (λ (h : Past). Kept h w f) (sym e) s
-stays c (suc r) past w f e s = s
+use Rattle.acceptance.proofs.Parts.{every-both, blocks-ok}
+use Rattle.acceptance.proofs.Sound.{Sound, Kept, Shown, open-shown}
 
 -- ---- `new`
 
@@ -175,17 +153,9 @@ unfolding view paramsOf
 build-sound ws fs x w f o s t =
     let h : Shown x w f = open-shown x w f o in
     let g : Graph = graphFor (view w f) in
-    let settings : Settings = settingsOf (word w dimensionAt) (paramsOf w) in
-    let vs : List (List Float) = pieces (word w dimensionAt) (word w nodesAt) f in
-    let many : length (g .rows) ≡ word w nodesAt = graph-many settings vs ∙ vectors-read w f in
-    let n : length vs ≡ word w nodesAt = vectors-read w f in
-    let few : length (g .bridges) ≤ word w capacityAt =
-    omega (arith, graph-few settings vs (omega (arith, t .some)), t .stores .header .nodes) in
-    let short = graph-short settings vs in
-    let long : wordsSize (word w capacityAt) (word w degreeAt) ≤ length w = t .stores .words in
-    let nodes : word w nodesAt ≤ word w capacityAt = t .stores .header .nodes in
+    let fits : Fits g w = build-fits ws fs w f t in
     let final : word (builtWords g w) finalPruneAt ≡ word w finalPruneAt =
-    built-word g w long nodes many short few finalPruneAt (omega arith) (λ e. omega arith) (λ e. omega arith) (λ e. omega arith) in
+    built-word g w fits finalPruneAt (omega arith) (λ e. omega arith) (λ e. omega arith) (λ e. omega arith) in
     record {
       dimension = s .dimension;
       limits = s .limits;
@@ -193,10 +163,10 @@ build-sound ws fs x w f o s t =
       nodes = s .nodes;
       vectors = s .vectors;
       final = omega (arith, final, s .final);
-      zero-word =
-          built-word g w long nodes many short few zeroAt (omega arith) (λ e. omega arith) (λ e. omega arith) (λ e. omega arith) ∙ s .zero-word;
-      counts = ap (λ (D : ℕ). every (countOk D) (rowWords (builtWords g w))) (sym (h .degree)) ∙ built-counts g w long nodes many short few;
-      words = omega (arith, built-length g w long nodes many short few, s .words);
+      zero-word = built-word g w fits zeroAt (omega arith) (λ e. omega arith) (λ e. omega arith) (λ e. omega arith) ∙ s .zero-word;
+      counts = ap (λ (D : ℕ). every (countOk D) (rowWords (builtWords g w))) (sym (h .degree)) ∙ ap (every (countOk (word w degreeAt))) (built-rows g w fits)
+          ∙ blocks-ok (word w degreeAt) (g .rows) (fits .short);
+      words = omega (arith, built-length g w fits, s .words);
       floats = s .floats;
     }
 
@@ -217,10 +187,10 @@ build-kept ws fs (built x) w f m s e =
 pub call-kept : (c : Call) (past : Past) (w : List ℕ) (f : List Float) → Made past w f → Kept past w f
     → Kept (then c (outcome c w f .0) past) (outcome c w f .1) (outcome c w f .2)
 unfolding outcome newSpec addSpec buildSpec accepted
-call-kept (new d p t c) past w f m s = changes (new d p t c) past (firstRefusal (newChecks d p c w f)) w f _ _ s (new-kept d p t c past w f)
-call-kept (add doc v) past w f m s = changes (add doc v) past (firstRefusal (addChecks w f v)) w f _ _ s (add-kept doc v past w f m s)
-call-kept (build ws fs) past w f m s = changes (build ws fs) past (firstRefusal (buildChecks ws fs w f)) w f _ f s (build-kept ws fs past w f m s)
+call-kept (new d p t c) past w f m s = changes Kept (new d p t c) past (firstRefusal (newChecks d p c w f)) w f _ _ s (new-kept d p t c past w f)
+call-kept (add doc v) past w f m s = changes Kept (add doc v) past (firstRefusal (addChecks w f v)) w f _ _ s (add-kept doc v past w f m s)
+call-kept (build ws fs) past w f m s = changes Kept (build ws fs) past (firstRefusal (buildChecks ws fs w f)) w f _ f s (build-kept ws fs past w f m s)
 call-kept (searchWithEf ws fs q k ef docs distances) past w f m s =
-    stays (searchWithEf ws fs q k ef docs distances) (searchWithEfSpec ws fs w f q k ef docs distances .number) past w f refl s
+    subst (λ (h : Past). Kept h w f) (sym (same-past (searchWithEf ws fs q k ef docs distances) (searchWithEfSpec ws fs w f q k ef docs distances .number) past refl)) s
 call-kept (search ws fs q k docs distances) past w f m s =
-    stays (search ws fs q k docs distances) (searchSpec ws fs w f q k docs distances .number) past w f refl s
+    subst (λ (h : Past). Kept h w f) (sym (same-past (search ws fs q k docs distances) (searchSpec ws fs w f q k docs distances .number) past refl)) s

@@ -1,7 +1,6 @@
 pub mod Finite
 pub mod Parts
 pub mod Sound
-pub mod Laid
 pub mod Keeping
 pub mod Acceptance
 pub mod Examples

@@ -7,16 +7,15 @@ use mathlib.Core.List.{List, []}
 use mathlib.Core.List.{List·Memᴰ as In}
 use Prim.Native.Nat.{ℕ, _≤_, _<_}
 use native.Mathlib.Omega.{arith}
-use lib.ListN.{length, getD, length-map}
-use lib.Ieee.{Float, binary32}
+use lib.ListN.{length, getD}
+use lib.Ieee.{Float}
 use lib.Ieee.Scale.{finite}
 use borrow.Author.Tests.{le-ltb}
 use Rattle.basics.specs.Lists.{every, pieces}
 use Rattle.basics.proofs.Refusals.{Pass}
 use Rattle.params.specs.Limits.{dimensionWithin, capacityWithin, withinLimits}
-use Rattle.norm.specs.Norm.{scaledOf}
 use Rattle.store.specs.declared.Lent.{Lent}
-use Rattle.store.specs.Layout.{word, builtState, headerSize, stateAt, dimensionAt, nodesAt, degreeAt, finalPruneAt, entryAt, bridgeCountAt, capacityAt, zeroAt, wordsSize, floatsSize}
+use Rattle.store.specs.Layout.{word, headerSize, dimensionAt, nodesAt, degreeAt, finalPruneAt, entryAt, bridgeCountAt, capacityAt, zeroAt, wordsSize, floatsSize}
 use Rattle.store.specs.View.{paramsOf, rowWords, bridgeWords, View, view}
 use Rattle.store.specs.WellFormed.{headerOk, countOk, restOk}
 use Rattle.store.specs.Opening.{scratchShort, opening}
@@ -29,9 +28,9 @@ use Rattle.graph_utils.proofs.Bridges.{AllEnds}
 use Rattle.graph_utils.proofs.Laws.{repair-ends}
 use Rattle.calls.specs.Graph.{graphOf}
 use Rattle.calls.proofs.Graph.{graph-entry, graph-few}
-use Rattle.promise.specs.Calls.{Added, Index, Past, nothing, opened, built, vectorsOf, docsOf}
+use Rattle.promise.specs.Calls.{Index, Past, nothing, opened, built, vectorsOf, docsOf}
 use Rattle.promise.specs.Promise.{size}
-use Rattle.promise.proofs.Made.{settings, ideal, Made}
+use Rattle.promise.proofs.Made.{settings, ideal, Made, many-vectors, open-nodes, built-state}
 use Rattle.acceptance.proofs.Parts.{Shape, header-ok, open-ok, built-ok, allNodes, rows-ok, empty-rows, rows-below-ok, bridges-ok, vectors-ok, rest-ok}
 
 -- ---- the invariant
@@ -63,14 +62,6 @@ pub record Shown (x : Index) (w : List ℕ) (f : List Float) : Type 0 where
   pub nodes : word w nodesAt ≡ size x
   pub vectors : pieces (word w dimensionAt) (word w nodesAt) f ≡ vectorsOf x
 
-pub many-docs : (x : Index) → length (docsOf x) ≡ size x
-unfolding docsOf
-many-docs x = length-map (x .nodes) (λ (a : Added). a .doc)
-
-many-vectors : (x : Index) → length (vectorsOf x) ≡ size x
-unfolding vectorsOf
-many-vectors x = length-map (x .nodes) (λ (a : Added). scaledOf binary32 (a .vector))
-
 pub open-shown : (x : Index) (w : List ℕ) (f : List Float) → Made (opened x) w f → Shown x w f
 unfolding view paramsOf
 open-shown x w f o = record {
@@ -78,7 +69,7 @@ open-shown x w f o = record {
   dimension = ap (λ (v : View). v .dimension) (o .is);
   capacity = ap (λ (v : View). v .capacity) (o .is);
   degree = ap (λ (v : View). v .params .«max_degree») (o .is);
-  nodes = ap (λ (v : View). v .n) (o .is) ∙ many-docs x;
+  nodes = open-nodes x w f o;
   vectors = ap (λ (v : View). v .vectors) (o .is);
 }
 
@@ -169,10 +160,6 @@ module _ (x : Index) (some : 0 < size x) where
       subst (λ (n : ℕ). AllEnds n (ensureConnectivity (rowsOf (settings x) (vectorsOf x)) (entryOf (settings x) (vectorsOf x)) (vectorsOf x)))
       (rows-length (settings x) (vectorsOf x) ∙ many-vectors x)
       (repair-ends (rowsOf (settings x) (vectorsOf x)) (entryOf (settings x) (vectorsOf x)) (vectorsOf x) entry-among entries-among)
-
-pub built-state : (x : Index) (w : List ℕ) (f : List Float) → Made (built x) w f → word w stateAt ≡ builtState
-unfolding view
-built-state x w f b = ap (λ (v : View). v .state) (b .is)
 
 built-words : (x : Index) (w : List ℕ) (f : List Float) → Made (built x) w f → Built w
 unfolding view

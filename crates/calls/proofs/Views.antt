@@ -1,5 +1,6 @@
--- What the view gives after an accepted build: the graph, and all else as it was. The rows and the bridges are laid behind the header and the doc
--- ids, the bridges behind all rows, so that neither disturbs what the view reads elsewhere. Assumes nothing.
+-- What an accepted build leaves: the view is the graph and all else as it was, the store's length and the header's words but three stay, and the
+-- rows' words are the graph's rows. The rows and the bridges are laid behind the header and the doc ids, the bridges behind all rows, so that neither
+-- disturbs what is read elsewhere. Assumes nothing.
 use mathlib.Core.Path.{_≡_, sym, ap, _∙_}
 use mathlib.Core.List.{List, _++_, map, flatten}
 use Prim.Native.Nat.{ℕ, _+_, _*_, _^_, _≤_, _<_}
@@ -10,7 +11,7 @@ use lib.Seq.{drop-set-lt, getD-set-same, getD-set-other}
 use lib.Ieee.{Float, binary32, binary64, ofBits}
 use Rattle.basics.specs.Lists.{pieces}
 use Rattle.basics.specs.Graph.{Bridge}
-use Rattle.basics.proofs.Pieces.{length-flatten}
+use Rattle.basics.proofs.Pieces.{length-flatten, pieces-back}
 use Rattle.store.specs.Layout.{word, builtState, headerSize, stateAt, dimensionAt, nodesAt, maxLeafSizeAt, minLeafSizeAt, degreeAt, hashBitsAt, finalPruneAt, efSearchAt, entryAt, bridgeCountAt, capacityAt, fractionHighAt, fractionLowAt, alphaAt, docsAt, rowsAt, rowSize, bridgesAt, bridgeSize, wordsSize}
 use Rattle.store.specs.View.{paramsOf, rowWords, bridgeWords, rowBlock, bridgeBlock, entriesIn, bridgeIn, View, view}
 use Rattle.store.proofs.Sizes.{product-le}
@@ -49,9 +50,14 @@ bridges-length bridges =
 
 -- ---- a graph of n rows that fit, with at most C bridges, on a store that is as long as its shape asks
 
-module _ (g : Graph) (w : List ℕ) (f : List Float) (long : wordsSize (word w capacityAt) (word w degreeAt) ≤ length w)
-    (nodes : word w nodesAt ≤ word w capacityAt) (many : length (g .rows) ≡ word w nodesAt) (short : Short (word w degreeAt) (g .rows))
-    (few : length (g .bridges) ≤ word w capacityAt) where
+pub record Fits (g : Graph) (w : List ℕ) : Type 0 where
+  pub long : wordsSize (word w capacityAt) (word w degreeAt) ≤ length w
+  pub nodes : word w nodesAt ≤ word w capacityAt
+  pub many : length (g .rows) ≡ word w nodesAt
+  pub short : Short (word w degreeAt) (g .rows)
+  pub few : length (g .bridges) ≤ word w capacityAt
+
+module _ (g : Graph) (w : List ℕ) (fits : Fits g w) where
   abbrev n : ℕ
   n = word w nodesAt
 
@@ -85,11 +91,11 @@ module _ (g : Graph) (w : List ℕ) (f : List Float) (long : wordsSize (word w c
       ∙ length-set w stateAt builtState
 
   rows-most : n * rowSize D ≤ C * rowSize D
-  rows-most = product-le n (rowSize D) C (rowSize D) nodes (omega arith)
+  rows-most = product-le n (rowSize D) C (rowSize D) (fits .nodes) (omega arith)
 
   rows-within : rowsAt C + length rowPart ≤ length headed
   rows-within =
-      let size : length rowPart ≡ n * rowSize D = rows-length D (g .rows) short ∙ ap (λ (k : ℕ). k * rowSize D) many in
+      let size : length rowPart ≡ n * rowSize D = rows-length D (g .rows) (fits .short) ∙ ap (λ (k : ℕ). k * rowSize D) (fits .many) in
       omega (arith, headed-length, rows-most)
 
   bridges-within : bridgesAt C D + length bridgePart ≤ length withRows
@@ -172,13 +178,23 @@ module _ (g : Graph) (w : List ℕ) (f : List Float) (long : wordsSize (word w c
       ∙ drop-set-lt docsAt (set w stateAt builtState) entryAt (g .entry) (omega arith)
       ∙ drop-set-lt docsAt w stateAt builtState (omega arith))
 
+  abbrev past-rows : List ℕ
+  past-rows = drop (rowsAt C + length rowPart) headed
+
+  rows-laid : pieces (rowSize D) n (drop (rowsAt C) whole) ≡ pieces (rowSize D) (length (g .rows)) (rowPart ++ past-rows)
+  rows-laid =
+      same-pieces whole withRows (bridgesAt C D) bridges-agree (rowSize D) n (rowsAt C) (omega (arith, rows-most))
+      ∙ ap (pieces (rowSize D) n) (laid-there (rowsAt C) rowPart headed rows-within)
+      ∙ ap (λ (k : ℕ). pieces (rowSize D) k (rowPart ++ past-rows)) (sym (fits .many))
+
   rows-there : map entriesIn (pieces (rowSize D) n (drop (rowsAt C) whole)) ≡ g .rows
-  rows-there =
-      let rest : List ℕ = drop (rowsAt C + length rowPart) headed in
-      ap (map entriesIn) (same-pieces whole withRows (bridgesAt C D) bridges-agree (rowSize D) n (rowsAt C) (omega (arith, rows-most)))
-      ∙ ap (λ (l : List ℕ). map entriesIn (pieces (rowSize D) n l)) (laid-there (rowsAt C) rowPart headed rows-within)
-      ∙ ap (λ (k : ℕ). map entriesIn (pieces (rowSize D) k (rowPart ++ rest))) (sym many)
-      ∙ rows-back D (g .rows) rest short
+  rows-there = ap (map entriesIn) rows-laid ∙ rows-back D (g .rows) past-rows (fits .short)
+
+  blocks-there : pieces (rowSize D) n (drop (rowsAt C) whole) ≡ map (rowBlock D) (g .rows)
+  blocks-there =
+      rows-laid
+      ∙ ap (λ (k : ℕ). pieces (rowSize D) k (rowPart ++ past-rows)) (sym (length-map (g .rows) (rowBlock D)))
+      ∙ pieces-back (rowSize D) (map (rowBlock D) (g .rows)) past-rows (blocks-sized D (g .rows) (fits .short))
 
   bridges-there : map bridgeIn (pieces bridgeSize (length (g .bridges)) (drop (bridgesAt C D) whole)) ≡ g .bridges
   bridges-there =
@@ -187,9 +203,22 @@ module _ (g : Graph) (w : List ℕ) (f : List Float) (long : wordsSize (word w c
 
   -- ---- together
 
-  pub built-view : view (builtWords g w) f ≡ viewWith g (view w f)
+  pub built-word : (k : ℕ) → k < headerSize → (k ≡ stateAt → ⊥) → (k ≡ entryAt → ⊥) → (k ≡ bridgeCountAt → ⊥) → word (builtWords g w) k ≡ word w k
+  unfolding builtWords builtHeader
+  built-word = kept
+
+  pub built-length : length (builtWords g w) ≡ length w
+  unfolding builtWords builtHeader
+  built-length =
+      laid-length (bridgesAt C D) bridgePart withRows bridges-within ∙ laid-length (rowsAt C) rowPart headed rows-within ∙ headed-length
+
+  pub built-rows : rowWords (builtWords g w) ≡ map (rowBlock D) (g .rows)
+  unfolding builtWords builtHeader rowWords
+  built-rows = (λ i. pieces (rowSize (degree-kept i)) (nodes-kept i) (drop (rowsAt (capacity-kept i)) whole)) ∙ blocks-there
+
+  built-view : (f : List Float) → view (builtWords g w) f ≡ viewWith g (view w f)
   unfolding view builtWords builtHeader rowWords bridgeWords
-  built-view = λ i. record {
+  built-view f = λ i. record {
     params = params-kept i;
     dimension = dimension-kept i;
     capacity = capacity-kept i;
@@ -204,12 +233,20 @@ module _ (g : Graph) (w : List ℕ) (f : List Float) (long : wordsSize (word w c
 
 -- ---- what a build that is accepted makes of an open store
 
-pub build-view : (ws fs : ℕ) (w : List ℕ) (f : List Float) → BuildTaken ws fs w f
-    → view (builtWords (graphFor (view w f)) w) f ≡ viewWith (graphFor (view w f)) (view w f)
+pub build-fits : (ws fs : ℕ) (w : List ℕ) (f : List Float) → BuildTaken ws fs w f → Fits (graphFor (view w f)) w
 unfolding view paramsOf
-build-view ws fs w f t =
+build-fits ws fs w f t =
     let s : Settings = settingsOf (word w dimensionAt) (paramsOf w) in
     let vs : List (List Float) = pieces (word w dimensionAt) (word w nodesAt) f in
     let n : length vs ≡ word w nodesAt = vectors-read w f in
-    built-view (graphFor (view w f)) w f (t .stores .words) (t .stores .header .nodes) (graph-many s vs ∙ n) (graph-short s vs)
-    (omega (arith, graph-few s vs (omega (arith, t .some)), t .stores .header .nodes))
+    record {
+      long = t .stores .words;
+      nodes = t .stores .header .nodes;
+      many = graph-many s vs ∙ n;
+      short = graph-short s vs;
+      few = omega (arith, graph-few s vs (omega (arith, t .some)), t .stores .header .nodes);
+    }
+
+pub build-view : (ws fs : ℕ) (w : List ℕ) (f : List Float) → BuildTaken ws fs w f
+    → view (builtWords (graphFor (view w f)) w) f ≡ viewWith (graphFor (view w f)) (view w f)
+build-view ws fs w f t = built-view (graphFor (view w f)) w (build-fits ws fs w f t) f

@@ -5,7 +5,7 @@ use mathlib.Core.List.{List, [], _∷_, _++_, map-append}
 use Prim.Native.Nat.{ℕ, zero, suc, _<_}
 use native.Mathlib.Omega.{arith}
 use lib.Dec.{eqb, eqb→eq}
-use lib.ListN.{length-map}
+use lib.ListN.{length, length-map}
 use lib.Ieee.{Float, binary32}
 use mir.Facts.{eqb-no, yes-eqb}
 use Rattle.basics.specs.Choice.{pick, pick-ind, pick-yes}
@@ -59,6 +59,16 @@ Made nothing w f = Unit
 Made (opened x) w f = OpenStore (x .dimension) (x .params) (x .capacity) (docsOf x) (vectorsOf x) w f
 Made (built x) w f = BuiltStore x w f
 
+-- ---- as many of each as nodes
+
+pub many-docs : (x : Index) → length (docsOf x) ≡ size x
+unfolding docsOf
+many-docs x = length-map (x .nodes) (λ (a : Added). a .doc)
+
+pub many-vectors : (x : Index) → length (vectorsOf x) ≡ size x
+unfolding vectorsOf
+many-vectors x = length-map (x .nodes) (λ (a : Added). scaledOf binary32 (a .vector))
+
 -- ---- a call that changes the stores, accepted or refused
 
 then-refused : (c : Call) (r : ℕ) (past : Past) → (r ≡ 0 → ⊥) → then c r past ≡ past
@@ -66,16 +76,17 @@ unfolding then
 then-refused c zero past n = absurd (n refl)
 then-refused c (suc r) past n = refl
 
-changes : (c : Call) (past : Past) (r : ℕ) (w : List ℕ) (f : List Float) (words : List ℕ) (floats : List Float) → Made past w f
-    → (r ≡ 0 → Made (accepted c past) words floats)
-    → Made (then c (unlessRefused r w f words floats .0) past) (unlessRefused r w f words floats .1) (unlessRefused r w f words floats .2)
+-- what is kept between calls, P, is kept by such a call if an accepted one keeps it
+pub changes : (P : Past → List ℕ → List Float → Type 0) (c : Call) (past : Past) (r : ℕ) (w : List ℕ) (f : List Float) (words : List ℕ) (floats : List Float)
+    → P past w f → (r ≡ 0 → P (accepted c past) words floats)
+    → P (then c (unlessRefused r w f words floats .0) past) (unlessRefused r w f words floats .1) (unlessRefused r w f words floats .2)
 unfolding unlessRefused then
-changes c past r w f words floats m taken =
-    pick-ind (λ (a : Answer). Made (then c (a .0) past) (a .1) (a .2)) (eqb r 0) (λ t. taken (eqb→eq r 0 t))
-    (λ t. subst (λ (h : Past). Made h w f) (sym (then-refused c r past (eqb-no t))) m)
+changes P c past r w f words floats m taken =
+    pick-ind (λ (a : Answer). P (then c (a .0) past) (a .1) (a .2)) (eqb r 0) (λ t. taken (eqb→eq r 0 t))
+    (λ t. subst (λ (h : Past). P h w f) (sym (then-refused c r past (eqb-no t))) m)
 
 -- a search changes nothing
-same-past : (c : Call) (r : ℕ) (past : Past) → accepted c past ≡ past → then c r past ≡ past
+pub same-past : (c : Call) (r : ℕ) (past : Past) → accepted c past ≡ past → then c r past ≡ past
 unfolding then
 same-past c zero past e = e
 same-past c (suc r) past e = refl
@@ -92,9 +103,9 @@ new-made d p t c past w f e = new-open d p c w f (new-taken d p c w f e) (floats
 
 -- ---- add
 
-state-of : {x : Index} {w : List ℕ} {f : List Float} → BuiltStore x w f → word w stateAt ≡ builtState
+pub built-state : (x : Index) (w : List ℕ) (f : List Float) → Made (built x) w f → word w stateAt ≡ builtState
 unfolding view
-state-of b = ap (λ (v : View). v .state) (b .is)
+built-state x w f b = ap (λ (v : View). v .state) (b .is)
 
 add-made : (doc : ℕ) (v : List Float) (past : Past) (w : List ℕ) (f : List Float) → Made past w f → firstRefusal (addChecks w f v) ≡ 0
     → Made (accepted (add doc v) past) (addedWords w doc) (addedFloats w f v)
@@ -108,13 +119,13 @@ add-made doc v (opened x) w f m e =
     subst (λ (l : List ℕ). OpenStore (x .dimension) (x .params) (x .capacity) l (vectorsOf (withNode doc v x)) (addedWords w doc) (addedFloats w f v)) (sym docs)
     (subst (λ (l : List (List Float)). OpenStore (x .dimension) (x .params) (x .capacity) (docsOf x ++ (doc ∷ [])) l (addedWords w doc) (addedFloats w f v)) (sym vectors)
     (add-open (x .dimension) (x .params) (x .capacity) (docsOf x) (vectorsOf x) w f doc v (add-taken w f v e) m))
-add-made doc v (built x) w f m e = absurd (add-taken w f v e .state (state-of m))
+add-made doc v (built x) w f m e = absurd (add-taken w f v e .state (built-state x w f m))
 
 -- ---- build
 
-open-nodes : (x : Index) (w : List ℕ) (f : List Float) → Made (opened x) w f → word w nodesAt ≡ size x
-unfolding view docsOf
-open-nodes x w f o = ap (λ (v : View). v .n) (o .is) ∙ length-map (x .nodes) (λ (a : Added). a .doc)
+pub open-nodes : (x : Index) (w : List ℕ) (f : List Float) → Made (opened x) w f → word w nodesAt ≡ size x
+unfolding view
+open-nodes x w f o = ap (λ (v : View). v .n) (o .is) ∙ many-docs x
 
 pub open-state : (x : Index) (w : List ℕ) (f : List Float) → Made (opened x) w f → word w stateAt ≡ openState
 unfolding view
@@ -123,14 +134,13 @@ open-state x w f o = ap (λ (v : View). v .state) (o .is)
 -- an open store, built
 build-open : (ws fs : ℕ) (x : Index) (w : List ℕ) (f : List Float) → Made (opened x) w f → BuildTaken ws fs w f
     → BuiltStore x (builtWords (graphFor (view w f)) w) f
-unfolding docsOf
 build-open ws fs x w f o t = record {
   is = build-view ws fs w f t ∙ ap (λ (v : View). viewWith (graphFor v) v) (o .is) ∙ (λ i. record {
     params = x .params;
     dimension = x .dimension;
     capacity = x .capacity;
     state = builtState;
-    n = length-map (x .nodes) (λ (a : Added). a .doc) i;
+    n = many-docs x i;
     entry = graphOf (settings x) (vectorsOf x) .entry;
     docs = docsOf x;
     rows = graphOf (settings x) (vectorsOf x) .rows;
@@ -149,16 +159,16 @@ build-made ws fs (opened x) w f m e =
     (λ t. absurd (let s = open-state x w f m in let s′ = eqb→eq (word w stateAt) builtState t in omega arith))
     (λ _. build-open ws fs x w f m (build-taken ws fs w f e))
 build-made ws fs (built x) w f m e =
-    subst (λ (words : List ℕ). BuiltStore x words f) (sym (pick-yes (eqb (word w stateAt) builtState) w (builtWords (graphFor (view w f)) w) (yes-eqb (state-of m)))) m
+    subst (λ (words : List ℕ). BuiltStore x words f) (sym (pick-yes (eqb (word w stateAt) builtState) w (builtWords (graphFor (view w f)) w) (yes-eqb (built-state x w f m)))) m
 
 -- ---- any call
 
 pub call-made : (c : Call) (past : Past) (w : List ℕ) (f : List Float) → Made past w f
     → Made (then c (outcome c w f .0) past) (outcome c w f .1) (outcome c w f .2)
 unfolding outcome newSpec addSpec buildSpec accepted
-call-made (new d p t c) past w f m = changes (new d p t c) past (firstRefusal (newChecks d p c w f)) w f _ _ m (new-made d p t c past w f)
-call-made (add doc v) past w f m = changes (add doc v) past (firstRefusal (addChecks w f v)) w f _ _ m (add-made doc v past w f m)
-call-made (build ws fs) past w f m = changes (build ws fs) past (firstRefusal (buildChecks ws fs w f)) w f _ f m (build-made ws fs past w f m)
+call-made (new d p t c) past w f m = changes Made (new d p t c) past (firstRefusal (newChecks d p c w f)) w f _ _ m (new-made d p t c past w f)
+call-made (add doc v) past w f m = changes Made (add doc v) past (firstRefusal (addChecks w f v)) w f _ _ m (add-made doc v past w f m)
+call-made (build ws fs) past w f m = changes Made (build ws fs) past (firstRefusal (buildChecks ws fs w f)) w f _ f m (build-made ws fs past w f m)
 call-made (searchWithEf ws fs q k ef docs distances) past w f m =
     subst (λ (h : Past). Made h w f) (sym (same-past (searchWithEf ws fs q k ef docs distances) (searchWithEfSpec ws fs w f q k ef docs distances .number) past refl)) m
 call-made (search ws fs q k docs distances) past w f m =

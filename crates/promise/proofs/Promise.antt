@@ -4,7 +4,7 @@ use mathlib.Core.Path.{_≡_, refl, sym, ap, _∙_, subst}
 use mathlib.Core.List.{List, [], _∷_, _++_}
 use Prim.Native.Nat.{ℕ, _+_, _*_, _<_}
 use native.Mathlib.Omega.{arith}
-use lib.ListN.{length, length-map}
+use lib.ListN.{length}
 use lib.Ieee.{Float, binary32}
 use Rattle.basics.specs.Graph.{otherEnds, listOf}
 use Rattle.norm.specs.Norm.{scaledOf}
@@ -21,10 +21,10 @@ use Rattle.calls.specs.Graph.{Graph, graphOf}
 use Rattle.calls.specs.Search.{farIn, scoredIn, foundIn, replyOf, searchWithEfSpec, searchSpec}
 use Rattle.calls.proofs.Taken.{search-replied}
 use Rattle.calls.proofs.Graph.{listFor, graph-reaches-all, graph-total, graph-found}
-use Rattle.promise.specs.Calls.{Call, new, add, build, searchWithEf, search, outcome, Added, Index, Past, nothing, opened, built, then, vectorsOf}
+use Rattle.promise.specs.Calls.{Call, new, add, build, searchWithEf, search, outcome, Index, Past, nothing, opened, built, then, vectorsOf}
 use Rattle.promise.specs.Promise.{size, listBefore, listNow, farOf, Graphed, Answered, AnsweredIf, Stands, Told, Claims}
 use Rattle.promise.proofs.Order.{nondecreasing}
-use Rattle.promise.proofs.Made.{settings, ideal, BuiltStore, Made, open-state, call-made}
+use Rattle.promise.proofs.Made.{settings, ideal, BuiltStore, Made, many-vectors, open-state, call-made}
 
 -- ---- the graph
 
@@ -32,15 +32,11 @@ module _ (x : Index) (some : 0 < size x) where
   abbrev g : Graph
   g = graphOf (settings x) (vectorsOf x)
 
-  many : length (vectorsOf x) ≡ size x
-  unfolding vectorsOf
-  many = length-map (x .nodes) (λ (a : Added). scaledOf binary32 (a .vector))
-
   some-vectors : 0 < length (vectorsOf x)
-  some-vectors = omega (arith, many)
+  some-vectors = omega (arith, many-vectors x)
 
   ideal-reached : (i : ℕ) → i < size x → Reach (listIn (ideal x)) (g .entry) i
-  ideal-reached i h = graph-reaches-all (settings x) (vectorsOf x) some-vectors i (omega (arith, many))
+  ideal-reached i h = graph-reaches-all (settings x) (vectorsOf x) some-vectors i (omega (arith, many-vectors x))
 
   ideal-kept : (i : ℕ) → (more : List ℕ) × (listIn (ideal x) i ≡ listBefore x i ++ more)
   unfolding listOf graphOf
@@ -49,7 +45,7 @@ module _ (x : Index) (some : 0 < size x) where
   ideal-grown : totalLength (size x) (listIn (ideal x)) ≡ totalLength (size x) (listBefore x) + 2 * length (g .bridges)
   unfolding graphOf
   ideal-grown =
-      subst (λ (m : ℕ). totalLength m (listFor g) ≡ totalLength m (listBefore x) + 2 * length (g .bridges)) many
+      subst (λ (m : ℕ). totalLength m (listFor g) ≡ totalLength m (listBefore x) + 2 * length (g .bridges)) (many-vectors x)
       (graph-total (settings x) (vectorsOf x) some-vectors)
 
   -- ---- a search
@@ -62,7 +58,7 @@ module _ (x : Index) (some : 0 < size x) where
     ideal-found =
         subst (λ (m : ℕ). Found m (longestLength m (listFor g)) k (placesFor ef k) (farOf x query)
         (beamSearch (listFor g) m (g .entry) (farOf x query) (placesFor ef k))
-        (answerOf (farOf x query) k (beamSearch (listFor g) m (g .entry) (farOf x query) (placesFor ef k)))) many
+        (answerOf (farOf x query) k (beamSearch (listFor g) m (g .entry) (farOf x query) (placesFor ef k)))) (many-vectors x)
         (graph-found (settings x) (vectorsOf x) some-vectors (farOf x query) k ef)
 
     ideal-answered : (docs : List ℕ) (distances : List Float)
