@@ -6,20 +6,15 @@ use mathlib.Core.List.{List, [], _∷_}
 use Prim.Native.Nat.{ℕ}
 use lib.IntN.{pos}
 use lib.ListN.{replicate}
-use lib.Ieee.{Float, fin, binary32, fits, ofBits, toBits, add as plus, sub, mul, div, lt, le, eq, isNan, ofInt, toUnsigned, round}
+use lib.Ieee.{Float, fin, binary32, ofBits, toBits, add as plus, sub, mul, div, lt, le, eq, isNan, ofInt, toUnsigned, round}
 use Rattle.basics.specs.Sum.{+zero, +one}
 use Rattle.norm.specs.Norm.{scaledOf}
-use Rattle.calls.specs.Example.{minusOne, params}
-use Rattle.promise.specs.Calls.{Typed, Call, new, add, build, searchWithEf, search, outcome, nothing}
+use Rattle.pipnn.specs.Example.{params}
+use Rattle.calls.specs.Example.{minusOne}
+use Rattle.promise.specs.Calls.{Call, new, add, build, searchWithEf, search, outcome, nothing}
+use Rattle.promise.proofs.Examples.{typed, one}
 use Rattle.acceptance.specs.Acceptance.{Accepts}
 use Rattle.acceptance.proofs.Acceptance.{accepts}
-
-typed : Typed params
-unfolding fits ofBits
-typed = record { fraction = tt; alpha = tt }
-
-abbrev one : List Float
-one = +one ∷ +zero ∷ []
 
 -- the last add finds the store full, the last two searches ask for one node too many and have one place too few
 abbrev calls : List Call

@@ -4,30 +4,18 @@ use mathlib.Core.List.{List, [], _∷_, map}
 use Prim.Native.Nat.{ℕ}
 use lib.IntN.{pos}
 use lib.ListN.{replicate}
-use lib.Ieee.{Float, fin, binary32, binary64, ofBits, toBits}
+use lib.Ieee.{Float, fin, binary32, toBits}
 use Rattle.basics.specs.Sum.{+zero, +one}
-use Rattle.params.specs.declared.PipnnParams.{PipnnParams}
 use Rattle.store.specs.View.{view, listIn}
 use Rattle.pipnn.specs.Answer.{Answer}
 use Rattle.pipnn.specs.New.{newSpec}
 use Rattle.pipnn.specs.Add.{addSpec}
+use Rattle.pipnn.specs.Example.{params}
 use Rattle.calls.specs.Build.{buildSpec}
 use Rattle.calls.specs.Search.{Reply, searchWithEfSpec}
 
 abbrev pub minusOne : Float
 minusOne = fin true 1 (pos 0)
-
-abbrev pub params : PipnnParams
-params = record {
-  «max_leaf_size» = 256;
-  «min_leaf_size» = 0;
-  «leader_fraction» = ofBits binary64 0x3fe0_0000_0000_0000;
-  «max_degree» = 1;
-  «num_hash_bits» = 0;
-  «final_prune» = true;
-  alpha = ofBits binary32 0x3f99_999a;
-  «ef_search» = 3;
-}
 
 -- after cap, on stores that held something else; after the three adds; after build, with as much scratch as it needs
 abbrev pub opened : Answer

@@ -1,39 +1,26 @@
 -- The example of 01, "Checked values", computed: what its `cap` line leaves of stores that held something else. Assumes nothing.
 use mathlib.Core.Path.{_≡_, refl}
-use mathlib.Core.Bool.{true}
 use mathlib.Core.List.{List, [], _∷_, _++_}
 use Prim.Native.Nat.{ℕ}
 use lib.ListN.{replicate}
-use lib.Ieee.{nan, binary32, binary64, ofBits}
+use lib.Ieee.{nan, ofBits}
 use Rattle.basics.specs.Sum.{+zero}
-use Rattle.params.specs.declared.PipnnParams.{PipnnParams}
 use Rattle.pipnn.specs.New.{newSpec}
-
-abbrev p : PipnnParams
-p = record {
-  «max_leaf_size» = 256;
-  «min_leaf_size» = 0;
-  «leader_fraction» = ofBits binary64 0x3fe0_0000_0000_0000;
-  «max_degree» = 1;
-  «num_hash_bits» = 0;
-  «final_prune» = true;
-  alpha = ofBits binary32 0x3f99_999a;
-  «ef_search» = 3;
-}
+use Rattle.pipnn.specs.Example.{params}
 
 abbrev header : List ℕ
 header = 0 ∷ 2 ∷ 0 ∷ 256 ∷ 0 ∷ 1 ∷ 0 ∷ 1 ∷ 3 ∷ 0 ∷ 0 ∷ 8 ∷ 0x3fe0_0000 ∷ 0 ∷ 0x3f99_999a ∷ 0 ∷ []
 
 -- 56 words and 16 floats are its own, and one more of each stays
-made : newSpec 2 p 8 (replicate 57 7) (replicate 17 nan) ≡ (0, header ++ (replicate 40 0 ++ 7 ∷ []), replicate 16 +zero ++ nan ∷ [])
+made : newSpec 2 params 8 (replicate 57 7) (replicate 17 nan) ≡ (0, header ++ (replicate 40 0 ++ 7 ∷ []), replicate 16 +zero ++ nan ∷ [])
 unfolding newSpec ofBits
 made = refl
 
 -- a word short, and nothing is changed; a dimension beyond its limits comes first
-short : newSpec 2 p 8 (replicate 55 7) (replicate 17 nan) ≡ (3, replicate 55 7, replicate 17 nan)
+short : newSpec 2 params 8 (replicate 55 7) (replicate 17 nan) ≡ (3, replicate 55 7, replicate 17 nan)
 unfolding newSpec ofBits
 short = refl
 
-dimension-first : newSpec 0 p 0 [] [] ≡ (1, [], [])
+dimension-first : newSpec 0 params 0 [] [] ≡ (1, [], [])
 unfolding newSpec
 dimension-first = refl

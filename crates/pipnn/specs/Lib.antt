@@ -1,3 +1,4 @@
 pub mod Answer
 pub mod New
 pub mod Add
+pub mod Example

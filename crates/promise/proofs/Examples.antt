@@ -1,52 +1,36 @@
 -- 01's worked example as a list of calls, with an add that is refused: what is remembered of it, and so what is claimed. Assumes nothing.
 use mathlib.Core.Path.{_≡_, refl}
-use mathlib.Core.Bool.{true}
 use mathlib.Core.List.{List, [], _∷_}
 use Prim.Native.Nat.{ℕ}
-use lib.IntN.{pos}
 use lib.ListN.{replicate}
-use lib.Ieee.{Float, fin, binary32, binary64, fits, ofBits, toBits, add as plus, sub, mul, div, lt, le, eq, isNan, ofInt, toUnsigned, round}
+use lib.Ieee.{Float, fits, ofBits, toBits, add as plus, sub, mul, div, lt, le, eq, isNan, ofInt, toUnsigned, round}
 use Rattle.basics.specs.Sum.{+zero, +one}
-use Rattle.params.specs.declared.PipnnParams.{PipnnParams}
+use Rattle.pipnn.specs.Example.{params}
+use Rattle.calls.specs.Example.{minusOne}
 use Rattle.promise.specs.Calls.{Typed, Call, new, add, build, searchWithEf, outcome, Past, nothing, built, then}
 use Rattle.promise.specs.Promise.{Claims}
 use Rattle.promise.proofs.Promise.{demand-3}
 
-abbrev -one : Float
--one = fin true 1 (pos 0)
-
-abbrev p : PipnnParams
-p = record {
-  «max_leaf_size» = 256;
-  «min_leaf_size» = 0;
-  «leader_fraction» = ofBits binary64 0x3fe0_0000_0000_0000;
-  «max_degree» = 1;
-  «num_hash_bits» = 0;
-  «final_prune» = true;
-  alpha = ofBits binary32 0x3f99_999a;
-  «ef_search» = 3;
-}
-
-typed : Typed p
+pub typed : Typed params
 unfolding fits ofBits
 typed = record { fraction = tt; alpha = tt }
 
-abbrev one : List Float
+abbrev pub one : List Float
 one = +one ∷ +zero ∷ []
 
 abbrev up : List Float
 up = +zero ∷ +one ∷ []
 
-abbrev minusOne : List Float
-minusOne = -one ∷ +zero ∷ []
+abbrev down : List Float
+down = minusOne ∷ +zero ∷ []
 
 abbrev calls : List Call
 calls =
-    new 2 p typed 8
+    new 2 params typed 8
     ∷ add 10 one
     ∷ add 15 (+one ∷ [])
     ∷ add 20 up
-    ∷ add 30 minusOne
+    ∷ add 30 down
     ∷ build 512 384
     ∷ add 40 one
     ∷ searchWithEf 512 384 one 3 3 (replicate 3 0) (replicate 3 +zero)
@@ -58,16 +42,16 @@ remembered [] past w f = past
 remembered (c ∷ cs) past w f = remembered cs (then c (outcome c w f .0) past) (outcome c w f .1) (outcome c w f .2)
 
 -- three nodes, built: the add with one component gave 6, the one after the build 5
-three-nodes : remembered calls nothing (replicate 56 7) (replicate 16 -one)
+three-nodes : remembered calls nothing (replicate 56 7) (replicate 16 minusOne)
     ≡ built (record {
       dimension = 2;
-      params = p;
+      params = params;
       capacity = 8;
-      nodes = record { doc = 10; vector = one } ∷ record { doc = 20; vector = up } ∷ record { doc = 30; vector = minusOne } ∷ [];
+      nodes = record { doc = 10; vector = one } ∷ record { doc = 20; vector = up } ∷ record { doc = 30; vector = down } ∷ [];
     })
 unfolding remembered outcome then ofBits toBits plus sub mul div lt le eq isNan ofInt toUnsigned round
 three-nodes = refl
 
 -- the claim of this very list
-claimed : Claims calls nothing (replicate 56 7) (replicate 16 -one)
-claimed = demand-3 (replicate 56 7) (replicate 16 -one) calls
+claimed : Claims calls nothing (replicate 56 7) (replicate 16 minusOne)
+claimed = demand-3 (replicate 56 7) (replicate 16 minusOne) calls
