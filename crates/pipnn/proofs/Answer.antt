@@ -1,5 +1,5 @@
 -- The two cases of what a call leaves. Assumes nothing.
-use mathlib.Core.Path.{_≡_, refl, sym}
+use mathlib.Core.Path.{_≡_, refl, sym, ap, _∙_}
 use mathlib.Core.List.{List}
 use Prim.Native.Nat.{ℕ}
 use lib.Dec.{eqb, eqb→eq}
@@ -9,9 +9,11 @@ use Rattle.basics.specs.Choice.{pick-ind, pick-true, pick-false}
 use Rattle.pipnn.specs.Answer.{Answer, unlessRefused}
 
 module _ (refusal : ℕ) (w : List ℕ) (f : List Float) (words : List ℕ) (floats : List Float) where
-  pub left-alone : (refusal ≡ 0 → ⊥) → _≡_ {A = Answer} (refusal, w, f) (unlessRefused refusal w f words floats)
+  -- code that found the refusal and returns it
+  pub left-alone : (found : ℕ) → found ≡ refusal → (found ≡ 0 → ⊥) → _≡_ {A = Answer} (found, w, f) (unlessRefused refusal w f words floats)
   unfolding unlessRefused
-  left-alone n = sym (pick-false {X = Answer} (0, words, floats) (refusal, w, f) (ne-eqb refusal 0 n))
+  left-alone found e n =
+      ap (λ (k : ℕ). (k, w, f)) e ∙ sym (pick-false {X = Answer} (0, words, floats) (refusal, w, f) (ne-eqb refusal 0 (λ z. n (e ∙ z))))
 
   pub changed : refusal ≡ 0 → _≡_ {A = Answer} (0, words, floats) (unlessRefused refusal w f words floats)
   unfolding unlessRefused

@@ -1,5 +1,5 @@
 -- `build::build` meets its contract: a refusal has written nothing, a built store stays, and an open one gets its graph. Assumes nothing.
-use mathlib.Core.Path.{_≡_, sym, ap, _∙_}
+use mathlib.Core.Path.{_≡_, sym, _∙_}
 use mathlib.Core.List.{List}
 use Prim.Native.Nat.{ℕ}
 use lib.ListN.{length}
@@ -32,10 +32,7 @@ same-length c = search needs
 
 returns : tie.Need-returns
 unfolding buildSpec
-returns c =
-    let s = c .before .before .before .before .before .before .before in
-    ap (λ (k : ℕ). (k, s .args .words .now, s .args .floats .now)) (c .before .build-refusal .ensures)
-    ∙ left-alone (refusal s) _ _ _ _ (λ e. c .if1 .taken (c .before .build-refusal .ensures ∙ e))
+returns c = left-alone (refusal (c .before .before .before .before .before .before .before)) _ _ _ _ _ (c .before .build-refusal .ensures) (c .if1 .taken)
 
 word-at-requires : tie.Need-word-at-requires
 word-at-requires c κs = search needs

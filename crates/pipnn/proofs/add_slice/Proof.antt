@@ -1,5 +1,5 @@
 -- `pipnn::add_slice` meets its contract: a refusal has written nothing; accepted, node n's places are free and the three stores go there. Assumes nothing.
-use mathlib.Core.Path.{_≡_, sym, ap, _∙_}
+use mathlib.Core.Path.{_≡_, sym, _∙_}
 use Prim.Native.Nat.{ℕ, _+_}
 use native.Mathlib.Omega.{arith}
 use lib.ListN.{set}
@@ -36,10 +36,7 @@ same-length-2 c = search needs
 
 returns : tie.Need-returns
 unfolding addSpec
-returns c =
-    let s = c .before .before .before .before .before .before .before in
-    ap (λ (k : ℕ). (k, s .args .words .now, s .args .floats .now)) (c .before .add-refusal .ensures)
-    ∙ left-alone (refusal s) _ _ _ _ (λ e. c .if1 .taken (c .before .add-refusal .ensures ∙ e))
+returns c = left-alone (refusal (c .before .before .before .before .before .before .before)) _ _ _ _ _ (c .before .add-refusal .ensures) (c .if1 .taken)
 
 word-at-requires : tie.Need-word-at-requires
 word-at-requires c κs = search needs

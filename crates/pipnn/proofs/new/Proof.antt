@@ -1,5 +1,5 @@
 -- `pipnn::new` meets its contract: a refusal has written nothing; accepted, the sizes lie within both stores, and the header, then zeros, take their place. Assumes nothing.
-use mathlib.Core.Path.{_≡_, sym, ap, _∙_}
+use mathlib.Core.Path.{_≡_, sym, _∙_}
 use Prim.Native.Nat.{ℕ}
 use native.Mathlib.Omega.{arith}
 use lib.Seq.{length-take-le}
@@ -35,10 +35,7 @@ same-length-2 c = search needs
 
 returns : tie.Need-returns
 unfolding newSpec
-returns c =
-    let s = c .before .before .before .before .before .before in
-    ap (λ (k : ℕ). (k, s .args .words .now, s .args .floats .now)) (c .before .new-refusal .ensures)
-    ∙ left-alone (refusal s) _ _ _ _ (λ e. c .if1 .taken (c .before .new-refusal .ensures ∙ e))
+returns c = left-alone (refusal (c .before .before .before .before .before .before)) _ _ _ _ _ (c .before .new-refusal .ensures) (c .if1 .taken)
 
 cast-degree : tie.Need-cast-degree
 cast-degree c = let t = taken (c .before) in omega (arith, t .params .degree-most)
