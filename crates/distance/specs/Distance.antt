@@ -7,7 +7,7 @@ use lib.Ieee.{Float, Format, binary32, inf, sub}
 use Rattle.basics.specs.Choice.{pick}
 use Rattle.basics.specs.Sum.{+one}
 use Rattle.simd.specs.Dot.{dotOf}
-use Rattle.simd.specs.Eight.{rowIn}
+use Rattle.simd.specs.Eight.{eightOf, eightIn}
 use Rattle.simd.specs.declared.Eight.{Eight}
 
 unfoldable pub distanceOf : Format → List Float → List Float → Float
@@ -16,17 +16,8 @@ distanceOf f xs ys = pick (eqb (length xs) (length ys)) (sub f +one (dotOf f xs 
 
 -- eight rows at once: each number is the single row's
 abbrev pub distancesOf : List Float → List Float → List Float → List Float → List Float → List Float → List Float → List Float → List Float → Eight
-distancesOf q a b c d e f g h = record {
-  a = distanceOf binary32 q a;
-  b = distanceOf binary32 q b;
-  c = distanceOf binary32 q c;
-  d = distanceOf binary32 q d;
-  e = distanceOf binary32 q e;
-  f = distanceOf binary32 q f;
-  g = distanceOf binary32 q g;
-  h = distanceOf binary32 q h;
-}
+distancesOf q = eightOf (distanceOf binary32 q)
 
 -- the eight rows of a block
 abbrev pub blockDistancesOf : List Float → List Float → Eight
-blockDistancesOf q block = distancesOf q (rowIn block 0) (rowIn block 1) (rowIn block 2) (rowIn block 3) (rowIn block 4) (rowIn block 5) (rowIn block 6) (rowIn block 7)
+blockDistancesOf q = eightIn (distanceOf binary32 q)

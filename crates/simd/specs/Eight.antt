@@ -7,17 +7,21 @@ use Rattle.basics.specs.Sum.{sumFrom, products}
 use Rattle.simd.specs.Dot.{dotOf}
 use Rattle.simd.specs.declared.Eight.{Eight}
 
-abbrev pub dotsOf : List Float → List Float → List Float → List Float → List Float → List Float → List Float → List Float → List Float → Eight
-dotsOf q a b c d e f g h = record {
-  a = dotOf binary32 q a;
-  b = dotOf binary32 q b;
-  c = dotOf binary32 q c;
-  d = dotOf binary32 q d;
-  e = dotOf binary32 q e;
-  f = dotOf binary32 q f;
-  g = dotOf binary32 q g;
-  h = dotOf binary32 q h;
+-- the number that is asked of each of eight rows
+abbrev pub eightOf : (List Float → Float) → List Float → List Float → List Float → List Float → List Float → List Float → List Float → List Float → Eight
+eightOf number a b c d e f g h = record {
+  a = number a;
+  b = number b;
+  c = number c;
+  d = number d;
+  e = number e;
+  f = number f;
+  g = number g;
+  h = number h;
 }
+
+abbrev pub dotsOf : List Float → List Float → List Float → List Float → List Float → List Float → List Float → List Float → List Float → Eight
+dotsOf q = eightOf (dotOf binary32 q)
 
 -- four products added to a sum, one after the other
 abbrev pub fourFrom : Float → Float → Float → Float → Float → List Float → ℕ → Float
@@ -47,5 +51,10 @@ laneOf block j (suc n) = laneOf block j n ++ (getD block (8 * n + j) nan ∷ [])
 abbrev pub rowIn : List Float → ℕ → List Float
 rowIn block j = laneOf block j (length block / 8)
 
+-- the same of the eight rows of a block
+abbrev pub eightIn : (List Float → Float) → List Float → Eight
+eightIn number block =
+    eightOf number (rowIn block 0) (rowIn block 1) (rowIn block 2) (rowIn block 3) (rowIn block 4) (rowIn block 5) (rowIn block 6) (rowIn block 7)
+
 abbrev pub blockDotsOf : List Float → List Float → Eight
-blockDotsOf q block = dotsOf q (rowIn block 0) (rowIn block 1) (rowIn block 2) (rowIn block 3) (rowIn block 4) (rowIn block 5) (rowIn block 6) (rowIn block 7)
+blockDotsOf q = eightIn (dotOf binary32 q)

@@ -1,7 +1,7 @@
 -- Of rows as long as the query each number is 1 − its dot; otherwise eight single distances are the definition itself. Assumes nothing.
 use mathlib.Core.Path.{ap}
 use lib.Ieee.{binary32, ofBits}
-use Rattle.basics.proofs.Tests.{both-true}
+use Rattle.simd.proofs.Tests.{eight-true}
 use Rattle.simd.specs.declared.Eight.{Eight}
 use Rattle.distance.proofs.Laws.{from-dot}
 use borrow.Author.Needs.{needs}
@@ -16,22 +16,16 @@ unfolding ofBits
 returns c =
     let x = c .before .before .before .before .before .before .before .before .before .before .before .before .before .before .before .before .before .before .before .args in
     let dots = c .before .before .before .before .before .before .before .before .dot8 in
-    let upto-h = both-true _ _ (c .before .before .before .before .before .before .before .before .before .if1 .taken) in
-    let upto-g = both-true _ _ (upto-h .0) in
-    let upto-f = both-true _ _ (upto-g .0) in
-    let upto-e = both-true _ _ (upto-f .0) in
-    let upto-d = both-true _ _ (upto-e .0) in
-    let upto-c = both-true _ _ (upto-d .0) in
-    let upto-b = both-true _ _ (upto-c .0) in
+    let long = eight-true _ _ _ _ _ _ _ _ (c .before .before .before .before .before .before .before .before .before .if1 .taken) in
     λ i. record {
-      a = from-dot binary32 (x .q .now) (x .a .now) (dots .result .a) (ap (λ (r : Eight). r .a) (dots .ensures)) (upto-b .0) i;
-      b = from-dot binary32 (x .q .now) (x .b .now) (dots .result .b) (ap (λ (r : Eight). r .b) (dots .ensures)) (upto-b .1) i;
-      c = from-dot binary32 (x .q .now) (x .c .now) (dots .result .c) (ap (λ (r : Eight). r .c) (dots .ensures)) (upto-c .1) i;
-      d = from-dot binary32 (x .q .now) (x .d .now) (dots .result .d) (ap (λ (r : Eight). r .d) (dots .ensures)) (upto-d .1) i;
-      e = from-dot binary32 (x .q .now) (x .e .now) (dots .result .e) (ap (λ (r : Eight). r .e) (dots .ensures)) (upto-e .1) i;
-      f = from-dot binary32 (x .q .now) (x .f .now) (dots .result .f) (ap (λ (r : Eight). r .f) (dots .ensures)) (upto-f .1) i;
-      g = from-dot binary32 (x .q .now) (x .g .now) (dots .result .g) (ap (λ (r : Eight). r .g) (dots .ensures)) (upto-g .1) i;
-      h = from-dot binary32 (x .q .now) (x .h .now) (dots .result .h) (ap (λ (r : Eight). r .h) (dots .ensures)) (upto-h .1) i;
+      a = from-dot binary32 (x .q .now) (x .a .now) (dots .result .a) (ap (λ (r : Eight). r .a) (dots .ensures)) (long .0) i;
+      b = from-dot binary32 (x .q .now) (x .b .now) (dots .result .b) (ap (λ (r : Eight). r .b) (dots .ensures)) (long .1) i;
+      c = from-dot binary32 (x .q .now) (x .c .now) (dots .result .c) (ap (λ (r : Eight). r .c) (dots .ensures)) (long .2) i;
+      d = from-dot binary32 (x .q .now) (x .d .now) (dots .result .d) (ap (λ (r : Eight). r .d) (dots .ensures)) (long .3) i;
+      e = from-dot binary32 (x .q .now) (x .e .now) (dots .result .e) (ap (λ (r : Eight). r .e) (dots .ensures)) (long .4) i;
+      f = from-dot binary32 (x .q .now) (x .f .now) (dots .result .f) (ap (λ (r : Eight). r .f) (dots .ensures)) (long .5) i;
+      g = from-dot binary32 (x .q .now) (x .g .now) (dots .result .g) (ap (λ (r : Eight). r .g) (dots .ensures)) (long .6) i;
+      h = from-dot binary32 (x .q .now) (x .h .now) (dots .result .h) (ap (λ (r : Eight). r .h) (dots .ensures)) (long .7) i;
     }
 
 cosine-distance-normalized-requires : tie.Need-cosine-distance-normalized-requires

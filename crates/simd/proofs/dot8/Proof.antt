@@ -1,20 +1,14 @@
 -- The joined test says that no row is shorter than the query; otherwise eight single sums are the definition itself. Assumes nothing.
 use borrow.Author.Tests.{leb-true}
-use Rattle.basics.proofs.Tests.{both-true}
+use Rattle.simd.proofs.Tests.{eight-true}
 use borrow.Author.Needs.{needs}
 use Rattle.simd.proofs.dot8.Statement.{statement}
 use Rattle.simd.proofs.dot8.Tie as tie
 
 dot8-within-requires : tie.Need-dot8-within-requires
 dot8-within-requires c κs =
-    let upto-h = both-true _ _ (c .if1 .taken) in
-    let upto-g = both-true _ _ (upto-h .0) in
-    let upto-f = both-true _ _ (upto-g .0) in
-    let upto-e = both-true _ _ (upto-f .0) in
-    let upto-d = both-true _ _ (upto-e .0) in
-    let upto-c = both-true _ _ (upto-d .0) in
-    let upto-b = both-true _ _ (upto-c .0) in
-    (leb-true _ _ (upto-b .0), leb-true _ _ (upto-b .1), leb-true _ _ (upto-c .1), leb-true _ _ (upto-d .1), leb-true _ _ (upto-e .1), leb-true _ _ (upto-f .1), leb-true _ _ (upto-g .1), leb-true _ _ (upto-h .1))
+    let long = eight-true _ _ _ _ _ _ _ _ (c .if1 .taken) in
+    (leb-true _ _ (long .0), leb-true _ _ (long .1), leb-true _ _ (long .2), leb-true _ _ (long .3), leb-true _ _ (long .4), leb-true _ _ (long .5), leb-true _ _ (long .6), leb-true _ _ (long .7))
 
 returns : tie.Need-returns
 returns c = search needs
