@@ -2,11 +2,13 @@
 // them or say how much of them is lent, and the others ask for a call's number or for what the stores hold.
 //
 // Here are the lines that prepare, those of `new` and add, and those that ask for what the stores hold; the
-// crate graph_histories has those of builds, searches and leaves. Each function below is for one kind of
-// line, which stands above it; those whose names end in `_is_same` work out the answer by this project's
-// calls and say whether it is the recorded one. All are proved safe on lines and stores of any content, and
-// nothing more.
+// crates graph_histories and leaf_histories have those of builds and searches, and of leaves. Each function
+// below is for one kind of line, which stands above it; those whose names end in `_is_same` work out the
+// answer by this project's calls and say whether it is the recorded one. All are proved safe on lines and
+// stores of any content, and nothing more.
+ghost use mathlib.Core.Path.{_≡_};
 ghost use Prim.Native.Nat.{_≤_};
+ghost use lib.ListN.{length};
 use ids::DocId;
 use params::PipnnParams;
 
@@ -53,6 +55,31 @@ pub fn scatter_floats(floats: &mut [f32], seed: u64) {
         x = std::num::wrapping_add_u64(x, 2654435761);
         i += 1;
     }
+}
+
+// Where the patterns start that scratch and outputs hold before a call, so that what a call finds in them is
+// not zero, and what it must leave alone shows.
+pub const OLD: u64 = 0x9e37_79b9;
+
+// Scratch of the size that the largest index needs, 64·1,024 words and 16·1,024 + 256 floats.
+pub const SCRATCH_WORDS: usize = 65536;
+
+pub const SCRATCH_FLOATS: usize = 16640;
+
+pub fn scratch_words() -> [u32; SCRATCH_WORDS]
+    ensures { λ r. ⌜ 65536 ≡ length r ⌝ }
+{
+    let mut words = [0u32; SCRATCH_WORDS];
+    scatter_words(&mut words, OLD);
+    words
+}
+
+pub fn scratch_floats() -> [f32; SCRATCH_FLOATS]
+    ensures { λ r. ⌜ 16640 ≡ length r ⌝ }
+{
+    let mut floats = [0.0f32; SCRATCH_FLOATS];
+    scatter_floats(&mut floats, OLD);
+    floats
 }
 
 // fill W F seed

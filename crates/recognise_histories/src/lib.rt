@@ -54,12 +54,12 @@ fn recognise_with_scratch(
     floats: &[f32],
     query: &[f32],
 ) -> Recognised {
-    let w = replay::lesser(replay::size(tokens, 0, 0), graph_histories::SCRATCH_WORDS);
-    let f = replay::lesser(replay::size(tokens, 0, 1), graph_histories::SCRATCH_FLOATS);
+    let w = replay::lesser(replay::size(tokens, 0, 0), histories::SCRATCH_WORDS);
+    let f = replay::lesser(replay::size(tokens, 0, 1), histories::SCRATCH_FLOATS);
     let ef = replay::word(tokens, 0, 2);
     let limit = replay::float(tokens, 0, 3);
-    let mut sw = graph_histories::scratch_words();
-    let mut sf = graph_histories::scratch_floats();
+    let mut sw = histories::scratch_words();
+    let mut sf = histories::scratch_floats();
     recognise::recognise(words, floats, query, ef, limit, &mut sw[..w], &mut sf[..f])
 }
 

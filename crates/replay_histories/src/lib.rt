@@ -6,8 +6,8 @@
 // on its own recorded text. Everything here is proved safe on every text, and nothing more.
 ghost use mathlib.Core.Path.{_≡_};
 ghost use lib.ListN.{length};
-use graph_histories::Outcome;
 use histories::History;
+use leaf_histories::Outcome;
 use libc::STDOUT_FILENO;
 use replay::Line;
 
@@ -59,7 +59,7 @@ fn is_same(
         4 => graph_histories::find_is_same(tokens, asked, words, floats, vector, h),
         5 => histories::sum_is_same(tokens, asked, words, floats, h),
         6 => histories::words_is_same(tokens, asked, words),
-        7 => graph_histories::leaves_is_same(tokens, asked, vector),
+        7 => leaf_histories::leaves_is_same(tokens, asked, vector),
         9 => recognise_histories::recognise_is_same(tokens, asked, words, floats, vector, h),
         10 => recognise_histories::score_is_same(tokens, asked),
         11 => recognise_histories::decide_is_same(tokens, asked),
@@ -113,7 +113,7 @@ fn replay_tokens(
     h: History,
 ) -> History {
     if kind == LEAVESOF {
-        let outcome = graph_histories::leavesof_is_same(tokens, asked, vector);
+        let outcome = leaf_histories::leavesof_is_same(tokens, asked, vector);
         count_outcome(tallies, outcome);
         return h;
     }

@@ -1,8 +1,8 @@
 -- The invariant: the leaf is one of those found, or the one after the last. The measure is how many are left. Assumes nothing.
 use Prim.Native.Nat.{_-_, _≤_}
 use borrow.Author.Needs.{needs}
-use Rattle.graph_histories.proofs.sum_leaves.Statement.{statement}
-use Rattle.graph_histories.proofs.sum_leaves.Tie as tie
+use Rattle.leaf_histories.proofs.sum_leaves.Statement.{statement}
+use Rattle.leaf_histories.proofs.sum_leaves.Tie as tie
 
 abbrev Inv-loop : tie.InvT-loop
 Inv-loop words sizes count sum₀ node₀ leaf₀ sum node leaf =

@@ -3,8 +3,8 @@ use Prim.Native.Nat.{_-_, _≤_}
 use lib.ListN.{length}
 use mathlib.Core.Path.{_≡_}
 use borrow.Author.Needs.{needs}
-use Rattle.graph_histories.proofs.generate_all.Statement.{statement}
-use Rattle.graph_histories.proofs.generate_all.Tie as tie
+use Rattle.leaf_histories.proofs.generate_all.Statement.{statement}
+use Rattle.leaf_histories.proofs.generate_all.Tie as tie
 
 abbrev Inv-loop : tie.InvT-loop
 Inv-loop vectors₀ dimension count seed style r₀ at₀ i₀ vectors r at i =

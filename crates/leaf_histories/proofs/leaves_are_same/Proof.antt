@@ -1,8 +1,8 @@
 -- The invariant: the leaf is one of the answer's, or the one after the last. The measure is how many are left. Assumes nothing.
 use Prim.Native.Nat.{_-_, _≤_}
 use borrow.Author.Needs.{needs}
-use Rattle.graph_histories.proofs.leaves_are_same.Statement.{statement}
-use Rattle.graph_histories.proofs.leaves_are_same.Tie as tie
+use Rattle.leaf_histories.proofs.leaves_are_same.Statement.{statement}
+use Rattle.leaf_histories.proofs.leaves_are_same.Tie as tie
 
 abbrev Inv-loop : tie.InvT-loop
 Inv-loop tokens asked words found sizes count c₀ i₀ c i =

@@ -3,8 +3,8 @@ use mathlib.Core.Path.{sym}
 use lib.Seq.{length-take-le}
 use native.Mathlib.Omega.{arith}
 use borrow.Author.Needs.{needs}
-use Rattle.graph_histories.proofs.carve.Statement.{statement}
-use Rattle.graph_histories.proofs.carve.Tie as tie
+use Rattle.leaf_histories.proofs.carve.Statement.{statement}
+use Rattle.leaf_histories.proofs.carve.Tie as tie
 
 word-requires : tie.Need-word-requires
 word-requires c κs = search needs
