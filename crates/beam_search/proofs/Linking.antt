@@ -15,6 +15,7 @@ use Rattle.lists.specs.Words.{blockAt}
 use Rattle.lists.proofs.Reading.{block-word}
 use Rattle.chains.specs.Chains.{chainBridge, slotsFrom, Chained, bridgesIn}
 use Rattle.chains.proofs.Laws.{chain-more}
+use Rattle.gathering.specs.Gathering.{Linked}
 use Rattle.beam_search.specs.Steps.{Linking}
 
 -- bridge j of some words
@@ -71,3 +72,9 @@ module _ (n : ℕ) (bridges links₀ : List ℕ) where
     chaining-all h few room zero ends =
         let all : j ≡ length bridges / 2 = omega (arith, p .within) in
         record { few = omega arith; chained = subst (λ (m : ℕ). Chained n (bridgesIn m bridges) links) all (p .so-far few room zero ends) }
+
+-- no bridges need no links
+pub none-linked : (n : ℕ) (bridges links : List ℕ) → n ≤ 1024 → length bridges < 2 → ((i : ℕ) → i < 2 * n → getD links i 0 ≡ 0) → Linked n bridges links
+none-linked n bridges links few none zero =
+    let all : 0 ≡ length bridges / 2 = omega arith in
+    record { few = omega arith; chained = subst (λ (m : ℕ). Chained n (bridgesIn m bridges) links) all (no-chain n bridges links zero) }

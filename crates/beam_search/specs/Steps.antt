@@ -92,6 +92,14 @@ Walking bridges links far n b list words words′ floats floats′ nodes nodes�
     → Between far n b nodes₀ words floats nodes w seen front
     → Rested far n b nodes₀ words′ floats′ nodes′ r (walkOn far b list n seen front)
 
+-- the same, of bridges between nodes, whoever links them
+abbrev pub WalkingLinked : List ℕ → (ℕ → Float) → ℕ → ℕ → (ℕ → List ℕ) → List ℕ → List ℕ → List Float → List Float → List ℕ → List ℕ → Walk → Walk → Type 0
+WalkingLinked bridges far n b list words words′ floats floats′ nodes nodes′ w r =
+    ((i : ℕ) → i < length bridges → getD bridges i 0 < n)
+    → (nodes₀ seen front : List ℕ)
+    → Between far n b nodes₀ words floats nodes w seen front
+    → Rested far n b nodes₀ words′ floats′ nodes′ r (walkOn far b list n seen front)
+
 -- nothing is marked, in the frontier or held
 pub record Prepared (n b : ℕ) (words : List ℕ) : Type 0 where
   pub marks : (v : ℕ) → v < n → getD words v 0 ≡ 0

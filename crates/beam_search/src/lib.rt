@@ -19,7 +19,7 @@ ghost use lib.Ieee.{binary32, mul, lt};
 ghost use lib.ListN.{length, take};
 ghost use Rattle.vectors.specs.Vectors.{vectorsIn};
 ghost use Rattle.beam.specs.Beam.{farFrom, stopFactor, stopMultiplier};
-ghost use Rattle.beam_search.specs.Steps.{Linking, TakingIn, Expanding, Stepping, Walking, Prepared, Starting, Telling};
+ghost use Rattle.beam_search.specs.Steps.{Linking, TakingIn, Expanding, Stepping, Walking, WalkingLinked, Prepared, Starting, Telling};
 ghost use Rattle.beam_search.specs.Search.{listIn, Searching};
 use beam_state::Walk;
 use ids::Node;
@@ -233,6 +233,63 @@ fn walk_on(
     now
 }
 
+// The walk from where it stands, over rows and bridges, which are linked first. Where there are none there is
+// nothing to link, and no links are cleared.
+fn walk_linked(
+    words: &mut [u32],
+    floats: &mut [f32],
+    nodes: &mut [u32],
+    query: &[f32],
+    vectors: &[f32],
+    dimension: u32,
+    rows: &[u32],
+    degree: u16,
+    bridges: &[u32],
+    size: usize,
+    places: u32,
+    walk: Walk,
+) -> Walk
+    requires { ⌜ 11 * size ≤ length (now words) ⌝ }
+    requires { ⌜ (size ≤ 1024) × (length (now bridges) / 2 ≤ size) ⌝ }
+    ensures { λ r. ⌜ WalkingLinked (now (bridges .entry)) (farFrom (now (query .entry)) (vectorsIn dimension (now (vectors .entry)))) size places (listIn size degree (now (rows .entry)) (now (bridges .entry))) (now (words .entry)) (now (words .exit)) (now (floats .entry)) (now (floats .exit)) (now (nodes .entry)) (now (nodes .exit)) walk r ⌝ }
+{
+    if bridges.len() < 2 {
+        let none: usize = 0;
+        return walk_on(
+            words,
+            floats,
+            nodes,
+            query,
+            vectors,
+            dimension,
+            rows,
+            degree,
+            bridges,
+            &bridges[none..none],
+            size,
+            places,
+            walk,
+        );
+    }
+    let mut links = [0u32; 4096];
+    link_bridges(&mut links[..], size as u32, bridges);
+    walk_on(
+        words,
+        floats,
+        nodes,
+        query,
+        vectors,
+        dimension,
+        rows,
+        degree,
+        bridges,
+        &links[..],
+        size,
+        places,
+        walk,
+    )
+}
+
 // No node is marked, in the frontier or held.
 fn prepare(words: &mut [u32], size: usize, places: u32)
     requires { ⌜ 11 * size ≤ length (now words) ⌝ }
@@ -339,9 +396,7 @@ pub fn beam_search(
         places,
         from,
     );
-    let mut links = [0u32; 4096];
-    link_bridges(&mut links[..], size as u32, bridges);
-    let last = walk_on(
+    let last = walk_linked(
         words,
         floats,
         nodes,
@@ -351,7 +406,6 @@ pub fn beam_search(
         rows,
         degree,
         bridges,
-        &links[..],
         size,
         places,
         first,

@@ -3,7 +3,7 @@
 use mathlib.Core.Path.{_≡_, subst}
 use mathlib.Core.List.{List, [], _∷_}
 use Prim.Native.Nat.{ℕ}
-use lib.ListN.{length, length-replicate, getD-replicate}
+use lib.ListN.{length}
 use lib.Ieee.{Float}
 use Rattle.vectors.specs.Vectors.{vectorsIn}
 use Rattle.beam.specs.Beam.{farFrom, beamSearch, answerOf}
@@ -55,20 +55,11 @@ small-requires c κs = search needs
 start-requires : tie.Need-start-requires
 start-requires c κs = omega (arith, fitting (c .before .before .before .before) .scratch)
 
-slice-aggregate-link-bridges : tie.Need-slice-aggregate-link-bridges
-slice-aggregate-link-bridges c = search needs
-
-cast-link-bridges : tie.Need-cast-link-bridges
-cast-link-bridges c = omega (arith, fitting (c .before .before .before .before .before .before .before .before .before .before .before .before) .nodes)
-
-link-bridges-requires : tie.Need-link-bridges-requires
-link-bridges-requires c κs = fitting (c .before .before .before .before .before .before .before .before .before .before .before .before) .pairs
-
-slice-aggregate-walk-on : tie.Need-slice-aggregate-walk-on
-slice-aggregate-walk-on c = search needs
-
-walk-on-requires : tie.Need-walk-on-requires
-walk-on-requires c κs = let k = c .before .before .before .before .before .before .before .before .before .before .before .before .before .start .kept .0 in omega (arith, fitting (c .before .before .before .before .before .before .before .before .before .before .before .before .before .before .before .before .before .before) .scratch, k)
+walk-linked-requires : tie.Need-walk-linked-requires
+walk-linked-requires c κs =
+    let room = fitting (c .before .before .before .before .before .before .before .before .before .before .before .before .before .before) in
+    let k = c .before .before .before .before .before .before .before .before .before .start .kept .0 in
+    (omega (arith, room .scratch, k), (room .nodes, room .pairs))
 
 tell-requires : tie.Need-tell-requires
 tell-requires c κs = search needs
@@ -90,18 +81,16 @@ same-length-4 c = search needs
 
 returns-2 : tie.Need-returns-2
 returns-2 c =
-    let a = (c .before .before .before .before .before .before .before .before .before .before .before .before .before .before .before .before .before .before .before .before .before .before .before .before .before .before .before .before .before .before .before .before .before .before .before .before .before .before .before .before .before) .args in
-    let d = c .before .before .before .before .before .before .before .before .before .before .before .before .before .before .before .before .before .before .before .before .before .before .before .before .before .before .before .before .before .before .before .small in
-    let l = c .before .before .before .before .before .before .before .before .before .before .before .before .before .before .before .before .before .before .before .link-bridges in
-    let s = c .before .before .before .before .before .before .before .before .before .before .before .before .before .before .before .before .before .before .before .before .before .before .before .before .before .before .before .start in
-    let w = c .before .before .before .before .before .before .before .before .before .before .before .before .before .walk-on in
+    let a = c .before .before .before .before .before .before .before .before .before .before .before .before .before .before .before .before .before .before .before .before .before .before .before .before .before .before .before .before .before .before .before .before .before .before .before .before .before .args in
+    let d = c .before .before .before .before .before .before .before .before .before .before .before .before .before .before .before .before .before .before .before .before .before .before .before .before .before .before .before .small in
+    let s = c .before .before .before .before .before .before .before .before .before .before .before .before .before .before .before .before .before .before .before .before .before .before .before .start in
+    let w = c .before .before .before .before .before .before .before .before .before .before .before .before .before .walk-linked in
     let told = c .before .before .before .tell in
-    let room = fitting (c .before .before .before .before .before .before .before .before .before .before .before .before .before .before .before .before .before .before .before .before .before .before .before .before .before .before .before .before .before .before .before .before) in
+    let room = fitting (c .before .before .before .before .before .before .before .before .before .before .before .before .before .before .before .before .before .before .before .before .before .before .before .before .before .before .before .before) in
     let n : ℕ = nodesIn (a .degree) (a .rows .now) in
     λ fits.
-    let linked = l .ensures (fits .few) (omega (arith, length-replicate {A = ℕ} 4096 0, fits .few)) (λ i h. getD-replicate 4096 i 0 0 (omega (arith, fits .few))) (fits .ends-below) in
     let begun = s .ensures (fits .entry-below) (fits .few) (omega (arith, fits .floats-room)) in
-    let rested = w .ensures linked (a .nodes .now) (a .entry .0 ∷ []) (a .entry .0 ∷ []) begun in
+    let rested = w .ensures (fits .ends-below) (a .nodes .now) (a .entry .0 ∷ []) (a .entry .0 ∷ []) begun in
     at-dimension (a .query .now) (a .vectors .now) (a .rows .now) (a .degree) (a .bridges .now) (a .entry .0) (a .places) (a .nodes .now) (w .last .1 .1 .0) (a .distances .now) (told .last .0) _ (d .result)
     (omega (arith, d .ensures, room .components))
     (searched (farFrom (a .query .now) (vectorsIn (d .result) (a .vectors .now))) n (a .places) (a .entry .0) (listIn n (a .degree) (a .rows .now) (a .bridges .now))
@@ -117,11 +106,7 @@ beam-search-spec =
     returns
     small-requires
     start-requires
-    slice-aggregate-link-bridges
-    cast-link-bridges
-    link-bridges-requires
-    slice-aggregate-walk-on
-    walk-on-requires
+    walk-linked-requires
     tell-requires
     small-requires-2
     same-length

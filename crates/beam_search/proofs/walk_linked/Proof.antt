@@ -1,0 +1,32 @@
+-- `beam_search::walk_linked` meets its contract: no bridges need no links, and others are linked in zeroes. Assumes nothing.
+use mathlib.Core.Path.{refl}
+use Prim.Native.Nat.{ℕ}
+use lib.ListN.{length-replicate, getD-replicate}
+use Rattle.beam_search.proofs.Linking.{none-linked}
+use native.Mathlib.Omega.{arith}
+use borrow.Author.Needs.{needs}
+use Rattle.beam_search.proofs.walk_linked.Statement.{statement}
+use Rattle.beam_search.proofs.walk_linked.Tie as tie
+
+returns : tie.Need-returns
+returns c ends =
+    let start = c .before .before .before .before .before .before .before .before .before .before .before .before .before .before .before .before .before .before .before in
+    let a = start .args in
+    c .before .before .before .before .before .before .walk-on .ensures (none-linked (a .size) (a .bridges .now) _ (start .pre .1 .0) (c .before .before .before .before .before .before .before .before .before .before .before .if1 .taken) (λ i h. refl))
+
+returns-2 : tie.Need-returns-2
+returns-2 c ends =
+    let few = c .before .before .before .before .before .before .before .before .before .before .before .before .before .before .before .before .before .before .before .before .before .before .pre .1 .0 in
+    c .before .before .before .before .before .before .walk-on2 .ensures
+    (c .before .before .before .before .before .before .before .before .before .before .before .before .link-bridges .ensures few (omega (arith, length-replicate {A = ℕ} 4096 0)) (λ i h. getD-replicate 4096 i 0 0 (omega arith)) ends)
+
+pub walk-linked-spec : {M : Type 1} → statement M
+walk-linked-spec =
+    tie.close
+    (tie.spec
+    -- no links, and the call
+    (search needs) (search needs) (search needs) (search needs) (search needs) (search needs) (search needs) (search needs)
+    returns
+    -- links, and the calls
+    (search needs) (search needs) (search needs) (search needs) (search needs) (search needs) (search needs) (search needs)
+    returns-2)
