@@ -107,21 +107,21 @@ partition-spec =
     (tie.spec
     returns
     returns-2
-    (search needs)
+    (λ c. search needs)
     returns-3
-    (search needs)
-    (search needs)
+    (λ c. search needs)
+    (λ c. search needs)
     slice-aggregate-carve-all
-    (search needs)
+    (λ c. search needs)
     slice-aggregate-carve-all-2
     carve-all-requires
     array-share-prefix-marks
     slice-aggregate-sizes-of
-    (search needs)
-    (search needs)
-    (search needs)
-    (search needs)
+    (λ c. search needs)
+    (λ c. search needs)
+    (λ c. search needs)
+    (λ c. search needs)
     sizes-of-requires
-    (search needs)
-    (search needs)
+    (λ c. search needs)
+    (λ c. search needs)
     returns-4)

@@ -51,11 +51,11 @@ sums-finite-spec =
     Inv-loop
     μ-loop
     -- the rest past the eighths, and the call that tests it
-    (search needs) (search needs) (search needs) (search needs) (search needs) (search needs)
+    (λ c. search needs) (λ c. search needs) (λ c. search needs) (λ c. search needs) (λ c. search needs) (λ c κs. search needs)
     loop-holds
     -- the two sums, and the call that tests theirs
-    (search needs) (search needs) (search needs) (search needs) (search needs)
+    (λ c κs. search needs) (λ c. search needs) (λ c. search needs) (λ c κs. search needs) (λ c κs. search needs)
     -- the step, the measure
-    (search needs) (search needs)
+    (λ c. search needs) (λ c. search needs)
     loop-again
     returns)

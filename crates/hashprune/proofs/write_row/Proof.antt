@@ -54,13 +54,13 @@ write-row-spec =
     (tie.spec
     Inv-loop
     μ-loop
-    (search needs) (search needs) (search needs) (search needs)
+    (λ c. search needs) (λ c κs. search needs) (λ c. search needs) (λ c. search needs)
     loop-holds
-    (search needs) (search needs)
+    (λ c. search needs) (λ c κs. search needs)
     mul-row
-    (search needs)
+    (λ c. search needs)
     add-k
-    (search needs)
+    (λ c. search needs)
     loop-again
     same-length
     returns)

@@ -72,15 +72,15 @@ draw-spec =
     Inv-loop
     μ-loop
     loop-holds
-    (search needs) (search needs) (search needs) (search needs) (search needs)
+    (λ c κs. search needs) (λ c. search needs) (λ c. search needs) (λ c. search needs) (λ c. search needs)
     slice-read-last
     mul-out
     slice-read-out
-    (search needs)
+    (λ c. search needs)
     slice-write-out
     mul-left
     slice-write-left
-    (search needs) (search needs)
+    (λ c. search needs) (λ c. search needs)
     loop-again
     same-length
     same-length-2

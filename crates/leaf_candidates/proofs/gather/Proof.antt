@@ -87,16 +87,16 @@ gather-spec =
     Inv-loop
     μ-loop
     loop-holds
-    (search needs) (search needs)
+    (λ c. search needs) (λ c. search needs)
     cast-place
     mul-candidates
     shared-slice-read-candidates
-    (search needs) (search needs)
+    (λ c. search needs) (λ c. search needs)
     mul-far
     add-far
     mul-far-2
     shared-slice-read-far
-    (search needs) (search needs) (search needs) (search needs)
+    (λ c. search needs) (λ c. search needs) (λ c. search needs) (λ c. search needs)
     loop-again
     same-length
     same-length-2

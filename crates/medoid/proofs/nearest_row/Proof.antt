@@ -69,8 +69,8 @@ nearest-row-spec =
     loop-holds
     add-end
     mul-cosine-distance-normalized
-    (search needs) (search needs)
+    (λ c. search needs) (λ c. search needs)
     part-cosine-distance-normalized-end
-    (search needs) (search needs) (search needs) (search needs)
+    (λ c κs. search needs) (λ c κs. search needs) (λ c. search needs) (λ c. search needs)
     loop-again
     returns)

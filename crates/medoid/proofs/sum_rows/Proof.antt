@@ -73,11 +73,11 @@ sum-rows-spec =
     loop-holds
     add-end
     mul-add-row
-    (search needs)
+    (λ c. search needs)
     part-add-row-start
     part-add-row-end
     add-row-requires
-    (search needs) (search needs)
+    (λ c. search needs) (λ c. search needs)
     loop-again
     same-length
     returns)

@@ -62,12 +62,12 @@ nodes-by-fours-spec =
     Inv-loop
     μ-loop
     -- the rest past the quarters, and the call that tests it
-    (search needs) (search needs) (search needs) (search needs) (search needs) (search needs)
+    (λ c. search needs) (λ c. search needs) (λ c. search needs) (λ c. search needs) (λ c. search needs) (λ c κs. search needs)
     loop-holds
     -- the four entries of a turn
-    (search needs) (search needs) (search needs) (search needs) (search needs) (search needs) (search needs)
-    (search needs) (search needs) (search needs) (search needs) (search needs) (search needs)
+    (λ c. search needs) (λ c. search needs) (λ c. search needs) (λ c. search needs) (λ c. search needs) (λ c. search needs) (λ c. search needs)
+    (λ c. search needs) (λ c. search needs) (λ c. search needs) (λ c. search needs) (λ c. search needs) (λ c. search needs)
     -- the step, the measure
-    (search needs) (search needs)
+    (λ c. search needs) (λ c. search needs)
     loop-again
     returns)
