@@ -48,8 +48,8 @@ pub fn clusters(seed: u64, n: usize, dimension: usize) -> Vec<f32> {
         .collect()
 }
 
-/// The Rust's median time in nanoseconds, and two shares of it: ours, and the Rust's own when it is measured once more in the same
-/// rounds, which tells how far shares can be trusted.
+/// The Rust's time in nanoseconds, and two shares of it: ours, and the Rust's own when it is measured once more in the same rounds,
+/// which tells how far shares can be trusted.
 pub struct Compared {
     pub rust: f64,
     pub ours: f64,
@@ -69,10 +69,13 @@ impl Compared {
     }
 }
 
-pub fn compare(rounds: usize, rust: impl FnMut(), mut ours: impl FnMut()) -> Compared {
-    let rust = std::cell::RefCell::new(rust);
-    let mut once = || rust.borrow_mut()();
-    let mut again = || rust.borrow_mut()();
-    let times = medians_of(rounds, &mut [&mut once, &mut ours, &mut again]);
-    Compared { rust: times[0], ours: times[1] / times[0], again: times[2] / times[0] }
+/// In a round each has two turns, one after the other's: neither finds the caches as it left them itself. A time is the mean of the two
+/// turns' medians.
+pub fn compare(rounds: usize, rust: impl FnMut(), ours: impl FnMut()) -> Compared {
+    let (rust, ours) = (std::cell::RefCell::new(rust), std::cell::RefCell::new(ours));
+    let mut turns: [&mut dyn FnMut(); 4] =
+        [&mut || rust.borrow_mut()(), &mut || ours.borrow_mut()(), &mut || rust.borrow_mut()(), &mut || ours.borrow_mut()()];
+    let times = medians_of(rounds, &mut turns);
+    let rust = (times[0] + times[2]) / 2.0;
+    Compared { rust, ours: (times[1] + times[3]) / 2.0 / rust, again: times[2] / times[0] }
 }
