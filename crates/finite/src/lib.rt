@@ -6,11 +6,10 @@
 // the compiler uses vectors. It leans on nothing but the operators of floats.
 ghost use mathlib.Core.Path.{_≡_};
 ghost use mathlib.Core.Bool.{true};
-ghost use Prim.Native.Nat.{_+_, _*_, _<_};
 ghost use lib.ListN.{length};
 ghost use lib.Ieee.Scale.{finite};
 ghost use Rattle.basics.specs.Lists.{every};
-ghost use Rattle.finite.specs.Sums.{fourSum};
+ghost use Rattle.finite.specs.Sums.{Added};
 
 // Whether x is finite.
 pub fn is_finite(x: f32) -> bool
@@ -33,32 +32,48 @@ fn each_finite(v: &[f32]) -> bool
     ok
 }
 
-// The sum of four components that stand so far apart, in pairs.
-fn sum_of_four(v: &[f32], at: usize, apart: usize) -> f32
-    requires { ⌜ at + 3 * apart < length (now v) ⌝ }
-    ensures { λ r. ⌜ r ≡ fourSum (now (v .entry)) at apart ⌝ }
+// Adds 32 components to 32 sums, each to its own.
+fn add_to(sums: &mut [f32], components: &[f32])
+    requires { ⌜ (length (now sums) ≡ 32) × (length (now components) ≡ 32) ⌝ }
+    ensures { λ _. ⌜ Added 32 (now (sums .entry)) (now (components .entry)) (now (sums .exit)) ⌝ }
 {
-    (v[at] + v[at + apart]) + (v[at + 2 * apart] + v[at + 3 * apart])
+    let mut k: usize = 0;
+    while k < 32 {
+        sums[k] = sums[k] + components[k];
+        k += 1;
+    }
 }
 
-// Whether eight components' sums are, one of each eighth, and what stands past the eighths. No sum with a
-// component that is not finite is finite, so true tells that all are; false tells nothing, since a sum can
-// leave the floats. Eight components cost seven additions and one test: the check of a store is bound by
-// such steps.
+// The sum of all, one after the other. No sum with a component that is not finite is finite.
+fn sum_of(v: &[f32]) -> f32
+    ensures { λ r. ⌜ (finite r ≡ true → every finite (now (v .entry)) ≡ true) ⌝ }
+{
+    let mut sum: f32 = 0.0;
+    let mut i: usize = 0;
+    while i < v.len() {
+        sum = sum + v[i];
+        i += 1;
+    }
+    sum
+}
+
+// Whether the sum of 32 sums is, each of every 32nd component, and what stands past the last 32. True tells
+// that all are; false tells nothing, since a sum can leave the floats. A component costs one addition, and
+// the 32 sums do not wait for each other: the check of a store is then bound by reading it.
 fn sums_finite(v: &[f32]) -> bool
     ensures { λ r. ⌜ (r ≡ true → every finite (now (v .entry)) ≡ true) ⌝ }
 {
-    let eighth = v.len() / 8;
-    let rest = 8 * eighth;
-    let mut ok = each_finite(&v[rest..]);
-    let mut i = 0;
-    while i < eighth {
-        let low = sum_of_four(v, i, eighth);
-        let high = sum_of_four(v, 4 * eighth + i, eighth);
-        ok = ok & is_finite(low + high);
-        i += 1;
+    let turns = v.len() / 32;
+    let rest = turns * 32;
+    let mut sums = [0.0f32; 32];
+    let mut j: usize = 0;
+    while j < turns {
+        let from = j * 32;
+        let end = from + 32;
+        add_to(&mut sums[..], &v[from..end]);
+        j += 1;
     }
-    ok
+    is_finite(sum_of(&sums[..])) & each_finite(&v[rest..])
 }
 
 // Whether each component is finite.

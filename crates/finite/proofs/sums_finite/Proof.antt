@@ -1,48 +1,51 @@
--- `finite::sums_finite` meets its contract: while all was finite so far, the first i of each eighth are. Assumes nothing.
-use mathlib.Core.Path.{_≡_, sym, ap, ap₂, _∙_}
-use mathlib.Core.Bool.{true}
-use Prim.Native.Nat.{_-_, _*_, _/_, _≤_}
+-- `finite::sums_finite` meets its contract: after j turns, a sum that is finite is of finite components. Assumes nothing.
+use mathlib.Core.Path.{_≡_, sym, _∙_}
+use Prim.Native.Nat.{_+_, _-_, _*_, _/_, _≤_}
 use native.Mathlib.Omega.{arith}
-use lib.ListN.{length}
-use lib.Ieee.{nan, binary32, add}
-use lib.Ieee.Scale.{finite}
+use lib.ListN.{length, drop, length-replicate, length-drop}
+use lib.Seq.{length-take-le}
+use lib.Ieee.{Float}
 use borrow.Author.Needs.{needs}
-use Rattle.basics.proofs.EqualParts.{EqualParts, parts-none, parts-more, parts-all}
+use Rattle.basics.specs.Sum.{+zero}
 use Rattle.basics.proofs.Tests.{both-true}
-use Rattle.finite.proofs.Sums.{eight-finite}
+use Rattle.finite.proofs.Sums.{Summed, summed-none, summed-more, summed-all}
 use Rattle.finite.proofs.sums_finite.Statement.{statement}
 use Rattle.finite.proofs.sums_finite.Tie as tie
 
 abbrev Inv-loop : tie.InvT-loop
-Inv-loop v eighth rest ok₀ i₀ ok i = (i ≤ eighth) × (ok ≡ true → EqualParts finite v nan 8 eighth i)
+Inv-loop v turns rest sums₀ j₀ sums j = (j ≤ turns) × Summed v sums j
 
 abbrev μ-loop : tie.MeasureT-loop
-μ-loop v eighth rest ok₀ i₀ ok i = eighth - i
+μ-loop v turns rest sums₀ j₀ sums j = turns - j
 
 loop-holds : tie.Need-loop-holds Inv-loop μ-loop
-loop-holds c =
-    let v = c .before .before .before .args .v .now in
-    let q = length v / 8 in
-    (omega arith, λ t. parts-none finite v nan 8 q (length v - 8 * q) (omega arith) (sym (c .each-finite .ensures) ∙ t))
+loop-holds c = (omega arith, summed-none (c .before .args .v .now) _ (length-replicate {A = Float} 32 +zero))
+
+add-to-requires : tie.Need-add-to-requires Inv-loop μ-loop
+add-to-requires c κs =
+    let v = c .before .before .before .before .before .args .v .now in
+    let l = c .before .before .before .loop in
+    let t = c .before .before .loop-test .taken in
+    (l .inv .1 .long, length-take-le (l .j * 32 + 32 - l .j * 32) (drop (l .j * 32) v) (omega (arith, length-drop (l .j * 32) v)) ∙ omega arith)
 
 loop-again : tie.Need-loop-again Inv-loop μ-loop
 loop-again c =
-    let v = c .before .before .before .before .before .before .before .before .args .v .now in
-    let l = c .before .before .before .before .loop in
-    let low = c .before .before .sum-of-four in
-    let high = c .before .sum-of-four2 in
-    let sum = c .is-finite .ensures ∙ ap finite (ap₂ (add binary32) (low .ensures) (high .ensures)) in (
-      omega arith,
-      λ t.
-          let both = both-true (l .ok) (c .is-finite .result) t in
-          parts-more finite v nan 8 (length v / 8) (l .i) (l .inv .1 (both .0)) (eight-finite v (length v / 8) (l .i) (sym sum ∙ both .1)),
-    )
+    let v = c .before .before .before .before .before .before .before .args .v .now in
+    let l = c .before .before .before .before .before .loop in
+    let added = c .before .add-to in
+    (omega (arith, c .before .before .before .before .loop-test .taken), summed-more v (l .sums) (added .last .0) (l .j) (l .j * 32 + 32 - l .j * 32) (omega arith) (l .inv .1) (added .kept .0) (added .ensures))
 
 returns : tie.Need-returns Inv-loop μ-loop
 returns c =
-    let v = c .before .before .before .before .before .args .v .now in
-    let l = c .before .loop in
-    λ t. parts-all finite v nan 8 (length v / 8) (l .i) (omega arith) (l .inv .1 t)
+    let v = c .before .before .before .before .before .before .before .before .args .v .now in
+    let l = c .before .before .before .before .before .before .loop in
+    let sum = c .before .before .before .sum-of in
+    let of-sum = c .before .before .is-finite in
+    let of-rest = c .each-finite in
+    λ t.
+    let both = both-true (of-sum .result) (of-rest .result) t in
+    summed-all v (l .sums) (length v / 32) (l .j) (length v - length v / 32 * 32) (omega (arith, c .before .before .before .before .before .loop-test .left)) (omega arith) (l .inv .1)
+    (sum .ensures (sym (of-sum .ensures) ∙ both .0)) (sym (of-rest .ensures) ∙ both .1)
 
 pub sums-finite-spec : {M : Type 1} → statement M
 sums-finite-spec =
@@ -50,12 +53,14 @@ sums-finite-spec =
     (tie.spec
     Inv-loop
     μ-loop
-    -- the rest past the eighths, and the call that tests it
-    (λ c. search needs) (λ c. search needs) (λ c. search needs) (λ c. search needs) (λ c. search needs) (λ c κs. search needs)
+    (λ c. search needs)
     loop-holds
-    -- the two sums, and the call that tests theirs
-    (λ c κs. search needs) (λ c. search needs) (λ c. search needs) (λ c κs. search needs) (λ c κs. search needs)
+    -- a turn's components
+    (λ c. search needs) (λ c. search needs) (λ c. search needs) (λ c. search needs) (λ c. search needs) (λ c. search needs) (λ c. search needs)
+    add-to-requires
     -- the step, the measure
     (λ c. search needs) (λ c. search needs)
     loop-again
+    -- the sum of the sums, and what stands past the last turn
+    (λ c. search needs) (λ c κs. search needs) (λ c κs. search needs) (λ c. search needs) (λ c. search needs) (λ c. search needs) (λ c. search needs) (λ c κs. search needs)
     returns)
