@@ -61,7 +61,7 @@ Made (built x) w f = BuiltStore x w f
 
 -- ---- as many of each as nodes
 
-pub many-docs : (x : Index) → length (docsOf x) ≡ size x
+many-docs : (x : Index) → length (docsOf x) ≡ size x
 unfolding docsOf
 many-docs x = length-map (x .nodes) (λ (a : Added). a .doc)
 

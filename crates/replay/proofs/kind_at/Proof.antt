@@ -4,8 +4,6 @@ use lib.ListN.{length}
 use borrow.Author.Needs.{needs}
 use Rattle.replay.proofs.kind_at.Statement.{statement}
 use Rattle.replay.proofs.kind_at.Tie as tie
-use Rattle.replay.proofs.past_name.Reads as past-name-reads
-use Rattle.replay.proofs.starts.Reads as starts-reads
 
 abbrev Inv-loop : tie.InvT-loop
 Inv-loop names text at kind₀ from₀ kind from = (kind ≤ from) × (from ≤ length names)

@@ -4,10 +4,6 @@ use lib.ListN.{length}
 use borrow.Author.Needs.{needs}
 use Rattle.replay.proofs.write_tallies.Statement.{statement}
 use Rattle.replay.proofs.write_tallies.Tie as tie
-use Rattle.io.proofs.write_all.Reads as write-all-reads
-use Rattle.replay.proofs.past_name.Reads as past-name-reads
-use Rattle.replay.proofs.token.Reads as token-reads
-use Rattle.replay.proofs.write_tally.Reads as write-tally-reads
 
 abbrev Inv-loop : tie.InvT-loop
 Inv-loop names tallies half kind₀ from₀ t7 kind from = (kind ≤ from) × (from ≤ length names)
