@@ -17,7 +17,7 @@ use Rattle.basics.proofs.Counting.{at-most}
 use Rattle.order.specs.Order.{keyOf}
 use Rattle.sorting.specs.Sorting.{keptPairs, keptKeys, keptIds}
 use Rattle.walk.specs.Walk.{State}
-use Rattle.beam.specs.KeepClosest.{sooner, hold, replaceWorst, keepClosest, heldOf, cutoffOf}
+use Rattle.beam.specs.KeepClosest.{sooner, replaceWorst, keepClosest, heldOf, cutoffOf}
 use Rattle.beam.specs.Beam.{toFrontier}
 use Rattle.queues.specs.Queues.{frontRank, Queue, Held, Known, Entering, Keeping}
 use Rattle.queues.specs.declared.Closest.{Closest}

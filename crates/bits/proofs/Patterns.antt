@@ -2,7 +2,7 @@
 use mathlib.Core.Path.{_≡_, refl, sym, subst, _∙_}
 use mathlib.Core.Bool.{Bool, true, false, not}
 use Prim.Native.Nat.{ℕ, _*_, _%_, _≤_, _<_}
-use lib.Dec.{T, ltb}
+use lib.Dec.{T}
 use lib.Ieee.{Float, nan, inf, fin, Format, hid, ones, top, isNan, ofBits, nanBits, ne, eq}
 use lib.Ieee.Bits.{nanBits-is, nanBits-above}
 use borrow.Author.Tests.{lt-ltb, le-ltb}

@@ -11,7 +11,7 @@ use lib.Dec.{leb}
 use lib.ListN.{length, getD, take, drop, replicate, length-append, length-replicate}
 use lib.Ieee.{Float}
 use borrow.Author.Tests.{le-leb, lt-leb}
-use Rattle.basics.specs.Choice.{pick, pick-ind, pick-true, pick-false}
+use Rattle.basics.specs.Choice.{pick-ind, pick-true, pick-false}
 use Rattle.basics.specs.Nodes.{Below}
 use Rattle.basics.specs.Rows.{Rows}
 use mathlib.Core.List.{List·Memᴰ·append-cases as in-cases}

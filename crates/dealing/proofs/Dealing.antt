@@ -14,7 +14,7 @@ use lib.Ieee.{Float}
 use Rattle.basics.specs.Choice.{pick, pick-ind}
 use Rattle.basics.specs.Nodes.{has, Below}
 use Rattle.basics.proofs.Members.{in-getD}
-use Rattle.basics.proofs.Loops.{front-set, front-length}
+use Rattle.basics.proofs.Loops.{front-set}
 use Rattle.leaders.specs.Leaders.{upTo, drawn, drawStart, drawnInto, leaderCount, leaderPositions}
 use Rattle.leaders.proofs.Positions.{length-positions}
 use Rattle.partition.specs.Partition.{keep, nearestLeaders, dealt, leadersOf, gathered, bucketsOf, fanout}
@@ -84,9 +84,6 @@ module _ (g : ℕ → ℕ) (ids cards : List ℕ) (same : length cards ≡ lengt
 
   written-size : (i : ℕ) → i ≤ length ids → length (map g (take i ids)) ≡ i
   written-size i h = length-map (take i ids) g ∙ length-take-le i ids h
-
-  pub written-length : (i : ℕ) → i ≤ length ids → length (written i) ≡ length cards
-  written-length i h = front-length cards (map g (take i ids)) i (written-size i h) (omega arith)
 
   pub written-more : (i : ℕ) → i < length ids → set (written i) i (g (getD ids i 0)) ≡ written (i + 1)
   written-more i h =

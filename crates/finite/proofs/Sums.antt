@@ -11,7 +11,7 @@ use lib.Ieee.{Float, Format, binary32, nan, inf, fin, add}
 use lib.Ieee.Scale.{finite}
 use Rattle.basics.specs.Lists.{every}
 use Rattle.basics.proofs.Pieces.{every-at}
-use Rattle.basics.proofs.EqualParts.{EqualParts, parts-none, parts-all}
+use Rattle.basics.proofs.EqualParts.{parts-none, parts-all}
 use Rattle.finite.specs.Sums.{Added}
 
 infinite : (b s : Bool) → finite (cond b (inf s) nan) ≡ true → ⊥

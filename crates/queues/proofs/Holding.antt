@@ -10,7 +10,7 @@ use native.Mathlib.Omega.{arith}
 use native.Mathlib.Decide.{ℕ-discrete, decLt}
 use borrow.Author.Tests.{lt-ltb, le-ltb, ltb-true, ltb-false, eqb-true}
 use lib.Dec.{T, eqb, ltb}
-use lib.ListN.{length, getD, set, replicate, length-append, length-map, length-replicate, getD-replicate, length-set, List·getD-append}
+use lib.ListN.{length, getD, set, replicate, length-append, length-replicate, getD-replicate, length-set, List·getD-append}
 use lib.Seq.{getD-set-same, getD-set-other, getD-append-seam}
 use lib.Ieee.{Float, binary32, fits}
 use Rattle.basics.specs.Choice.{pick, pick-true, pick-false}

@@ -17,7 +17,7 @@ use Rattle.tournament.specs.Tournament.{Putting, firstOf}
 use Rattle.tournament.specs.declared.Pair.{Pair}
 use Rattle.beam.specs.KeepClosest.{keyAt, hold, replaceWorst, keepClosest, worstOf}
 use Rattle.queues.specs.Queues.{Known, heldRank, Held, Worst, Keeping}
-use Rattle.queues.proofs.Holding.{hold-length, none-first, First, first-held, held-more, held-over}
+use Rattle.queues.proofs.Holding.{hold-length, none-first, first-held, held-more, held-over}
 
 module _ (tree : List ℕ) (top : Pair) (first : top ≡ firstOf tree) (j : getD tree 3 0 < 4294967296) (k : getD tree 2 0 < 4294967296) where
   top-id : top .id ≡ firstOf tree .id

@@ -4,7 +4,6 @@ use mathlib.Core.List.{List}
 use mathlib.Core.List.{_++_}
 use Prim.Native.Nat.{ℕ, _≤_}
 use native.Mathlib.Omega.{arith}
-use lib.Dec.{eqb}
 use lib.ListN.{length, take, length-append}
 use lib.Seq.{take-at}
 use lib.Ieee.{Float, binary32}

@@ -12,7 +12,7 @@ use lib.ListN.{length, getD, take, drop, length-append, length-drop, length-map,
 use lib.Seq.{length-take-le, take-at, drop-at, drop-append-le}
 use lib.Ieee.{Float}
 use borrow.Author.Tests.{ltb-false}
-use Rattle.basics.specs.Choice.{pick, pick-yes}
+use Rattle.basics.specs.Choice.{pick-yes}
 use Rattle.basics.specs.Graph.{listOf}
 use Rattle.basics.specs.Nodes.{Below}
 use Rattle.basics.proofs.Members.{in-take}

@@ -3,11 +3,11 @@ use mathlib.Core.Path.{_≡_, sym, ap, _∙_, subst}
 use mathlib.Core.Bool.{true, _&&_}
 use mathlib.Core.List.{List, [], _∷_}
 use mathlib.Core.List.{List·Memᴰ·head as here, List·Memᴰ·tail as there}
-use Prim.Native.Nat.{ℕ, _+_, _-_, _*_, _≤_, _<_}
+use Prim.Native.Nat.{ℕ, _+_, _*_, _≤_, _<_}
 use native.Mathlib.Omega.{arith}
 use lib.Dec.{ltb}
 use lib.ListN.{length, getD, take, drop, length-take, List·getD-map}
-use lib.Seq.{take-take, drop-drop, getD-take, getD-drop}
+use lib.Seq.{drop-drop, getD-take, getD-drop}
 use lib.Ieee.{Float}
 use lib.Ieee.Scale.{finite}
 use borrow.Author.Tests.{leb-true, ltb-true, eqb-false, not-true}
@@ -15,11 +15,10 @@ use Rattle.basics.specs.Lists.{every}
 use Rattle.basics.specs.Nodes.{Below}
 use Rattle.basics.specs.Graph.{Bridge}
 use Rattle.basics.proofs.Tests.{both-true}
-use Rattle.basics.proofs.Pieces.{length-pieces, nth-piece, every-at, every-take, every-drop, drop-take}
+use Rattle.basics.proofs.Pieces.{length-pieces, nth-piece, every-at}
 use Rattle.store.specs.Layout.{word, dimensionAt, nodesAt, degreeAt, bridgeCountAt, capacityAt, rowsAt, rowSize, rowAt, bridgesAt, bridgeSize}
 use Rattle.store.specs.View.{rowWords, bridgeWords, entriesIn, bridgeIn, view}
 use Rattle.store.specs.WellFormed.{isNode, rowOk, bridgeOk, restOk}
-use Rattle.store.proofs.Sizes.{product-le}
 
 all-below : (n : ℕ) (l : List ℕ) → every (isNode n) l ≡ true → Below n l
 unfolding every
@@ -90,17 +89,3 @@ module _ (w : List ℕ) (f : List Float) (ok : restOk w f ≡ true) where
       let ends = both-true _ _ (t .0) in
       subst BridgeGood (sym (List·getD-map bridgeIn (bridgeWords w) j []))
       (record { near-node = ltb-true _ _ (ends .0); far-node = ltb-true _ _ (ends .1); different = eqb-false _ _ (not-true _ (t .1)) })
-
-  pub vector-good : (i : ℕ) → i < n → every finite (getD (view w f .vectors) i []) ≡ true
-  unfolding view
-  vector-good i h =
-      let d : ℕ = word w dimensionAt in
-      let less : (i + 1) * d ≤ n * d = product-le (i + 1) d n d (omega arith) (omega arith) in
-      let split : i * d + (n * d - i * d) ≡ n * d = omega arith in
-      let enough : d ≤ n * d - i * d = omega arith in
-      let kept : take d (drop (i * d) (take (n * d) f)) ≡ take d (drop (i * d) f) =
-      ap (λ (k : ℕ). take d (drop (i * d) (take k f))) (sym split)
-      ∙ ap (take d) (drop-take (i * d) (n * d - i * d) f)
-      ∙ take-take d (n * d - i * d) (drop (i * d) f) enough in
-      ap (every finite) (nth-piece d n f i h ∙ sym kept)
-      ∙ every-take finite d (drop (i * d) (take (n * d) f)) (every-drop finite (i * d) (take (n * d) f) (parts .1))

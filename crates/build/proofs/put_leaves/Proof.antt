@@ -1,7 +1,7 @@
 -- The nodes and sizes that are lent on are those of the leaves (proofs/Leaves). Assumes nothing.
 use mathlib.Core.Path.{_≡_, sym, ap}
 use Prim.Native.Nat.{ℕ, _+_, _-_, _*_}
-use lib.ListN.{length, take, drop}
+use lib.ListN.{take, drop}
 use lib.Seq.{length-take-le}
 use Rattle.build.proofs.Leaves.{entries-most, built-from}
 use native.Mathlib.Omega.{arith}

@@ -1,5 +1,4 @@
 -- `finite::sum_of` meets its contract: a sum so far that is finite is of finite components. Assumes nothing.
-use mathlib.Core.Path.{_≡_}
 use Prim.Native.Nat.{_-_, _≤_}
 use native.Mathlib.Omega.{arith}
 use lib.ListN.{length}

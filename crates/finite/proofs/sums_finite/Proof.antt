@@ -1,5 +1,5 @@
 -- `finite::sums_finite` meets its contract: after j turns, a sum that is finite is of finite components. Assumes nothing.
-use mathlib.Core.Path.{_≡_, sym, _∙_}
+use mathlib.Core.Path.{sym, _∙_}
 use Prim.Native.Nat.{_+_, _-_, _*_, _/_, _≤_}
 use native.Mathlib.Omega.{arith}
 use lib.ListN.{length, drop, length-replicate, length-drop}

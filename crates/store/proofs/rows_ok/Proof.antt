@@ -1,7 +1,6 @@
 -- `store::rows_ok` meets its contract: where one pass over all words says yes, each row is well formed (`rows-flat`), and otherwise each is looked at.
 -- Assumes nothing.
 use mathlib.Core.Path.{_≡_, sym, ap, _∙_}
-use mathlib.Core.Bool.{true}
 use Prim.Native.Nat.{ℕ, _+_, _-_, _*_, _≤_}
 use native.Mathlib.Omega.{arith}
 use lib.ListN.{length, take, drop}
