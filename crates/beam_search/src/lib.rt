@@ -9,8 +9,8 @@
 //
 // What it gives is the walk and the answer of `beam`; specs/Search says of which graph: the entries of the
 // lists that are below the number of nodes. Scratch is 11 words and a float for each node; its old content
-// does not show. Before the walk goes on from the entry node, bridges are linked (`chains`) in a local array of
-// 16 KB, so that an expansion looks at its node's own bridges alone.
+// does not show. Before the walk goes on from the entry node, bridges, where there are any, are linked
+// (`chains`) in a local array of 16 KB, so that an expansion looks at its node's own bridges alone.
 ghost use mathlib.Core.Path.{_≡_};
 ghost use mathlib.Core.Bool.{_&&_, _||_};
 ghost use Prim.Native.Nat.{_*_, _/_, _≤_, min};

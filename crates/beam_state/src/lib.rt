@@ -3,9 +3,10 @@
 // src/pipnn/mod.rs.
 //
 // One slice of words holds it, by the number n of nodes: n marks and n places for fresh nodes (`gathering`),
-// then the frontier (4·n words), the held (4·n, of which four for each of the walk's places are used) and the keys of the answer (n). The answer's nodes stand in
-// the slice that they are wanted in, nearest first, as far as it goes: `keep_first` keeps the first few of
-// what it is offered, so that nothing is sorted at the end. Counts and the cutoff are a struct by value.
+// then the frontier (4·n words), the held (4·n words, of which the first four for each of the walk's places are
+// used) and the keys of the answer (n). The answer's nodes stand in the slice that they are wanted in, nearest
+// first, as far as it goes: `keep_first` keeps the first few of what it is offered, so that nothing is sorted at
+// the end. Counts and the cutoff are a struct by value.
 ghost use mathlib.Core.Path.{_≡_};
 ghost use Prim.Native.Nat.{_+_, _*_, _≤_, min};
 ghost use lib.ListN.{length, take};

@@ -2,8 +2,12 @@
 // `search_with_ef` take any float.
 //
 // A float less itself is 0 where it is finite and no number otherwise, and a float equals itself unless
-// it is no number. So the test is one difference and one comparison, without a branch, and over a slice
-// the compiler uses vectors. It leans on nothing but the operators of floats.
+// it is no number. So the test is one difference and one comparison, without a branch. Over a slice sums are
+// tested first: where the sum of all is finite each component is, and only where it is not are the
+// components looked at one by one. It leans on nothing but the operators of floats.
+//
+// specs/Sums    one component more in each of some sums
+// proofs/Sums   what a finite sum says of its components
 ghost use mathlib.Core.Path.{_≡_};
 ghost use mathlib.Core.Bool.{true};
 ghost use lib.ListN.{length};

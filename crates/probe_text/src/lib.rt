@@ -5,7 +5,7 @@
 //
 // Everything here is proved safe on every line and buffer, and nothing more: what is printed is compared with
 // recorded runs. It leans on `replay` and `io` for digits, on `bits` for floats.
-ghost use Prim.Native.Nat.{_+_, _≤_};
+ghost use Prim.Native.Nat.{_+_};
 ghost use Rattle.probe_text.specs.Places.{EndsFrom};
 
 // The header lines, in 01's order: dim, leaf, min, fraction, degree, bits, final, alpha, ef, cap.
