@@ -11,6 +11,5 @@
 // proofs/Finite      a finite vector, scaled, is finite
 // proofs/Parts       what makes a store well formed, part by part
 // proofs/Sound       what holds between two calls beside the view, and that such stores pass the opening checks
-// proofs/Laid        what a build leaves where the view does not look
 // proofs/Keeping     every call keeps it
 // proofs/Acceptance  the theorem, `accepts`: the claim holds of every list of calls

@@ -8,8 +8,8 @@
 // size are enough, and a call with more changes nothing.
 //
 // `hashprune_insert` is total. That its row is `merged .. (selected ..)` of Rattle.leaf holds where the
-// caller prepared what `Turn` of specs/Hashprune says; `planes-for` of proofs/Planes says that its planes
-// are what `hyperplanes` and `simhash` make. specs/Steps has what the steps say of each other.
+// caller prepared what `Turn` of specs/Hashprune says, planes among it. specs/Steps has what the steps say of
+// each other.
 ghost use mathlib.Core.Path.{_≡_};
 ghost use mathlib.Core.List.{map};
 ghost use Prim.Native.Nat.{_+_, _-_, _≤_, _<_};
