@@ -1,20 +1,25 @@
--- What `root_bits` computes is the root's definition, at binary32. Assumes nothing.
+-- What `root_bits` computes is the root, at binary32: the pattern that it writes has the value that part 2 asks for, and `Roots` leaves one such
+-- value (`only-root`). Assumes nothing.
 use mathlib.Core.Path.{_≡_, refl, sym, ap, _∙_, subst}
 use mathlib.Core.Bool.{false}
 use Prim.Native.Nat.{ℕ, zero, suc, _+_, _-_, _*_, _/_, _%_, _^_, _≤_, _<_}
-use native.Mathlib.Nat.{le-of-eq, le-trans, le-antisymm, lt-of-lt-of-le, lt-irrefl, lt-of-not-le, mul-le-mul, mul-one, zero-mul, mul-assoc, pow-succ', mul-le-mul-right, mul-lt-mul-of-pos-right, mul-div-cancel, mul-pos, mod-eq-of-lt}
+use native.Mathlib.Nat.{le-trans, lt-of-lt-of-le, lt-of-le-of-lt, lt-irrefl, lt-of-not-le, mul-le-mul, mul-one, mul-assoc, mul-le-mul-right, mod-eq-of-lt}
 use native.Mathlib.Decide.{decLe}
 use native.Mathlib.Omega.{arith}
 use borrow.Author.Tests.{eq-eqb, ne-eqb, lt-leb}
 use lib.Dec.{leb}
-use lib.Pow.{pow-pos, pow-add, pow-mono}
-use lib.Ieee.{Float, nan, inf, fin, binary32, size, odd, ofFields, ofBits}
-use lib.Ieee.Digits.{size-lt, size-le}
+use lib.Pow.{pow-pos, pow-add}
+use lib.Ieee.{Float, binary32, odd, ofFields, ofBits}
+use lib.Ieee.Bits.{ofBits-fits}
 use lib.Ieee.Exact.{HasValue, odd-sign}
-use lib.Ieee.Fits.{down-pos}
+use lib.Ieee.Positive.{num, den, den-pos, value→cross, positive-of-value}
 use Rattle.basics.specs.Choice.{pick-true, pick-false}
-use Rattle.root.specs.Root.{isqrt, evenLength, scaled, nearestRoot, rootUnits, rootOf, patternUnits}
+use Rattle.root.specs.Root.{isqrt, nearestRoot, rootOf, patternUnits}
+use Rattle.root.specs.Part2.{IsRoot}
 use Rattle.root.proofs.Floor.{Bounds, isqrt-bounds}
+use Rattle.root.proofs.Units.{from-units, rescaled}
+use Rattle.root.proofs.Words.{nearest, few-digits, roots}
+use Rattle.root.proofs.Unique.{only-root}
 
 -- ---- what a pattern stands for
 
@@ -71,72 +76,6 @@ pattern-value b h = either (decLe (2 ^ 23) b)
     either (yes l) = rw (normal-is b l h, units-normal b (some b l)) (odd-sign 24 false (2 ^ 23 + b % 2 ^ 23) (b / 2 ^ 23 - 1) 149)
     either (no f) = rw (sub-is b (none b f), units-low b (zero-field b (none b f))) (subst (λ (n : ℕ). HasValue (odd 24 false (b % 2 ^ 23) 0 149) false n (2 ^ 149)) (mul-one (b % 2 ^ 23)) (odd-sign 24 false (b % 2 ^ 23) 0 149))
 
--- ---- the root of a value is that of its units
-
-pub units-are : (x : Float) (a : ℕ) → 0 < a → HasValue x false a (2 ^ 149) → rootOf binary32 x ≡ rootUnits binary32 a
-unfolding rootOf
-units-are nan a p v = absurd v
-units-are (inf s) a p v = absurd v
-units-are (fin s zero e) a p v = absurd (lt-irrefl 0 (lt-of-lt-of-le (mul-pos p (down-pos e)) (le-of-eq (sym (v .1) ∙ simp zero-mul))))
-units-are (fin s (suc m) e) a p v = rw (v .0, v .1) (ap (rootUnits binary32) (mul-div-cancel a (down-pos e)))
-
--- ---- the pattern's q and k, and the definition's numbers
-
-size-is : (a q k : ℕ) → q * 2 ^ k ≡ a * 2 ^ 23 → 2 ^ 23 ≤ q → q < 2 ^ 24 → size a ≡ suc k
-size-is a q k e l h = le-antisymm (size-le a (suc k) (subst (λ (n : ℕ). a < n) (sym (pow-succ' 2 k)) above)) (either (decLe (size a) k))
-  where
-    at-least : 2 ^ 23 * 2 ^ k ≤ q * 2 ^ k
-    at-least = mul-le-mul-right (2 ^ k) l
-
-    at-most : q * 2 ^ k < 2 ^ 24 * 2 ^ k
-    at-most = mul-lt-mul-of-pos-right h (pow-pos k)
-
-    low-num : (w p a : ℕ) → 2 ^ 23 * w ≤ p → p ≡ a * 2 ^ 23 → w ≤ a
-    low-num w p a x y = omega arith
-
-    high-num : (w p a : ℕ) → p < 2 ^ 24 * w → p ≡ a * 2 ^ 23 → a < 2 * w
-    high-num w p a x y = omega arith
-
-    above : a < 2 * 2 ^ k
-    above = high-num (2 ^ k) (q * 2 ^ k) a at-most e
-
-    either : Dec (size a ≤ k) → suc k ≤ size a
-    either (yes z) = absurd (lt-irrefl a (lt-of-lt-of-le (size-lt a) (le-trans (pow-mono z) (low-num (2 ^ k) (q * 2 ^ k) a at-least e))))
-    either (no f) = lt-of-not-le f
-
-length-is : (a k : ℕ) → size a ≡ suc k → evenLength binary32 a ≡ suc k + k % 2
-length-is a k e = ap (λ (z : ℕ). z + (z + 149) % 2) e ∙ parity k
-  where
-    parity : (k : ℕ) → suc k + (suc k + 149) % 2 ≡ suc k + k % 2
-    parity k = omega arith
-
-scaled-is : (a q k : ℕ) → q * 2 ^ k ≡ a * 2 ^ 23 → size a ≡ suc k → scaled binary32 a ≡ q * 2 ^ (24 - k % 2)
-scaled-is a q k e z =
-    ap (λ (n : ℕ). a * 2 ^ 48 / 2 ^ n) (length-is a k z)
-    ∙ ap (λ (n : ℕ). n / 2 ^ (suc k + k % 2)) (raised (k % 2) (omega arith))
-    ∙ mul-div-cancel (q * 2 ^ (24 - k % 2)) (pow-pos (suc k + k % 2))
-  where
-    sum : (j : ℕ) → j ≤ 1 → 24 - j + (suc k + j) ≡ k + 25
-    sum j h = omega arith
-
-    raised : (j : ℕ) → j ≤ 1 → a * 2 ^ 48 ≡ q * 2 ^ (24 - j) * 2 ^ (suc k + j)
-    raised j h =
-        sym (mul-assoc a (2 ^ 23) (2 ^ 25)) ∙ ap (λ (n : ℕ). n * 2 ^ 25) (sym e) ∙ mul-assoc q (2 ^ k) (2 ^ 25)
-        ∙ ap (λ (n : ℕ). q * n) (sym (pow-add 2 k 25) ∙ ap (λ (n : ℕ). 2 ^ n) (sym (sum j h)) ∙ pow-add 2 (24 - j) (suc k + j))
-        ∙ sym (mul-assoc q (2 ^ (24 - j)) (2 ^ (suc k + j)))
-
-pub root-units-are : (a q k : ℕ) → q * 2 ^ k ≡ a * 2 ^ 23 → 2 ^ 23 ≤ q → q < 2 ^ 24
-    → rootUnits binary32 a ≡ odd 24 false (nearestRoot (q * 2 ^ (24 - k % 2))) ((k + 1) / 2 + 51) 149
-unfolding rootUnits
-root-units-are a q k e l h =
-    let z = size-is a q k e l h in
-    ap (λ (n : ℕ). odd 24 false (nearestRoot n) ((evenLength binary32 a + 149) / 2 - 24) 149) (scaled-is a q k e z)
-    ∙ ap (λ (n : ℕ). odd 24 false (nearestRoot (q * 2 ^ (24 - k % 2))) ((n + 149) / 2 - 24) 149) (length-is a k z)
-    ∙ ap (λ (n : ℕ). odd 24 false (nearestRoot (q * 2 ^ (24 - k % 2))) n 149) (place k)
-  where
-    place : (k : ℕ) → (suc k + k % 2 + 149) / 2 - 24 ≡ (k + 1) / 2 + 51
-    place k = omega arith
-
 -- ---- the root has 24 digits
 
 pub N-bounds : (q j : ℕ) → 2 ^ 23 ≤ q → q < 2 ^ 24 → j ≤ 1 → (2 ^ 46 ≤ q * 2 ^ (24 - j)) × (q * 2 ^ (24 - j) ≤ (2 ^ 24 - 1) * 2 ^ 24)
@@ -157,18 +96,14 @@ root-ge n g h b = either (decLe (2 ^ 24) g)
     either (yes l) = l
     either (no f) = absurd (lt-irrefl n (lt-of-lt-of-le (b .1) (le-trans (mul-le-mul (next g (lt-of-not-le f)) (next g (lt-of-not-le f))) h)))
 
-root-le : (n g : ℕ) → n < (2 ^ 25 - 1) * (2 ^ 25 - 1) → Bounds n g 1 → g < 2 ^ 25 - 1
-root-le n g h b = either (decLe (2 ^ 25 - 1) g)
-  where
-    either : Dec (2 ^ 25 - 1 ≤ g) → g < 2 ^ 25 - 1
-    either (yes l) = absurd (lt-irrefl n (lt-of-lt-of-le h (le-trans (mul-le-mul l l) (b .0))))
-    either (no f) = lt-of-not-le f
-
 pub m-bounds : (N : ℕ) → 2 ^ 46 ≤ N → N ≤ (2 ^ 24 - 1) * 2 ^ 24 → (2 ^ 23 ≤ nearestRoot N) × (nearestRoot N < 2 ^ 24)
-m-bounds N l h = between (isqrt (4 * N)) (root-ge (4 * N) (isqrt (4 * N)) (omega arith) (isqrt-bounds (4 * N))) (root-le (4 * N) (isqrt (4 * N)) (omega arith) (isqrt-bounds (4 * N)))
+m-bounds N l h = (
+  half (isqrt (4 * N)) (root-ge (4 * N) (isqrt (4 * N)) (omega arith) (isqrt-bounds (4 * N))),
+  few-digits 24 N (nearestRoot N) h (nearest N (omega arith) .0),
+)
   where
-    between : (g : ℕ) → 2 ^ 24 ≤ g → g < 2 ^ 25 - 1 → (2 ^ 23 ≤ (g + 1) / 2) × ((g + 1) / 2 < 2 ^ 24)
-    between g a b = (omega arith, omega arith)
+    half : (g : ℕ) → 2 ^ 24 ≤ g → 2 ^ 23 ≤ (g + 1) / 2
+    half g a = omega arith
 
 -- ---- the pattern that is written
 
@@ -184,14 +119,64 @@ written x m l h p =
     place : (x m : ℕ) → 2 ^ 23 ≤ m → m < 2 ^ 24 → (x * 2 ^ 23 + m) / 2 ^ 23 - 1 ≡ x
     place x m l h = omega arith
 
+-- ---- that pattern's value is part 2's root, and there is one root
+
+-- n is how many smallest values the pattern b stands for, n · 2^23 = q · 2^k; part 2's number is q · 2^(24 − k % 2), and its e is x − 149
+exact : (n q k : ℕ) → q * 2 ^ k ≡ n * 2 ^ 23 → n * 2 ^ 149 ≡ q * 2 ^ (24 - k % 2) * (2 ^ ((k + 1) / 2 + 51) * 2 ^ ((k + 1) / 2 + 51))
+exact n q k e =
+    sym (mul-assoc n (2 ^ 23) (2 ^ 126))
+    ∙ ap (λ (m : ℕ). m * 2 ^ 126) (sym e)
+    ∙ mul-assoc q (2 ^ k) (2 ^ 126)
+    ∙ ap (λ (m : ℕ). q * m) (sym (pow-add 2 k 126) ∙ ap (λ (m : ℕ). 2 ^ m) (sum k) ∙ pow-add 2 (24 - k % 2) (x + x) ∙ ap (λ (m : ℕ). 2 ^ (24 - k % 2) * m) (pow-add 2 x x))
+    ∙ sym (mul-assoc q (2 ^ (24 - k % 2)) (2 ^ x * 2 ^ x))
+  where
+    x : ℕ
+    x = (k + 1) / 2 + 51
+
+    sum : (k : ℕ) → k + 126 ≡ 24 - k % 2 + ((k + 1) / 2 + 51 + ((k + 1) / 2 + 51))
+    sum k = omega arith
+
 pub root-law : (b q k : ℕ) → b < 0x7f80_0000 → q * 2 ^ k ≡ patternUnits b * 2 ^ 23 → 2 ^ 23 ≤ q → q < 2 ^ 24 → k ≤ 276
     → ofBits binary32 (((k + 1) / 2 + 51) * 2 ^ 23 + nearestRoot (q * 2 ^ (24 - k % 2))) ≡ rootOf binary32 (ofBits binary32 b)
 root-law b q k h e l u p =
-    let n = N-bounds q (k % 2) l u (omega arith) in
-    let m = m-bounds (q * 2 ^ (24 - k % 2)) (n .0) (n .1) in
-    written ((k + 1) / 2 + 51) (nearestRoot (q * 2 ^ (24 - k % 2))) (m .0) (m .1) (omega arith)
-    ∙ sym (root-units-are (patternUnits b) q k e l u)
-    ∙ sym (units-are (ofBits binary32 b) (patternUnits b) (some (2 ^ k) (q * 2 ^ k) (patternUnits b) (pow-pos k) (mul-le-mul-right (2 ^ k) l) e) (pattern-value b h))
+    only-root binary32 (num s) (den s) r (rootOf binary32 s)
+    (rescaled binary32 n (2 ^ 149) (num s) (den s) r (pow-pos 149) (den-pos s) (sym (value→cross s n (2 ^ 149) (pattern-value b h))) in-units)
+    (roots binary32 .of-positive s (ofBits-fits binary32 b) (positive-of-value s n (2 ^ 149) (pattern-value b h) some))
   where
-    some : (w p a : ℕ) → 0 < w → 2 ^ 23 * w ≤ p → p ≡ a * 2 ^ 23 → 0 < a
-    some w p a x y z = omega arith
+    s : Float
+    s = ofBits binary32 b
+
+    n : ℕ
+    n = patternUnits b
+
+    N : ℕ
+    N = q * 2 ^ (24 - k % 2)
+
+    m : ℕ
+    m = nearestRoot N
+
+    x : ℕ
+    x = (k + 1) / 2 + 51
+
+    r : Float
+    r = ofBits binary32 (x * 2 ^ 23 + m)
+
+    some : 0 < n
+    some = least (2 ^ k) (q * 2 ^ k) n (pow-pos k) (mul-le-mul-right (2 ^ k) l) e
+      where
+        least : (w p a : ℕ) → 0 < w → 2 ^ 23 * w ≤ p → p ≡ a * 2 ^ 23 → 0 < a
+        least w p a x y z = omega arith
+
+    digits : (2 ^ 46 ≤ N) × (N ≤ (2 ^ 24 - 1) * 2 ^ 24)
+    digits = N-bounds q (k % 2) l u (omega arith)
+
+    words : ((2 * m - 1) * (2 * m - 1) < 4 * N) × (4 * N < (2 * m + 1) * (2 * m + 1))
+    words = nearest N (lt-of-lt-of-le (pow-pos 46) (digits .0))
+
+    value : HasValue r false (m * 2 ^ x) (2 ^ 149)
+    value =
+        let w = m-bounds N (digits .0) (digits .1) in
+        subst (λ (y : Float). HasValue y false (m * 2 ^ x) (2 ^ 149)) (sym (written x m (w .0) (w .1) (omega arith))) (odd-sign 24 false m x 149)
+
+    in-units : IsRoot binary32 n (2 ^ 149) r
+    in-units = from-units binary32 n x N m r (exact n q k e) (digits .0) (lt-of-le-of-lt (digits .1) (omega arith)) (words .0) (words .1) value (ofBits-fits binary32 (x * 2 ^ 23 + m))

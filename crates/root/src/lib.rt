@@ -4,7 +4,8 @@
 // value above zero is q · 2^k with q of 24 binary digits; q is shifted so that k becomes even, the
 // whole root of four times that number is taken digit by digit, and half of it, rounded, is the
 // significand. No tie can occur, since an odd square is no multiple of four. `sqrt` equals `rootOf` of
-// specs/Root for every f32; that `rootOf` is part 2's root is shown for any format in proofs/Words.
+// specs/Root for every f32. specs/Part2 states part 2's words over any format: `roots` (proofs/Words) proves
+// that `rootOf` is that root, and the code is proved by it, since there is only one (`only-root`).
 ghost use mathlib.Core.Path.{_≡_};
 ghost use Prim.Native.Nat.{_*_, _^_, _≤_, _<_};
 ghost use lib.Ieee.{binary32, ofBits};
