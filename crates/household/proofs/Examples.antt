@@ -5,7 +5,6 @@ use Prim.Native.Nat.{ℕ}
 use lib.ListN.{replicate}
 use Rattle.basics.specs.Choice.{pick}
 use Rattle.basics.specs.Nodes.{has}
-use Rattle.household.specs.declared.Household.the-variants.{Refused, Phones}
 use Rattle.household.specs.Day.{dayOf}
 use Rattle.household.specs.Household.{docsOn, different, householdOf}
 
@@ -25,31 +24,31 @@ seconds = 0 ∷ 100 ∷ 86399 ∷ 86400 ∷ 90000 ∷ []
 abbrev docs : List ℕ
 docs = 7 ∷ 8 ∷ 7 ∷ 7 ∷ 9 ∷ []
 
-day-0 : householdOf 0 seconds docs ≡ Phones 2
+day-0 : householdOf 0 seconds docs ≡ (0, 2 ∷ [])
 unfolding householdOf docsOn different dayOf has pick
 day-0 = refl
 
-day-1 : householdOf 1 seconds docs ≡ Phones 2
+day-1 : householdOf 1 seconds docs ≡ (0, 2 ∷ [])
 unfolding householdOf docsOn different dayOf has pick
 day-1 = refl
 
-day-2 : householdOf 2 seconds docs ≡ Phones 0
+day-2 : householdOf 2 seconds docs ≡ (0, 0 ∷ [])
 unfolding householdOf docsOn different dayOf has pick
 day-2 = refl
 
-no-sightings : householdOf 0 [] [] ≡ Phones 0
+no-sightings : householdOf 0 [] [] ≡ (0, 0 ∷ [])
 unfolding householdOf docsOn different dayOf has pick
 no-sightings = refl
 
-unequal : householdOf 0 seconds [] ≡ Refused 14
+unequal : householdOf 0 seconds [] ≡ (14, [])
 unfolding householdOf pick
 unequal = refl
 
 -- 512 sightings are taken, 513 are not
-most : householdOf 0 (replicate 512 60) (replicate 512 7) ≡ Phones 1
+most : householdOf 0 (replicate 512 60) (replicate 512 7) ≡ (0, 1 ∷ [])
 unfolding householdOf docsOn different dayOf has pick
 most = refl
 
-too-many : householdOf 0 (replicate 513 60) (replicate 513 7) ≡ Refused 14
+too-many : householdOf 0 (replicate 513 60) (replicate 513 7) ≡ (14, [])
 unfolding householdOf pick
 too-many = refl

@@ -28,6 +28,19 @@ different (x ∷ xs) = pick (has x xs) (different xs) (x ∷ different xs)
 abbrev pub turnedBack : List ℕ → List ℕ → Bool
 turnedBack seconds docs = ltb 512 (length seconds) || not (eqb (length seconds) (length docs))
 
-unfoldable pub householdOf : ℕ → List ℕ → List ℕ → Household
+-- ---- 01's number and values
+
+-- a number, 0 for success, and the values that come with it
+abbrev pub Values : Type 0
+Values = ℕ × List ℕ
+
+-- the cases of the code's enum: a refusal has nothing but its number, success how many phones
+unfoldable pub householdValues : Household → Values
+householdValues (Refused number) = (number, [])
+householdValues (Phones phones) = (0, phones ∷ [])
+
+-- ---- the count
+
+unfoldable pub householdOf : ℕ → List ℕ → List ℕ → Values
 unfolding pick docsOn different
-householdOf day seconds docs = pick (turnedBack seconds docs) (Refused 14) (Phones (length (different (docsOn day seconds docs))))
+householdOf day seconds docs = pick {X = Values} (turnedBack seconds docs) (14, []) (0, length (different (docsOn day seconds docs)) ∷ [])

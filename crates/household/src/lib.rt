@@ -10,7 +10,7 @@ ghost use Prim.Native.Nat.{_≤_};
 ghost use lib.ListN.{length, take};
 ghost use Rattle.basics.specs.Nodes.{has};
 ghost use Rattle.household.specs.Day.{dayOf};
-ghost use Rattle.household.specs.Household.{docsOn, different, householdOf};
+ghost use Rattle.household.specs.Household.{docsOn, different, householdValues, householdOf};
 
 // How many sightings a call may have.
 pub const MOST_SIGHTINGS: usize = 512;
@@ -22,7 +22,7 @@ pub enum Household {
 }
 
 pub fn household_count(day: u64, seconds: &[u64], docs: &[u32]) -> Household
-    ensures { λ r. ⌜ r ≡ householdOf day (now (seconds .entry)) (now (docs .entry)) ⌝ }
+    ensures { λ r. ⌜ householdValues r ≡ householdOf day (now (seconds .entry)) (now (docs .entry)) ⌝ }
 {
     if (seconds.len() > MOST_SIGHTINGS) | (seconds.len() != docs.len()) {
         return Household::Refused(14);

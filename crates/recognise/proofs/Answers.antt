@@ -19,9 +19,7 @@ use Rattle.store.specs.View.{view}
 use Rattle.store.specs.Opening.{opening}
 use Rattle.store.proofs.Opened.{opening-numbered}
 use Rattle.calls.specs.Search.{askingChecks, ownSearchChecks, searchChecks, farIn, foundIn, Reply, refused, replyOf, searchWithEfSpec}
-use Rattle.score.specs.declared.Recognised.{Recognised}
-use Rattle.score.specs.declared.Recognised.the-variants.{New, Refused}
-use Rattle.score.specs.Recognised.{recognisedAs}
+use Rattle.score.specs.Recognised.{Values, newAs, refusedAs, recognisedAs}
 use Rattle.recognise.specs.Recognise.{recogniseChecks, nearestOf, docIn, recogniseSpec}
 
 -- ---- a check at the end of a list
@@ -48,7 +46,7 @@ module _ (ws fs : ℕ) (w : List ℕ) (f query : List Float) (ef : ℕ) (limit :
   abbrev refusal : ℕ
   refusal = firstRefusal (recogniseChecks ws fs w f query ef limit)
 
-  abbrev answer : Recognised
+  abbrev answer : Values
   answer = nearestOf (docIn (view w f)) (farIn (view w f) query) limit (foundIn (view w f) query 1 ef)
 
   checks-are : recogniseChecks ws fs w f query ef limit ≡ asked ++ (limitCheck ∷ [])
@@ -66,13 +64,13 @@ module _ (ws fs : ℕ) (w : List ℕ) (f query : List Float) (ef : ℕ) (limit :
       then-second first (askingChecks w query 1 ef ++ (limitCheck ∷ [])) (opening-numbered (Scratch ws fs) w f) (lists .0)
       ∙ then-second (askingChecks w query 1 ef) (limitCheck ∷ []) (omega arith) (lists .1)
 
-  turned-with : (number : ℕ) → refusal ≡ number → (number ≡ 0 → ⊥) → Refused number ≡ recogniseSpec ws fs w f query ef limit
+  turned-with : (number : ℕ) → refusal ≡ number → (number ≡ 0 → ⊥) → refusedAs number ≡ recogniseSpec ws fs w f query ef limit
   unfolding recogniseSpec
-  turned-with number e n = ap (λ (m : ℕ). Refused m) (sym e) ∙ sym (pick-false answer (Refused refusal) (ne-eqb refusal 0 (λ z. n (sym e ∙ z))))
+  turned-with number e n = ap (λ (m : ℕ). refusedAs m) (sym e) ∙ sym (pick-false {X = Values} answer (refusedAs refusal) (ne-eqb refusal 0 (λ z. n (sym e ∙ z))))
 
   answered : refusal ≡ 0 → answer ≡ recogniseSpec ws fs w f query ef limit
   unfolding recogniseSpec
-  answered e = sym (pick-true answer (Refused refusal) (eq-eqb refusal 0 e))
+  answered e = sym (pick-true {X = Values} answer (refusedAs refusal) (eq-eqb refusal 0 e))
 
   limit-passed : firstRefusal asked ≡ 0 → finite limit ≡ true → refusal ≡ 0
   unfolding firstRefusal
@@ -115,10 +113,10 @@ module _ (ws fs : ℕ) (w : List ℕ) (f query : List Float) (ef : ℕ) (limit :
       numbered : left .number ≡ firstRefusal asked
       numbered = ap (λ (r : Reply). r .number) same ∙ searched-number
 
-      pub search-refused : (left .number ≡ 0 → ⊥) → Refused (left .number) ≡ recogniseSpec ws fs w f query ef limit
+      pub search-refused : (left .number ≡ 0 → ⊥) → refusedAs (left .number) ≡ recogniseSpec ws fs w f query ef limit
       search-refused n = turned-with (left .number) (asked-first (λ e. n (numbered ∙ e)) ∙ sym numbered) n
 
-      pub limit-refused : left .number ≡ 0 → finite limit ≡ false → Refused 13 ≡ recogniseSpec ws fs w f query ef limit
+      pub limit-refused : left .number ≡ 0 → finite limit ≡ false → refusedAs 13 ≡ recogniseSpec ws fs w f query ef limit
       limit-refused e h = turned-with 13 (limit-failed (sym numbered ∙ e) h) (λ z. omega arith)
 
       module _ (e : left .number ≡ 0) (h : finite limit ≡ true) where
@@ -128,7 +126,7 @@ module _ (ws fs : ℕ) (w : List ℕ) (f query : List Float) (ef : ℕ) (limit :
         done : answer ≡ recogniseSpec ws fs w f query ef limit
         done = answered (limit-passed (sym numbered ∙ e) h)
 
-        pub found-none : left .count ≡ 0 → New 0 ≡ recogniseSpec ws fs w f query ef limit
+        pub found-none : left .count ≡ 0 → newAs 0 ≡ recogniseSpec ws fs w f query ef limit
         unfolding replyOf
         found-none z = sym (ap (nearestOf (docIn (view w f)) (farIn (view w f) query) limit) (empty (foundIn (view w f) query 1 ef) (sym (ap (λ (r : Reply). r .count) left-is) ∙ z))) ∙ done
           where
@@ -136,15 +134,15 @@ module _ (ws fs : ℕ) (w : List ℕ) (f query : List Float) (ef : ℕ) (limit :
             empty [] z = refl
             empty (x ∷ l) z = absurd (omega arith)
 
-        pub found-one : (left .count ≡ 0 → ⊥) → recognisedAs (record { 0 = getD (left .docs) 0 0 }) (getD (left .distances) 0 nan) limit ≡ recogniseSpec ws fs w f query ef limit
+        pub found-one : (left .count ≡ 0 → ⊥) → recognisedAs (getD (left .docs) 0 0) (getD (left .distances) 0 nan) limit ≡ recogniseSpec ws fs w f query ef limit
         unfolding replyOf
         found-one n =
-            ap₂ (λ (doc : ℕ) (d : Float). recognisedAs (record { 0 = doc }) d limit) (ap (λ (r : Reply). getD (r .docs) 0 0) left-is) (ap (λ (r : Reply). getD (r .distances) 0 nan) left-is)
+            ap₂ (λ (doc : ℕ) (d : Float). recognisedAs doc d limit) (ap (λ (r : Reply). getD (r .docs) 0 0) left-is) (ap (λ (r : Reply). getD (r .distances) 0 nan) left-is)
             ∙ first-is (foundIn (view w f) query 1 ef) (λ z. n (ap (λ (r : Reply). r .count) left-is ∙ z))
             ∙ done
           where
             first-is : (l : List ℕ) → (length l ≡ 0 → ⊥)
-                → recognisedAs (record { 0 = getD (map (λ i. getD (view w f .docs) i 0) l ++ drop (length l) docs) 0 0 }) (getD (map (farIn (view w f) query) l ++ drop (length l) distances) 0 nan) limit
+                → recognisedAs (getD (map (λ i. getD (view w f .docs) i 0) l ++ drop (length l) docs) 0 0) (getD (map (farIn (view w f) query) l ++ drop (length l) distances) 0 nan) limit
                 ≡ nearestOf (docIn (view w f)) (farIn (view w f) query) limit l
             first-is [] n = absurd (n refl)
             first-is (x ∷ l) n = refl

@@ -8,24 +8,24 @@ use Rattle.pipnn.specs.New.{newSpec}
 use Rattle.pipnn.specs.Add.{addSpec}
 use Rattle.calls.specs.Build.{buildSpec}
 use Rattle.calls.specs.Example.{minusOne, added, built}
-use Rattle.score.specs.declared.Recognised.the-variants.{Known, New, Refused}
+use Rattle.score.specs.Recognised.{knownAs, newAs, refusedAs}
 use Rattle.recognise.specs.Recognise.{recogniseSpec}
 
 -- at the limit itself
-itself : recogniseSpec 512 384 (built .1) (built .2) (+one ∷ +zero ∷ []) 3 +zero ≡ Known (record { 0 = 10 }) 100
+itself : recogniseSpec 512 384 (built .1) (built .2) (+one ∷ +zero ∷ []) 3 +zero ≡ knownAs 10 100
 unfolding recogniseSpec newSpec addSpec buildSpec ofBits toBits add sub mul div lt le eq isNan ofInt toUnsigned round
 itself = refl
 
 -- across from the second phone the two others are nearest, at distance 1
-nobody : recogniseSpec 512 384 (built .1) (built .2) (+zero ∷ minusOne ∷ []) 3 +zero ≡ New 0
+nobody : recogniseSpec 512 384 (built .1) (built .2) (+zero ∷ minusOne ∷ []) 3 +zero ≡ newAs 0
 unfolding recogniseSpec newSpec addSpec buildSpec ofBits toBits add sub mul div lt le eq isNan ofInt toUnsigned round
 nobody = refl
 
 -- 13 comes last: after 10, of an open store
-no-limit : recogniseSpec 512 384 (built .1) (built .2) (+one ∷ +zero ∷ []) 3 (inf false) ≡ Refused 13
+no-limit : recogniseSpec 512 384 (built .1) (built .2) (+one ∷ +zero ∷ []) 3 (inf false) ≡ refusedAs 13
 unfolding recogniseSpec newSpec addSpec buildSpec ofBits toBits add sub mul div lt le eq isNan ofInt toUnsigned round
 no-limit = refl
 
-open-first : recogniseSpec 512 384 (added .1) (added .2) (+one ∷ []) 1025 (inf false) ≡ Refused 10
+open-first : recogniseSpec 512 384 (added .1) (added .2) (+one ∷ []) 1025 (inf false) ≡ refusedAs 10
 unfolding recogniseSpec newSpec addSpec ofBits toBits add sub mul div lt le eq isNan round
 open-first = refl

@@ -15,7 +15,6 @@ use borrow.Author.Tests.{eqb-true, not-false}
 use Rattle.basics.specs.Choice.{pick-ind}
 use Rattle.basics.specs.Refusals.{Check, check, firstRefusal}
 use Rattle.basics.proofs.Refusals.{passes, both-none}
-use Rattle.ids.specs.declared.DocId.{DocId}
 use Rattle.sorting.specs.Sorting.{sortBy}
 use Rattle.sorting.proofs.Laws.{length-sort}
 use Rattle.store.specs.declared.Lent.the-variants.{Scratch}
@@ -29,24 +28,23 @@ use Rattle.beam.specs.Beam.{placesFor, walked, beamSearch, answerOf}
 use Rattle.beam.proofs.Laws.{ended}
 use Rattle.calls.specs.Search.{askingChecks, farIn, scoredIn, foundIn}
 use Rattle.search.proofs.Inside.{lists-inside}
-use Rattle.score.specs.declared.Recognised.{Recognised}
-use Rattle.score.specs.Recognised.{recognisedAs, numberOf}
+use Rattle.score.specs.Recognised.{Values, recognisedAs}
 use Rattle.recognise.specs.Recognise.{recogniseChecks, nearestOf, docIn, recogniseSpec}
 
-decided : (doc : DocId) (d limit : Float) → numberOf (recognisedAs doc d limit) ≡ 0
+decided : (doc : ℕ) (d limit : Float) → recognisedAs doc d limit .0 ≡ 0
 unfolding recognisedAs
-decided doc d limit = pick-ind (λ (r : Recognised). numberOf r ≡ 0) (le d limit) (λ _. refl) (λ _. refl)
+decided doc d limit = pick-ind (λ (r : Values). r .0 ≡ 0) (le d limit) (λ _. refl) (λ _. refl)
 
-nearest : (doc : ℕ → DocId) (far : ℕ → Float) (limit : Float) (found : List ℕ) → numberOf (nearestOf doc far limit found) ≡ 0
+nearest : (doc : ℕ → ℕ) (far : ℕ → Float) (limit : Float) (found : List ℕ) → nearestOf doc far limit found .0 ≡ 0
 nearest doc far limit [] = refl
 nearest doc far limit (node ∷ _) = decided (doc node) (far node) limit
 
 pub number-is : (ws fs : ℕ) (w : List ℕ) (f query : List Float) (ef : ℕ) (limit : Float)
-    → numberOf (recogniseSpec ws fs w f query ef limit) ≡ firstRefusal (recogniseChecks ws fs w f query ef limit)
+    → recogniseSpec ws fs w f query ef limit .0 ≡ firstRefusal (recogniseChecks ws fs w f query ef limit)
 unfolding recogniseSpec
 number-is ws fs w f query ef limit =
     let refusal : ℕ = firstRefusal (recogniseChecks ws fs w f query ef limit) in
-    pick-ind (λ (r : Recognised). numberOf r ≡ refusal) (eqb refusal 0) (λ t. nearest (docIn (view w f)) (farIn (view w f) query) limit (foundIn (view w f) query 1 ef) ∙ sym (eqb→eq refusal 0 t)) (λ _. refl)
+    pick-ind (λ (r : Values). r .0 ≡ refusal) (eqb refusal 0) (λ t. nearest (docIn (view w f)) (farIn (view w f) query) limit (foundIn (view w f) query 1 ef) ∙ sym (eqb→eq refusal 0 t)) (λ _. refl)
 
 -- ---- a call that is not turned back has one node to go by: the entry node is always scored
 

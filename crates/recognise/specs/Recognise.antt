@@ -1,5 +1,6 @@
 -- Recognising as one call (01, "Recognising" and "Turned back"): a search with k = 1 and the caller's ef; the node that it gives is Known if its
--- distance is at most the limit, else New, each with that distance's score. The stores stay as they are.
+-- distance is at most the limit, else New, each with that distance's score. The stores stay as they are. What is answered are 01's number and values
+-- (score/Recognised); a refusal has only its number.
 use mathlib.Core.Bool.{not}
 use mathlib.Core.List.{List, [], _∷_, _++_}
 use Prim.Native.Nat.{ℕ}
@@ -9,14 +10,11 @@ use lib.Ieee.{Float}
 use lib.Ieee.Scale.{finite}
 use Rattle.basics.specs.Choice.{pick}
 use Rattle.basics.specs.Refusals.{Check, check, firstRefusal}
-use Rattle.ids.specs.declared.DocId.{DocId}
 use Rattle.store.specs.declared.Lent.the-variants.{Scratch}
 use Rattle.store.specs.View.{View, view}
 use Rattle.store.specs.Opening.{opening}
 use Rattle.calls.specs.Search.{askingChecks, farIn, foundIn}
-use Rattle.score.specs.declared.Recognised.{Recognised}
-use Rattle.score.specs.declared.Recognised.the-variants.{New, Refused}
-use Rattle.score.specs.Recognised.{recognisedAs}
+use Rattle.score.specs.Recognised.{Values, newAs, refusedAs, recognisedAs}
 
 -- ---- its checks: search's except 12, then 13 for a limit that is not finite
 
@@ -28,19 +26,19 @@ recogniseChecks ws fs w f query ef limit = opening (Scratch ws fs) w f ++ (askin
 -- ---- what it answers
 
 -- by the nodes that a search gives, nearest first. With none it is New with score 0; today there is always one (`one-found` of proofs/Laws).
-abbrev pub nearestOf : (ℕ → DocId) → (ℕ → Float) → Float → List ℕ → Recognised
-nearestOf doc far limit [] = New 0
+abbrev pub nearestOf : (ℕ → ℕ) → (ℕ → Float) → Float → List ℕ → Values
+nearestOf doc far limit [] = newAs 0
 nearestOf doc far limit (node ∷ _) = recognisedAs (doc node) (far node) limit
 
 -- the doc id of a node
-abbrev pub docIn : View → ℕ → DocId
-docIn v node = record { 0 = getD (v .docs) node 0 }
+abbrev pub docIn : View → ℕ → ℕ
+docIn v node = getD (v .docs) node 0
 
 -- ---- the call
 
-unfoldable pub recogniseSpec : (ws fs : ℕ) → List ℕ → List Float → List Float → ℕ → Float → Recognised
+unfoldable pub recogniseSpec : (ws fs : ℕ) → List ℕ → List Float → List Float → ℕ → Float → Values
 unfolding pick firstRefusal recogniseChecks recognisedAs view farIn foundIn
 recogniseSpec ws fs w f query ef limit =
     let refusal : ℕ = firstRefusal (recogniseChecks ws fs w f query ef limit) in
     let v : View = view w f in
-    pick (eqb refusal 0) (nearestOf (docIn v) (farIn v query) limit (foundIn v query 1 ef)) (Refused refusal)
+    pick {X = Values} (eqb refusal 0) (nearestOf (docIn v) (farIn v query) limit (foundIn v query 1 ef)) (refusedAs refusal)

@@ -14,6 +14,7 @@
 // It leans on `search` for the checks and the walk, on `score` for the answer at a distance.
 ghost use mathlib.Core.Path.{_≡_};
 ghost use lib.ListN.{length};
+ghost use Rattle.score.specs.Recognised.{recognisedValues};
 ghost use Rattle.recognise.specs.Recognise.{recogniseSpec};
 use ids::DocId;
 use score::Recognised;
@@ -27,7 +28,7 @@ pub fn recognise(
     scratch_words: &mut [u32],
     scratch_floats: &mut [f32],
 ) -> Recognised
-    ensures { λ r. ⌜ r ≡ recogniseSpec (length (now («scratch_words» .entry))) (length (now («scratch_floats» .entry))) (now (words .entry)) (now (floats .entry)) (now (query .entry)) ef limit ⌝ }
+    ensures { λ r. ⌜ recognisedValues r ≡ recogniseSpec (length (now («scratch_words» .entry))) (length (now («scratch_floats» .entry))) (now (words .entry)) (now (floats .entry)) (now (query .entry)) ef limit ⌝ }
 {
     let mut doc = [0u32; 1];
     let mut distance = [0.0f32; 1];

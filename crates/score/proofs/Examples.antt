@@ -3,10 +3,8 @@ use mathlib.Core.Path.{_≡_, refl}
 use mathlib.Core.Bool.{true, false}
 use lib.Ieee.{Float, nan, inf, binary32, lt, eq, le, ofBits}
 use Rattle.basics.specs.Choice.{pick}
-use Rattle.ids.specs.declared.DocId.{DocId}
-use Rattle.score.specs.declared.Recognised.the-variants.{Known, New}
 use Rattle.score.specs.Score.{scoreOf}
-use Rattle.score.specs.Recognised.{recognisedAs}
+use Rattle.score.specs.Recognised.{knownAs, newAs, recognisedAs}
 
 -- 0.375
 three-eighths : scoreOf (ofBits binary32 0x3ec0_0000) ≡ 62
@@ -66,24 +64,21 @@ no-number = refl
 
 -- ---- a phone with doc id 7, its nearest at 0.125 or 0.375
 
-abbrev seven : DocId
-seven = record { 0 = 7 }
-
 abbrev near : Float
 near = ofBits binary32 0x3e00_0000
 
 abbrev far : Float
 far = ofBits binary32 0x3ec0_0000
 
-at-the-limit : recognisedAs seven near near ≡ Known seven 87
+at-the-limit : recognisedAs 7 near near ≡ knownAs 7 87
 unfolding recognisedAs scoreOf pick ofBits le lt eq
 at-the-limit = refl
 
-beyond-the-limit : recognisedAs seven far near ≡ New 62
+beyond-the-limit : recognisedAs 7 far near ≡ newAs 62
 unfolding recognisedAs scoreOf pick ofBits le lt eq
 beyond-the-limit = refl
 
 -- whatever the limit, +infinity too
-no-number-is-new : (limit : Float) → recognisedAs seven nan limit ≡ New 0
+no-number-is-new : (limit : Float) → recognisedAs 7 nan limit ≡ newAs 0
 unfolding recognisedAs scoreOf pick le lt eq
 no-number-is-new limit = refl

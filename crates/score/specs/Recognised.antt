@@ -1,19 +1,40 @@
 -- What recognising answers (01, "Recognising"): Known with the doc id if the distance d is at most the limit, else New, each with d's score. The
 -- two are compared as numbers, so −0 is 0, and a NaN is at most nothing: it gives New with score 0.
+--
+-- The code returns an enum. What each of its cases stands for is `recognisedValues`: 01's number, then the values that come with it. The definitions
+-- of recognising speak of these alone.
+use mathlib.Core.List.{List, [], _∷_}
 use Prim.Native.Nat.{ℕ}
 use lib.Ieee.{Float, le}
 use Rattle.basics.specs.Choice.{pick}
-use Rattle.ids.specs.declared.DocId.{DocId}
 use Rattle.score.specs.declared.Recognised.{Recognised}
 use Rattle.score.specs.declared.Recognised.the-variants.{Known, New, Refused}
 use Rattle.score.specs.Score.{scoreOf}
 
-unfoldable pub recognisedAs : DocId → Float → Float → Recognised
-unfolding pick scoreOf
-recognisedAs doc d limit = pick (le d limit) (Known doc (scoreOf d)) (New (scoreOf d))
+-- ---- 01's numbers and values
 
--- the number that an answer returns: 0 is success, a refusal gives only its number
-abbrev pub numberOf : Recognised → ℕ
-numberOf (Known doc score) = 0
-numberOf (New score) = 0
-numberOf (Refused number) = number
+-- a number, 0 for success, and the values that come with it
+abbrev pub Values : Type 0
+Values = ℕ × List ℕ
+
+-- Known has a doc id and a score, New a score, a refusal nothing but its number
+abbrev pub knownAs : (doc score : ℕ) → Values
+knownAs doc score = (0, doc ∷ score ∷ [])
+
+abbrev pub newAs : (score : ℕ) → Values
+newAs score = (0, score ∷ [])
+
+abbrev pub refusedAs : (number : ℕ) → Values
+refusedAs number = (number, [])
+
+-- the cases of the code's enum
+unfoldable pub recognisedValues : Recognised → Values
+recognisedValues (Known doc score) = knownAs (doc .0) score
+recognisedValues (New score) = newAs score
+recognisedValues (Refused number) = refusedAs number
+
+-- ---- Known or New
+
+unfoldable pub recognisedAs : (doc : ℕ) (d limit : Float) → Values
+unfolding pick scoreOf
+recognisedAs doc d limit = pick {X = Values} (le d limit) (knownAs doc (scoreOf d)) (newAs (scoreOf d))

@@ -9,7 +9,7 @@ ghost use mathlib.Core.Path.{_≡_};
 ghost use Prim.Native.Nat.{_<_};
 ghost use lib.Ieee.{binary32, ofBits};
 ghost use Rattle.score.specs.Score.{scoreOf};
-ghost use Rattle.score.specs.Recognised.{recognisedAs};
+ghost use Rattle.score.specs.Recognised.{recognisedValues, recognisedAs};
 use ids::DocId;
 
 // At zero and below all of the score, from 1 up none; a NaN scores 0.
@@ -54,7 +54,7 @@ pub enum Recognised {
 // The answer where `doc` stands at distance d, which is Known or New. A NaN is at most nothing, so it gives
 // New with score 0.
 pub fn decide(doc: DocId, d: f32, limit: f32) -> Recognised
-    ensures { λ r. ⌜ r ≡ recognisedAs doc d limit ⌝ }
+    ensures { λ r. ⌜ recognisedValues r ≡ recognisedAs (doc .0) d limit ⌝ }
 {
     let sure = score(d);
     if d <= limit {

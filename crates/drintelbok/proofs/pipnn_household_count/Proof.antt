@@ -1,5 +1,6 @@
 -- The struct is the answer, case by case. Assumes nothing.
 use mathlib.Core.Path.{sym, ap, _∙_}
+use Rattle.household.specs.Household.{householdValues}
 use Rattle.drintelbok.specs.Given.{countedAs}
 use borrow.Author.Needs.{needs}
 use Rattle.drintelbok.proofs.pipnn_household_count.Statement.{statement}
@@ -15,12 +16,12 @@ enum-known-counted-2 : tie.Need-enum-known-counted-2
 enum-known-counted-2 c = search needs
 
 returns : tie.Need-returns
-unfolding countedAs
-returns c = ap countedAs (sym (c .before .counted .given .1) ∙ c .before .before .before .household-count .ensures)
+unfolding countedAs householdValues
+returns c = ap countedAs (ap householdValues (sym (c .before .counted .given .1)) ∙ c .before .before .before .household-count .ensures)
 
 returns-2 : tie.Need-returns-2
-unfolding countedAs
-returns-2 c = ap countedAs (sym (c .before .counted2 .given .1) ∙ c .before .before .before .household-count .ensures)
+unfolding countedAs householdValues
+returns-2 c = ap countedAs (ap householdValues (sym (c .before .counted2 .given .1)) ∙ c .before .before .before .household-count .ensures)
 
 pub pipnn-household-count-spec : {M : Type 1} → statement M
 pipnn-household-count-spec =

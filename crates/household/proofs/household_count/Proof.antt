@@ -3,20 +3,19 @@
 use native.Mathlib.Omega.{arith}
 use borrow.Author.Needs.{needs}
 use mathlib.Core.Path.{sym, ap, _∙_}
-use mathlib.Core.List.{List}
+use mathlib.Core.List.{List, [], _∷_}
 use Prim.Native.Nat.{ℕ}
 use lib.ListN.{length, take}
 use lib.Seq.{length-take-le}
 use Rattle.basics.specs.Choice.{pick-true, pick-false}
-use Rattle.household.specs.declared.Household.the-variants.{Phones}
-use Rattle.household.specs.Household.{different, householdOf}
+use Rattle.household.specs.Household.{different, Values, householdValues, householdOf}
 use Rattle.household.proofs.Laws.{accepted, different-short}
 use Rattle.household.proofs.household_count.Statement.{statement}
 use Rattle.household.proofs.household_count.Tie as tie
 
 returns : tie.Need-returns
-unfolding householdOf
-returns c = sym (pick-true _ _ (c .if1 .taken))
+unfolding householdValues householdOf
+returns c = sym (pick-true {X = Values} _ _ (c .if1 .taken))
 
 slice-aggregate-gather : tie.Need-slice-aggregate-gather
 slice-aggregate-gather c = search needs
@@ -52,10 +51,10 @@ cast-t16 c =
     omega (arith, c .count-different .ensures, g .1)
 
 returns-2 : tie.Need-returns-2
-unfolding householdOf
+unfolding householdValues householdOf
 returns-2 c =
-    ap (λ (n : ℕ). Phones n) (c .count-different .ensures ∙ ap (λ (l : List ℕ). length (different l)) (c .before .before .before .gather .ensures .0))
-    ∙ sym (pick-false _ _ (c .before .before .before .before .before .if1 .left))
+    ap {B = Values} (λ (n : ℕ). (0, n ∷ [])) (c .count-different .ensures ∙ ap (λ (l : List ℕ). length (different l)) (c .before .before .before .gather .ensures .0))
+    ∙ sym (pick-false {X = Values} _ _ (c .before .before .before .before .before .if1 .left))
 
 pub household-count-spec : {M : Type 1} → statement M
 household-count-spec =

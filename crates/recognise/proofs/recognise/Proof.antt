@@ -1,6 +1,7 @@
 -- Each return is one of the four answers of proofs/Answers, by what the search has left. Assumes nothing.
 use mathlib.Core.Path.{refl, sym, _∙_}
 use borrow.Author.Tests.{not-true, not-false}
+use Rattle.score.specs.Recognised.{recognisedValues}
 use Rattle.recognise.proofs.Answers.{search-refused, limit-refused, found-none, found-one}
 use borrow.Author.Needs.{needs}
 use Rattle.recognise.proofs.recognise.Statement.{statement}
@@ -22,6 +23,7 @@ same-length-2 : tie.Need-same-length-2
 same-length-2 c = search needs
 
 returns : tie.Need-returns
+unfolding recognisedValues
 returns c =
     let a = c .before .before .before .before .before .before .before .before .before .before .before .before .before .before .before .before .before .before .args in
     search-refused _ _ (a .words .now) (a .floats .now) (a .query .now) (a .ef) (a .limit) _ _ refl refl _ (c .before .before .before .before .before .before .before .before .search-with-ef .ensures) (c .if1 .taken)
@@ -36,6 +38,7 @@ same-length-4 : tie.Need-same-length-4
 same-length-4 c = search needs
 
 returns-2 : tie.Need-returns-2
+unfolding recognisedValues
 returns-2 c =
     let a = c .before .before .before .before .before .before .before .before .before .before .before .before .before .before .before .before .before .before .before .before .args in
     limit-refused _ _ (a .words .now) (a .floats .now) (a .query .now) (a .ef) (a .limit) _ _ refl refl _ (c .before .before .before .before .before .before .before .before .before .before .search-with-ef .ensures) (c .before .before .if1 .left) (sym (c .before .is-finite .ensures) ∙ not-true _ (c .if2 .taken))
@@ -47,6 +50,7 @@ same-length-6 : tie.Need-same-length-6
 same-length-6 c = search needs
 
 returns-3 : tie.Need-returns-3
+unfolding recognisedValues
 returns-3 c =
     let a = c .before .before .before .before .before .before .before .before .before .before .before .before .before .before .before .before .before .before .before .before .before .before .args in
     found-none _ _ (a .words .now) (a .floats .now) (a .query .now) (a .ef) (a .limit) _ _ refl refl _ (c .before .before .before .before .before .before .before .before .before .before .before .before .search-with-ef .ensures) (c .before .before .before .before .if1 .left) (sym (c .before .before .before .is-finite .ensures) ∙ not-false _ (c .before .before .if2 .left)) (c .if3 .taken)

@@ -3,8 +3,7 @@ use borrow.Author.Needs.{needs}
 use mathlib.Core.Path.{sym, ap, _∙_}
 use Prim.Native.Nat.{ℕ}
 use Rattle.basics.specs.Choice.{pick-true, pick-false}
-use Rattle.score.specs.declared.Recognised.the-variants.{Known, New}
-use Rattle.score.specs.Recognised.{recognisedAs}
+use Rattle.score.specs.Recognised.{knownAs, newAs, recognisedValues, recognisedAs}
 use Rattle.score.proofs.decide.Statement.{statement}
 use Rattle.score.proofs.decide.Tie as tie
 
@@ -12,12 +11,12 @@ score-requires : tie.Need-score-requires
 score-requires c κs = search needs
 
 returns : tie.Need-returns
-unfolding recognisedAs
-returns c = ap (λ (n : ℕ). Known (c .before .before .args .doc) n) (c .before .score .ensures) ∙ sym (pick-true _ _ (c .if1 .taken))
+unfolding recognisedValues recognisedAs
+returns c = ap (λ (n : ℕ). knownAs (c .before .before .args .doc .0) n) (c .before .score .ensures) ∙ sym (pick-true _ _ (c .if1 .taken))
 
 returns-2 : tie.Need-returns-2
-unfolding recognisedAs
-returns-2 c = ap (λ (n : ℕ). New n) (c .before .score .ensures) ∙ sym (pick-false _ _ (c .if1 .left))
+unfolding recognisedValues recognisedAs
+returns-2 c = ap (λ (n : ℕ). newAs n) (c .before .score .ensures) ∙ sym (pick-false _ _ (c .if1 .left))
 
 pub decide-spec : {M : Type 1} → statement M
 decide-spec = tie.close (tie.spec score-requires returns returns-2)
