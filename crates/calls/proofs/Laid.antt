@@ -9,12 +9,9 @@ use Rattle.basics.specs.Lists.{pieces}
 use Rattle.basics.proofs.Pieces.{drop-take}
 use Rattle.calls.specs.Build.{laid}
 
--- ---- two lists that agree on their first B words are read alike up to there
+-- ---- two lists that agree on their first B elements are read alike up to there
 
-module _ (u v : List ℕ) (B : ℕ) (agree : take B u ≡ take B v) where
-  pub same-word : (k : ℕ) → k < B → getD u k 0 ≡ getD v k 0
-  same-word k h = sym (getD-take B u k 0 h) ∙ ap (λ (l : List ℕ). getD l k 0) agree ∙ getD-take B v k 0 h
-
+module _ {A : Type 0} (u v : List A) (B : ℕ) (agree : take B u ≡ take B v) where
   pub same-front : (k : ℕ) → k ≤ B → take k u ≡ take k v
   same-front k h = sym (take-take k B u h) ∙ ap (take k) agree ∙ take-take k B v h
 
@@ -26,8 +23,11 @@ module _ (u v : List ℕ) (B : ℕ) (agree : take B u ≡ take B v) where
   same-pieces d zero a h = refl
   same-pieces d (suc n) a h =
       let rest : pieces d n (drop (a + d) u) ≡ pieces d n (drop (a + d) v) = same-pieces d n (a + d) (omega arith) in
-      ap₂ (λ (x : List ℕ) (l : List (List ℕ)). x ∷ l) (same-part a d (omega arith))
+      ap₂ (λ (x : List A) (l : List (List A)). x ∷ l) (same-part a d (omega arith))
       (ap (pieces d n) (drop-drop d a u) ∙ rest ∙ ap (pieces d n) (sym (drop-drop d a v)))
+
+pub same-word : (u v : List ℕ) (B : ℕ) → take B u ≡ take B v → (k : ℕ) → k < B → getD u k 0 ≡ getD v k 0
+same-word u v B agree k h = sym (getD-take B u k 0 h) ∙ ap (λ (l : List ℕ). getD l k 0) agree ∙ getD-take B v k 0 h
 
 -- ---- words xs laid over those of w from `at` on, all within w
 

@@ -1,0 +1,3 @@
+pub mod Stores
+pub mod Written
+pub mod Footprint
