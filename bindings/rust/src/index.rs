@@ -1,13 +1,9 @@
 //! The index that owns its memory.
 use crate::error::Error;
-use crate::lent::{found, recognition, Found, Lent, Recognition};
+use crate::lent::{found, header, recognition, Found, Lent, Recognition};
 use crate::params::{number, Params, Sizes};
 use crate::sys;
 use std::fmt;
-
-/// Where the header has the number of vectors and the capacity.
-const NODES: usize = 2;
-const CAPACITY: usize = 11;
 
 /// An index with its stores and scratch, in place of the published `PipnnIndex`: the same calls, with a capacity in `new`.
 /// All memory is allocated there.
@@ -54,21 +50,17 @@ impl Index {
         Ok(index)
     }
 
-    /// An index out of stores that `words` and `floats` of another handed out, however long they were kept. What holds no index is
-    /// turned back.
+    /// An index out of stores that `words` and `floats` of another returned, however long they were kept. Stores that hold no index are
+    /// refused.
     pub fn from_stores(words: Vec<u32>, floats: Vec<f32>) -> Result<Index, Error> {
-        let capacity = words.get(CAPACITY).map_or(0, |&c| c as usize);
         let mut index = Index {
             words,
             floats,
-            scratch: Scratch::new(capacity),
+            scratch: Scratch::new(0),
         };
-        // A search makes the checks of the stores first, and then turns back a query with no components, or an open index.
-        match index.lent().search_with_ef(&[], 0, 0, &mut [], &mut []) {
-            Err(Error::DimensionMismatch | Error::NotBuilt) => Ok(index),
-            Err(refusal) => Err(refusal),
-            Ok(_) => Err(Error::NotWellFormed),
-        }
+        let capacity = index.lent().capacity()?;
+        index.scratch = Scratch::new(capacity);
+        Ok(index)
     }
 
     /// Adds a vector with its doc id: a `Vec<f32>`, a slice or an array.
@@ -136,12 +128,27 @@ impl Index {
 
     /// How many vectors were added.
     pub fn len(&self) -> usize {
-        self.words[NODES] as usize
+        self.words[header::NODES] as usize
     }
 
     /// Whether none was.
     pub fn is_empty(&self) -> bool {
         self.len() == 0
+    }
+
+    /// How many vectors it can hold.
+    pub fn capacity(&self) -> usize {
+        self.words[header::CAPACITY] as usize
+    }
+
+    /// How many components a vector has.
+    pub fn dimension(&self) -> usize {
+        self.words[header::DIMENSION] as usize
+    }
+
+    /// Whether it is built: it can be searched, and takes no more vectors.
+    pub fn is_built(&self) -> bool {
+        self.words[header::STATE] == 1
     }
 
     /// The word store, to be kept for `from_stores`.
@@ -169,7 +176,9 @@ impl fmt::Debug for Index {
     fn fmt(&self, f: &mut fmt::Formatter<'_>) -> fmt::Result {
         f.debug_struct("Index")
             .field("len", &self.len())
-            .field("capacity", &self.words[CAPACITY])
+            .field("capacity", &self.capacity())
+            .field("dimension", &self.dimension())
+            .field("is_built", &self.is_built())
             .finish_non_exhaustive()
     }
 }

@@ -3,6 +3,17 @@ use crate::error::{accepted, Error};
 use crate::params::{number, Params};
 use crate::sys;
 
+/// Where the header of the word store has its numbers.
+pub(crate) mod header {
+    /// 0 open, 1 built.
+    pub const STATE: usize = 0;
+    pub const DIMENSION: usize = 1;
+    /// How many vectors were added.
+    #[cfg(feature = "std")]
+    pub const NODES: usize = 2;
+    pub const CAPACITY: usize = 11;
+}
+
 /// How many places of a search's outputs were written, and how many vectors it scored.
 #[derive(Clone, Copy, Debug, PartialEq, Eq)]
 pub struct Found {
@@ -126,6 +137,32 @@ impl<'a> Lent<'a> {
             self.scratch_words,
             self.scratch_floats,
         ))
+    }
+
+    /// Whether the index is built. This call and the next two check both stores first, as every call on an index does: what holds no
+    /// index is refused.
+    pub fn is_built(&mut self) -> Result<bool, Error> {
+        Ok(self.checked(header::STATE)? == 1)
+    }
+
+    /// How many vectors the index can hold.
+    pub fn capacity(&mut self) -> Result<usize, Error> {
+        self.checked(header::CAPACITY)
+    }
+
+    /// How many components a vector has.
+    pub fn dimension(&mut self) -> Result<usize, Error> {
+        self.checked(header::DIMENSION)
+    }
+
+    /// A word of the header, if the stores hold an index. An add with no components makes all checks of the stores and is then refused in
+    /// any case, since a dimension is at least 1: by `AlreadyBuilt` on a built index, by `DimensionMismatch` on an open one.
+    fn checked(&mut self, word: usize) -> Result<usize, Error> {
+        match self.add(0, &[]) {
+            Err(Error::AlreadyBuilt | Error::DimensionMismatch) => Ok(self.words[word] as usize),
+            Err(refusal) => Err(refusal),
+            Ok(()) => Err(Error::NotWellFormed),
+        }
     }
 
     /// The word store.

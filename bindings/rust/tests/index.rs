@@ -66,12 +66,19 @@ fn exact_where_nothing_can_be_missed() {
 fn of_the_published_shape() {
     let mut index = Index::new(2, Params::default(), 4).unwrap();
     assert!(index.is_empty());
+    assert_eq!((index.dimension(), index.capacity(), index.is_built()), (2, 4, false));
     assert_eq!(index.build(), Err(Error::EmptyIndex));
     index.add(1, vec![1.0, 0.0]).unwrap();
     index.add_slice(2, &[0.0, 2.0]).unwrap();
     index.add(3, [0.0, -2.0]).unwrap();
     assert_eq!(index.search(&[1.0, 0.0], 1), Err(Error::NotBuilt));
+    assert!(!index.is_built());
     index.build().unwrap();
+    assert_eq!((index.dimension(), index.capacity(), index.is_built()), (2, 4, true));
+    assert_eq!(
+        format!("{index:?}"),
+        "Index { len: 3, capacity: 4, dimension: 2, is_built: true, .. }"
+    );
     assert_eq!(index.len(), 3);
     assert_eq!(index.add(4, [1.0, 1.0]), Err(Error::AlreadyBuilt));
     assert_eq!(index.search(&[0.0, 5.0], 10).unwrap(), [(2, 0.0), (1, 1.0), (3, 2.0)]);
@@ -95,11 +102,13 @@ fn kept_and_taken_up_again() {
     let (mut index, vectors) = filled(50, Params::default());
     let open = Index::from_stores(index.words().to_vec(), index.floats().to_vec());
     let mut open = open.unwrap_or_else(|e| panic!("{e}"));
+    assert_eq!((open.dimension(), open.capacity(), open.is_built()), (DIMENSION, 50, false));
     index.build().unwrap();
     open.build().unwrap();
     assert_eq!(index.words(), open.words());
     let (words, floats) = (index.words().to_vec(), index.floats().to_vec());
     let mut again = Index::from_stores(words.clone(), floats.clone()).unwrap_or_else(|e| panic!("{e}"));
+    assert_eq!((again.dimension(), again.capacity(), again.is_built()), (DIMENSION, 50, true));
     let query = &vectors[..DIMENSION];
     assert_eq!(again.search_with_ef(query, 5, 50), index.search_with_ef(query, 5, 50));
 

@@ -207,6 +207,53 @@ fn not_well_formed_4() {
     assert!(memory.lent().search_with_ef(&[1.0, 0.0], 1, 1, &mut [0], &mut [0.0]).is_ok());
 }
 
+/// What is asked of an index is answered on an open and on a built one, in memory that is longer than it has to be too, and refused
+/// where there is none. Nothing is changed either way.
+#[test]
+fn what_an_index_is() {
+    let about = |memory: &mut Memory| {
+        let before = memory.stores();
+        let mut lent = memory.lent();
+        let given = (lent.dimension(), lent.capacity(), lent.is_built());
+        assert_eq!(memory.stores(), before);
+        given
+    };
+    let mut memory = three_phones();
+    memory.words.extend([u32::MAX; 5]);
+    memory.floats.extend([f32::NAN; 5]);
+    assert_eq!(about(&mut memory), (Ok(2), Ok(8), Ok(false)));
+    memory.lent().build().unwrap();
+    assert_eq!(about(&mut memory), (Ok(2), Ok(8), Ok(true)));
+    // a full index, and one with no vectors
+    let mut full = Memory::new(3, &small(), 1);
+    full.lent().reset(3, &small(), 1).unwrap();
+    assert_eq!(about(&mut full), (Ok(3), Ok(1), Ok(false)));
+    full.lent().add(1, &[1.0, 2.0, 3.0]).unwrap();
+    assert_eq!(about(&mut full), (Ok(3), Ok(1), Ok(false)));
+    // scratch is not needed
+    memory.scratch_words.clear();
+    memory.scratch_floats.clear();
+    assert_eq!(about(&mut memory), (Ok(2), Ok(8), Ok(true)));
+
+    let refusals = |memory: &mut Memory| {
+        [
+            refused(memory, |lent| lent.dimension()),
+            refused(memory, |lent| lent.capacity()),
+            refused(memory, |lent| lent.is_built()),
+        ]
+    };
+    memory.words[25] = 3; // an entry of a row that is no node
+    assert_eq!(refusals(&mut memory), [4; 3]);
+    memory.words.truncate(15);
+    assert_eq!(refusals(&mut memory), [3; 3]);
+    memory.words.clear();
+    assert_eq!(refusals(&mut memory), [3; 3]);
+    assert_eq!(refusals(&mut Memory::new(2, &small(), 8)), [4; 3]);
+    let mut short = three_phones();
+    short.floats.pop();
+    assert_eq!(refusals(&mut short), [3; 3]);
+}
+
 #[test]
 fn built_5_length_6_finite_7_full_8() {
     let mut memory = three_phones();
