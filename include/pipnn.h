@@ -1,8 +1,10 @@
-/* Drintelbok: which phone is this? A nearest-neighbour index for home gateways, over memory that the caller lends.
+/* Drintelbok: which phone is this? A nearest-neighbour index for home gateways, over memory that the caller passes in.
  *
  * This header is the manual of the static library libdrintelbok.a ('rt staticlib drintelbok' writes it to
- * target/staticlib, for x86-64 Linux). A program links the archive and nothing else. Every function is proved, for
- * every input, to end, to stay within the memory that it is lent and to do exactly what crates/drintelbok says.
+ * target/staticlib). It is for Linux on any 64-bit Intel or AMD processor (x86-64): its code uses SSE2, which all of them
+ * have, and no AVX. A program links the archive and a C library, of which it calls memcpy and memset alone. Every function
+ * is proved, for every input, to end, to stay within the memory that is passed in and to do exactly what crates/drintelbok
+ * says.
  *
  * HOW IT IS USED
  *
@@ -16,11 +18,11 @@
  * The stores are plain memory: they may be copied, written to a file and read back on a machine of the same byte order,
  * and used again. Nothing in them is an address.
  *
- * WHAT A CALL GIVES
+ * WHAT A CALL RETURNS
  *
- * Every call gives 0 or the number of a refusal (enum pipnn_refusal). Nothing need be tested beforehand: any content and
- * any length of any buffer is either exactly right or refused. A refusal changes nothing but scratch; the counts that come
- * with it are 0. A call that returns 0 touches nothing past the sizes below.
+ * Every call returns 0 or the number of a refusal (enum pipnn_refusal). Nothing needs to be tested beforehand: whatever the
+ * buffers hold and however long they are, a call does exactly what it promises or returns a refusal number, and then changes
+ * nothing but scratch; the counts returned with a refusal are 0. A call that returns 0 touches nothing past the sizes below.
  *
  * BUFFERS
  *
@@ -62,6 +64,14 @@
  * directions 1 of 100 at ef 10 and none at ef 50. So take ef = 1024, or n, where an answer has to be exact, and a smaller
  * one only after trying it on vectors like your own. 'scored' says how many phones were looked at, which is what a search
  * costs.
+ *
+ * HOW LONG A BUILD TAKES
+ *
+ * Processor time measured with 1,024 phones of 64 features, on one core of a server (AMD EPYC): 0.03 s with the usual
+ * parameters, and 2 s in the slowest case that was found. That is leader_fraction 1, a max_leaf_size below the number of
+ * phones, and min_leaf_size 1024 or phones that are all equal: each of 21 levels then compares every phone with every other,
+ * and makes no segment smaller. With leader_fraction 0.02 it takes 0.15 s there. A build cannot be interrupted, and takes
+ * longer on a slower core: try it before choosing a large leader_fraction. docs/SPEED.md has the times of searches.
  */
 #ifndef PIPNN_H
 #define PIPNN_H
