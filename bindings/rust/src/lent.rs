@@ -31,7 +31,7 @@ pub enum Recognition {
 }
 
 /// Two stores and scratch, borrowed. `Sizes::needed` says how long each has to be; longer ones will do. They may hold anything: a
-/// call on stores that hold no index gives `Error::NotWellFormed` and changes nothing.
+/// call on stores that hold no index returns `Error::NotWellFormed` and changes nothing but scratch.
 #[derive(Debug)]
 pub struct Lent<'a> {
     words: &'a mut [u32],
