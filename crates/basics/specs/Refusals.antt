@@ -18,6 +18,10 @@ unfolding pick
 firstRefusal [] = 0
 firstRefusal (c ∷ cs) = pick (c .fails) (c .number) (firstRefusal cs)
 
+-- what a call answers: its number, 0 for success, and the values that come with it
+abbrev pub Values : Type 0
+Values = ℕ × List ℕ
+
 -- no check's number is 0
 abbrev pub Numbered : List Check → Type 0
 Numbered [] = Unit

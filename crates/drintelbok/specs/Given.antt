@@ -4,8 +4,7 @@ use Prim.Native.Nat.{ℕ}
 use lib.ListN.{getD}
 use lib.Ieee.{Float}
 use Rattle.calls.specs.Search.{Reply}
-use Rattle.household.specs.Household as household
-use Rattle.score.specs.Recognised as recognised
+use Rattle.basics.specs.Refusals.{Values}
 use Rattle.drintelbok.specs.declared.PipnnFound.{PipnnFound}
 use Rattle.drintelbok.specs.declared.PipnnRecognised.{PipnnRecognised}
 use Rattle.drintelbok.specs.declared.PipnnHousehold.{PipnnHousehold}
@@ -21,9 +20,9 @@ recognition number [] = record { number = number; known = 0; doc = 0; score = 0 
 recognition number (score ∷ []) = record { number = number; known = 0; doc = 0; score = score }
 recognition number (doc ∷ score ∷ more) = record { number = number; known = 1; doc = doc; score = score }
 
-unfoldable pub recognisedWith : recognised.Values → PipnnRecognised
+unfoldable pub recognisedWith : Values → PipnnRecognised
 recognisedWith answer = recognition (answer .0) (answer .1)
 
 -- the household count: a refusal has no phones (household/Household `householdValues`)
-unfoldable pub countedAs : household.Values → PipnnHousehold
+unfoldable pub countedAs : Values → PipnnHousehold
 countedAs answer = record { number = answer .0; phones = getD (answer .1) 0 0 }

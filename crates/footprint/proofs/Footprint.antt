@@ -13,7 +13,7 @@ use lib.Seq.{take-at}
 use lib.Ieee.{Float, binary32}
 use lib.Ieee.Scale.{finite}
 use Rattle.basics.specs.Choice.{pick, pick-false}
-use Rattle.basics.specs.Refusals.{check, firstRefusal}
+use Rattle.basics.specs.Refusals.{check, firstRefusal, Values}
 use Rattle.norm.specs.Norm.{scaledOf}
 use Rattle.norm.proofs.Laws.{length-scaled}
 use Rattle.params.specs.declared.PipnnParams.{PipnnParams}
@@ -30,7 +30,7 @@ use Rattle.pipnn.specs.Add.{ownChecks, addChecks, addedWords, addedFloats, addS
 use Rattle.calls.specs.Graph.{Graph, graphFor}
 use Rattle.calls.specs.Build.{ownBuildChecks, buildChecks, builtHeader, builtWords, buildSpec}
 use Rattle.calls.specs.Search.{askingChecks, ownSearchChecks, searchChecks, farIn, foundIn, refused, replyOf, searchWithEfSpec, searchSpec}
-use Rattle.score.specs.declared.Recognised.the-variants.{Refused}
+use Rattle.score.specs.Recognised.{refusedAs}
 use Rattle.recognise.specs.Recognise.{recogniseChecks, nearestOf, docIn, recogniseSpec}
 use Rattle.drintelbok.specs.New.{newFrom}
 use Rattle.footprint.specs.Footprint.{Alike, AlikeIn, Agree, AgreeScratch, SameAnswer, SameNew, OnStores, Footprint}
@@ -161,8 +161,8 @@ module _ (w w′ : List ℕ) (f f′ : List Float) (a : Agree w w′ f f′) whe
     unfolding recogniseSpec recogniseChecks h
     on-recognise ef limit =
         let same : (askingChecks w query 1 ef ++ (check (not (finite limit)) 13 ∷ [])) ≡ (askingChecks w′ query 1 ef ++ (check (not (finite limit)) 13 ∷ [])) = cc (h .w0, h .w1) in
-        searched (firstRefusal (recogniseChecks ws fs w f query ef limit)) (firstRefusal (recogniseChecks ws′ fs′ w′ f′ query ef limit))
-        (λ (v : View). nearestOf (docIn v) (farIn v query) limit (foundIn v query 1 ef)) Refused
+        searched {X = Values} (firstRefusal (recogniseChecks ws fs w f query ef limit)) (firstRefusal (recogniseChecks ws′ fs′ w′ f′ query ef limit))
+        (λ (v : View). nearestOf (docIn v) (farIn v query) limit (foundIn v query 1 ef)) (λ (r : ℕ). refusedAs r)
         (numbers-same (Scratch ws fs) (Scratch ws′ fs′) a s same)
         (not-opened (Scratch ws fs) (Scratch ws′ fs′) a s same)
 

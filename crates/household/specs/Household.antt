@@ -7,6 +7,7 @@ use lib.Dec.{eqb, ltb}
 use lib.ListN.{length}
 use Rattle.basics.specs.Choice.{pick}
 use Rattle.basics.specs.Nodes.{has}
+use Rattle.basics.specs.Refusals.{Values}
 use Rattle.household.specs.declared.Household.{Household}
 use Rattle.household.specs.declared.Household.the-variants.{Refused, Phones}
 use Rattle.household.specs.Day.{dayOf}
@@ -28,18 +29,10 @@ different (x ∷ xs) = pick (has x xs) (different xs) (x ∷ different xs)
 abbrev pub turnedBack : List ℕ → List ℕ → Bool
 turnedBack seconds docs = ltb 512 (length seconds) || not (eqb (length seconds) (length docs))
 
--- ---- 01's number and values
-
--- a number, 0 for success, and the values that come with it
-abbrev pub Values : Type 0
-Values = ℕ × List ℕ
-
--- the cases of the code's enum: a refusal has nothing but its number, success how many phones
+-- 01's number and values for the cases of the code's enum: a refusal has nothing but its number, success how many phones
 unfoldable pub householdValues : Household → Values
 householdValues (Refused number) = (number, [])
 householdValues (Phones phones) = (0, phones ∷ [])
-
--- ---- the count
 
 unfoldable pub householdOf : ℕ → List ℕ → List ℕ → Values
 unfolding pick docsOn different

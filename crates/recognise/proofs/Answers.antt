@@ -11,7 +11,7 @@ use lib.Ieee.{Float, nan}
 use lib.Ieee.Scale.{finite}
 use borrow.Author.Tests.{eq-eqb, ne-eqb, le-ltb}
 use Rattle.basics.specs.Choice.{pick, pick-ind, pick-true, pick-false}
-use Rattle.basics.specs.Refusals.{Check, check, firstRefusal}
+use Rattle.basics.specs.Refusals.{Check, check, firstRefusal, Values}
 use Rattle.basics.proofs.Refusals.{then-first, then-second, both-none}
 use Rattle.store.specs.declared.Lent.the-variants.{Scratch}
 use Rattle.store.specs.Layout.{word, nodesAt}
@@ -19,7 +19,7 @@ use Rattle.store.specs.View.{view}
 use Rattle.store.specs.Opening.{opening}
 use Rattle.store.proofs.Opened.{opening-numbered}
 use Rattle.calls.specs.Search.{askingChecks, ownSearchChecks, searchChecks, farIn, foundIn, Reply, refused, replyOf, searchWithEfSpec}
-use Rattle.score.specs.Recognised.{Values, newAs, refusedAs, recognisedAs}
+use Rattle.score.specs.Recognised.{newAs, refusedAs, recognisedAs}
 use Rattle.recognise.specs.Recognise.{recogniseChecks, nearestOf, docIn, recogniseSpec}
 
 -- ---- a check at the end of a list

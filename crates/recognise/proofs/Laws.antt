@@ -13,7 +13,7 @@ use lib.Ieee.{Float, le}
 use lib.Ieee.Scale.{finite}
 use borrow.Author.Tests.{eqb-true, not-false}
 use Rattle.basics.specs.Choice.{pick-ind}
-use Rattle.basics.specs.Refusals.{Check, check, firstRefusal}
+use Rattle.basics.specs.Refusals.{Check, check, firstRefusal, Values}
 use Rattle.basics.proofs.Refusals.{passes, both-none}
 use Rattle.sorting.specs.Sorting.{sortBy}
 use Rattle.sorting.proofs.Laws.{length-sort}
@@ -28,7 +28,7 @@ use Rattle.beam.specs.Beam.{placesFor, walked, beamSearch, answerOf}
 use Rattle.beam.proofs.Laws.{ended}
 use Rattle.calls.specs.Search.{askingChecks, farIn, scoredIn, foundIn}
 use Rattle.search.proofs.Inside.{lists-inside}
-use Rattle.score.specs.Recognised.{Values, recognisedAs}
+use Rattle.score.specs.Recognised.{recognisedAs}
 use Rattle.recognise.specs.Recognise.{recogniseChecks, nearestOf, docIn, recogniseSpec}
 
 decided : (doc : ℕ) (d limit : Float) → recognisedAs doc d limit .0 ≡ 0

@@ -9,12 +9,12 @@ use lib.ListN.{getD}
 use lib.Ieee.{Float}
 use lib.Ieee.Scale.{finite}
 use Rattle.basics.specs.Choice.{pick}
-use Rattle.basics.specs.Refusals.{Check, check, firstRefusal}
+use Rattle.basics.specs.Refusals.{Check, check, firstRefusal, Values}
 use Rattle.store.specs.declared.Lent.the-variants.{Scratch}
 use Rattle.store.specs.View.{View, view}
 use Rattle.store.specs.Opening.{opening}
 use Rattle.calls.specs.Search.{askingChecks, farIn, foundIn}
-use Rattle.score.specs.Recognised.{Values, newAs, refusedAs, recognisedAs}
+use Rattle.score.specs.Recognised.{newAs, refusedAs, recognisedAs}
 
 -- ---- its checks: search's except 12, then 13 for a limit that is not finite
 

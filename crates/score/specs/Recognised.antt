@@ -3,19 +3,16 @@
 --
 -- The code returns an enum. What each of its cases stands for is `recognisedValues`: 01's number, then the values that come with it. The definitions
 -- of recognising speak of these alone.
-use mathlib.Core.List.{List, [], _∷_}
+use mathlib.Core.List.{[], _∷_}
 use Prim.Native.Nat.{ℕ}
 use lib.Ieee.{Float, le}
 use Rattle.basics.specs.Choice.{pick}
+use Rattle.basics.specs.Refusals.{Values}
 use Rattle.score.specs.declared.Recognised.{Recognised}
 use Rattle.score.specs.declared.Recognised.the-variants.{Known, New, Refused}
 use Rattle.score.specs.Score.{scoreOf}
 
 -- ---- 01's numbers and values
-
--- a number, 0 for success, and the values that come with it
-abbrev pub Values : Type 0
-Values = ℕ × List ℕ
 
 -- Known has a doc id and a score, New a score, a refusal nothing but its number
 abbrev pub knownAs : (doc score : ℕ) → Values

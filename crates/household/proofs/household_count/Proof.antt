@@ -8,7 +8,8 @@ use Prim.Native.Nat.{ℕ}
 use lib.ListN.{length, take}
 use lib.Seq.{length-take-le}
 use Rattle.basics.specs.Choice.{pick-true, pick-false}
-use Rattle.household.specs.Household.{different, Values, householdValues, householdOf}
+use Rattle.basics.specs.Refusals.{Values}
+use Rattle.household.specs.Household.{different, householdValues, householdOf}
 use Rattle.household.proofs.Laws.{accepted, different-short}
 use Rattle.household.proofs.household_count.Statement.{statement}
 use Rattle.household.proofs.household_count.Tie as tie
