@@ -5,7 +5,7 @@ use mathlib.Core.List.{List, [], _∷_, _++_, map}
 use Prim.Native.Nat.{ℕ}
 use lib.IntN.{pos}
 use lib.ListN.{replicate}
-use lib.Ieee.{fin, ofBits, toBits, add, sub, mul, div, lt, le, eq, isNan, ofInt, toUnsigned, round}
+use lib.Ieee.{nan, fin, ofBits, toBits, add, sub, mul, div, lt, le, eq, isNan, ofInt, toUnsigned, round}
 use mathlib.Core.Bool.{false}
 use Rattle.basics.specs.Sum.{+zero, +one}
 use Rattle.basics.specs.Graph.{listOf}
@@ -79,3 +79,27 @@ empty-refused = refl
 scratch-refused : buildSpec 511 384 (opened .1) (opened .2) ≡ (3, opened .1, opened .2)
 unfolding newSpec buildSpec ofBits toBits lt le eq isNan
 scratch-refused = refl
+
+-- ---- refusals of a search in their order: each of these calls has every fault from its own number on
+
+every-fault : searchWithEfSpec 512 384 (built .1) (built .2) (nan ∷ []) 1025 3 [] [] ≡ refused 6 [] []
+unfolding searchWithEfSpec newSpec addSpec buildSpec ofBits toBits add sub mul div lt le eq isNan ofInt toUnsigned round
+every-fault = refl
+
+not-finite : searchWithEfSpec 512 384 (built .1) (built .2) (nan ∷ +zero ∷ []) 1025 3 [] [] ≡ refused 7 [] []
+unfolding searchWithEfSpec newSpec addSpec buildSpec ofBits toBits add sub mul div lt le eq isNan ofInt toUnsigned round
+not-finite = refl
+
+too-many-asked : searchWithEfSpec 512 384 (built .1) (built .2) (+one ∷ +zero ∷ []) 1025 3 [] [] ≡ refused 11 [] []
+unfolding searchWithEfSpec newSpec addSpec buildSpec ofBits toBits add sub mul div lt le eq isNan ofInt toUnsigned round
+too-many-asked = refl
+
+no-room : searchWithEfSpec 512 384 (built .1) (built .2) (+one ∷ +zero ∷ []) 4 3 (7 ∷ 7 ∷ []) (replicate 3 minusOne) ≡ refused 12 (7 ∷ 7 ∷ []) (replicate 3 minusOne)
+unfolding searchWithEfSpec newSpec addSpec buildSpec ofBits toBits add sub mul div lt le eq isNan ofInt toUnsigned round
+no-room = refl
+
+-- room for min(k, n) is enough: k 4 among three nodes
+room-for-all : told (searchWithEfSpec 512 384 (built .1) (built .2) (+one ∷ +zero ∷ []) 4 3 (replicate 3 7) (replicate 3 minusOne))
+    ≡ (0, 3, 3, 10 ∷ 20 ∷ 30 ∷ [], 0x0000_0000 ∷ 0x3f80_0000 ∷ 0x4000_0000 ∷ [])
+unfolding searchWithEfSpec newSpec addSpec buildSpec ofBits toBits add sub mul div lt le eq isNan ofInt toUnsigned round
+room-for-all = refl

@@ -24,3 +24,7 @@ short = refl
 dimension-first : newSpec 0 params 0 [] [] ≡ (1, [], [])
 unfolding newSpec
 dimension-first = refl
+
+parameters-second : newSpec 2 params 0 [] [] ≡ (2, [], [])
+unfolding newSpec ofBits
+parameters-second = refl

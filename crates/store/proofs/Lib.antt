@@ -1,3 +1,4 @@
+pub mod Examples
 pub mod Good
 pub mod Header
 pub mod Opened
