@@ -384,7 +384,7 @@ fn insert_fitting(
 
 // The turn of node p: `row` is its row, a count and D entries with D at most 32, `candidates` are at most
 // 64 nodes in their order with their distances from p in `far`, and `planes` the blocks of hyperplanes.
-// Where sizes do not fit nothing changes.
+// It is promised for sizes that fit (`Turn` of specs/Hashprune); for others it is safe, and no more is said.
 pub fn hashprune_insert(
     vectors: &[f32],
     dimension: u32,

@@ -18,7 +18,7 @@ use Rattle.sorting.proofs.Laws.{first-map, first-in}
 use Rattle.sorting.proofs.Pairs.{front-ids}
 use Rattle.vectors.specs.Vectors.{between, rank}
 use Rattle.leaf.specs.Leaf.{candidatesAt}
-use Rattle.leaf_candidates.specs.Candidates.{nodeIn, farIn, placesFrom, offer, otherPlaces, Nearest, Gathered, Ready, CandidatesAre, Candidates}
+use Rattle.leaf_candidates.specs.Candidates.{Fits, nodeIn, farIn, placesFrom, offer, otherPlaces, Nearest, Gathered, Ready, CandidatesAre, Candidates}
 
 map-same-in : {A : Type 0} (f g : ℕ → A) (l : List ℕ) → ((j : ℕ) → In j l → f j ≡ g j) → map f l ≡ map g l
 map-same-in f g [] h = refl
@@ -142,9 +142,10 @@ module _ (leaf : List ℕ) (floats : List Float) (lane i D r most : ℕ) (keys p
   front-below j m = held-below floats lane (length leaf) i r keys places h n j (subst (In j) front m)
 
   pub gathered-are : (room room′ : ℕ) (candidates candidates′ : List ℕ) (far far′ : List Float) → most ≡ 2 * min D (length leaf - 1) → most ≤ 64
-      → Gathered leaf floats lane (take r (places ++ rest)) candidates far candidates′ far′ → Candidates leaf floats lane i D room room′ r candidates′ far′
-  gathered-are room room′ candidates candidates′ far far′ e few g = record {
+      → Fits leaf floats lane i D room room′ → Gathered leaf floats lane (take r (places ++ rest)) candidates far candidates′ far′ → Candidates leaf floats lane i D room room′ r candidates′ far′
+  gathered-are room room′ candidates candidates′ far far′ e few fits g = record {
     few = omega (arith, n .few);
+    none = λ z. absurd (z fits);
     are = λ vs ready. candidates-are leaf floats lane i D room room′ vs ready r keys places candidates candidates′ far far′
         (omega arith) (omega (arith, n .few)) n (subst (λ (l : List ℕ). Gathered leaf floats lane l candidates far candidates′ far′) front g);
   }

@@ -75,4 +75,6 @@ pub record CandidatesAre (leaf : List ℕ) (i D : ℕ) (vs : List (List Float)) 
 
 pub record Candidates (leaf : List ℕ) (floats : List Float) (lane i D room room′ r : ℕ) (candidates : List ℕ) (far : List Float) : Type 0 where
   pub few : r ≤ 64
+  -- none where the sizes do not fit
+  pub none : (Fits leaf floats lane i D room room′ → ⊥) → r ≡ 0
   pub are : (vs : List (List Float)) → Ready leaf floats lane i D room room′ vs → CandidatesAre leaf i D vs r candidates far

@@ -17,7 +17,8 @@ ghost use Rattle.leaf_distances.specs.Lanes.{eightList, LanePut, BlockTu
 use simd::Eight;
 
 // The distances of the eight places from `first` on to every place of the leaf. A place past the last
-// counts as the last one. Where they cannot be worked out the floats are left as they are.
+// counts as the last one. They are promised for at most 64 features, a `first` within the leaf and eight
+// floats for each place.
 pub fn distances_into(
     vectors: &[f32],
     dimension: u32,

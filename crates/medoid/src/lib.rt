@@ -29,8 +29,9 @@ pub fn centroid(vectors: &[f32], n: u16, out: &mut [f32])
     mean(vectors, rows, out);
 }
 
-// The entry node of the first n rows: the one nearest to the centroid, which `centroid` then holds, the
-// lowest of equally near ones, and 0 if no distance is below infinity. A u16 counts any index's nodes.
+// The entry node of the first n rows: the one nearest to their centroid, the lowest of equally near ones,
+// and 0 if no distance is below infinity. `centroid` is room for as many floats as a row has. A u16 counts
+// any index's nodes.
 pub fn compute_medoid(vectors: &[f32], n: u16, centroid: &mut [f32]) -> Node
     ensures { λ r. ⌜ r .0 ≡ computeMedoid (length (now (centroid .entry))) (rowsIn (length (now (centroid .entry))) n (now (vectors .entry))) ⌝ }
 {

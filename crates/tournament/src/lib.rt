@@ -78,7 +78,7 @@ fn climb(tree: &mut [u32], from: usize, rank: u64)
     }
 }
 
-// Puts a pair at a place; (0xffff_ffff, 0xffff_ffff) empties it. Does nothing at a place that there is not.
+// Puts a pair at one of the tree's places; (0xffff_ffff, 0xffff_ffff) empties it.
 pub fn put(tree: &mut [u32], place: u32, key: u32, id: u32)
     ensures { λ _. ⌜ Putting place (rankOf key id) (now (tree .entry)) (now (tree .exit)) ⌝ }
 {

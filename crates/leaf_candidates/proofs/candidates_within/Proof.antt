@@ -69,7 +69,7 @@ returns c =
     let a = simp length-take at (n .kept .1 .1 .1 .1 .0) in
     let b = simp length-take at (n .kept .1 .1 .1 .1 .1 .0) in
     gathered-are (x .leaf .now) (x .floats .now) (x .lane) (x .i) (x .degree) (n .result) _ _ _ _ (s .place-is) a b (n .ensures)
-    (length (x .candidates .now)) (length (x .far .now)) _ _ _ _ (omega arith) (omega arith) (c .before .before .before .before .gather .ensures)
+    (length (x .candidates .now)) (length (x .far .now)) _ _ _ _ (omega arith) (omega arith) s (c .before .before .before .before .gather .ensures)
 
 pub candidates-within-spec : {M : Type 1} → statement M
 candidates-within-spec =
