@@ -97,6 +97,11 @@ rounded-product : beamSearch (lists ((1 ∷ 2 ∷ []) ∷ [] ∷ (3 ∷ []) ∷ 
 unfolding beamSearch justAbove mul lt isNan toBits
 rounded-product = refl
 
+-- Node 2 lies at the first f32 above 1.5 times the cutoff, 1, and is not expanded: node 3, as near as node 1, is not scored.
+beyond-factor : beamSearch (lists ((1 ∷ 2 ∷ []) ∷ [] ∷ (3 ∷ []) ∷ [] ∷ [])) 4 0 (distances (two ∷ +one ∷ fin false 0xc0_0001 (negsuc 22) ∷ +one ∷ [])) 1 ≡ 0 ∷ 1 ∷ 2 ∷ []
+unfolding beamSearch mul lt isNan toBits
+beyond-factor = refl
+
 -- ---- the cutoff on the push that fills the places
 
 -- It is still infinite when the entry, with a distance below 0, is expanded. Then it is −1, and times 1.5 it is lower than any distance left.
@@ -111,6 +116,11 @@ count-stop : beamSearch (λ u. (3 * u + 1) ∷ (3 * u + 2) ∷ (3 * u + 3) ∷ [
     ≡ 0 ∷ 1 ∷ 2 ∷ 3 ∷ 4 ∷ 5 ∷ 6 ∷ 7 ∷ 8 ∷ 9 ∷ 10 ∷ 11 ∷ 12 ∷ []
 unfolding beamSearch mul lt isNan toBits
 count-stop = refl
+
+-- In a chain of equally near nodes each list scores one more: with one place the walk ends at the eleventh.
+eleven-scored : beamSearch (λ u. (u + 1) ∷ []) 40 0 (λ _. +one) 1 ≡ 0 ∷ 1 ∷ 2 ∷ 3 ∷ 4 ∷ 5 ∷ 6 ∷ 7 ∷ 8 ∷ 9 ∷ 10 ∷ []
+unfolding beamSearch mul lt isNan toBits
+eleven-scored = refl
 
 -- ---- graphs that no build makes
 
