@@ -3,7 +3,7 @@ use mathlib.Core.Path.{_≡_, refl}
 use mathlib.Core.Logic.{_⊎_, inl, inr}
 use mathlib.Core.List.{List, [], _∷_, _++_}
 use mathlib.Core.List.{List·Memᴰ as In, List·Memᴰ·head as here, List·Memᴰ·tail as there, List·Memᴰ·not-nil as in-nil, List·Memᴰ·cases-cons as in-cons, List·Memᴰ·append-cases as in-cases}
-use Prim.Native.Nat.{ℕ, zero, suc, _+_, _-_, _*_, _^_, _≤_, _<_, min}
+use Prim.Native.Nat.{ℕ, zero, suc, _+_, _-_, _*_, _^_, _≤_, _<_}
 use native.Mathlib.Nat.{pow-suc}
 use native.Mathlib.Omega.{arith}
 use lib.Dec.{leb}
@@ -18,7 +18,7 @@ use Rattle.sorting.specs.Sorting.{sortBy}
 use Rattle.sorting.proofs.Laws.{in-sort}
 use Rattle.vectors.specs.Vectors.{between, rank}
 use Rattle.leaf.specs.Simhash.{bitSet, simhashResidual}
-use Rattle.leaf.specs.Leaf.{startsWith, dedup, hashOf, selected, merged, hashpruneInsert, candidatesAt, placesTo, buildLeaf, buildLeaves}
+use Rattle.leaf.specs.Leaf.{startsWith, dedup, hashOf, selected, merged, hashpruneInsert, offered, candidatesAt, placesTo, buildLeaf, buildLeaves}
 use Rattle.leaf.proofs.Cells.{cells-in}
 
 -- a hash has its bits and no more
@@ -51,7 +51,7 @@ merged-short maxDegree vs p row new = omega (arith, length-take maxDegree (dedup
 
 pub candidates-in : {x : ℕ} (maxDegree : ℕ) (vs : List (List Float)) (leaf : List ℕ) (i : ℕ) → In x (candidatesAt maxDegree vs leaf i) → In x leaf
 unfolding candidatesAt
-candidates-in {x} maxDegree vs leaf i m = go (in-cases (take i leaf) (in-sort (rank vs (getD leaf i 0)) _ (in-take (2 * min maxDegree (length leaf - 1)) _ m)))
+candidates-in {x} maxDegree vs leaf i m = go (in-cases (take i leaf) (in-sort (rank vs (getD leaf i 0)) _ (in-take (offered maxDegree leaf) _ m)))
   where
     go : In x (take i leaf) ⊎ In x (drop (suc i) leaf) → In x leaf
     go (inl k) = in-take i leaf k
@@ -61,7 +61,7 @@ candidates-in {x} maxDegree vs leaf i m = go (in-cases (take i leaf) (in-sort (r
 pub candidates-few : (maxDegree : ℕ) (vs : List (List Float)) (leaf : List ℕ) (i : ℕ) → length (candidatesAt maxDegree vs leaf i) ≤ 2 * maxDegree
 unfolding candidatesAt
 candidates-few maxDegree vs leaf i =
-    omega (arith, length-take (2 * min maxDegree (length leaf - 1)) (sortBy (rank vs (getD leaf i 0)) (take i leaf ++ drop (suc i) leaf)))
+    omega (arith, length-take (offered maxDegree leaf) (sortBy (rank vs (getD leaf i 0)) (take i leaf ++ drop (suc i) leaf)))
 
 module _ (maxDegree bits dimension : ℕ) (vs : List (List Float)) where
   pub selected-in : {x : ℕ} (p : ℕ) (candidates : List ℕ) → In x (selected maxDegree bits dimension vs p candidates) → In x candidates

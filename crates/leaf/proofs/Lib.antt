@@ -1,3 +1,4 @@
 pub mod Cells
 pub mod Planes
 pub mod Laws
+pub mod Examples

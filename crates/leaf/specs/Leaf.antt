@@ -63,11 +63,14 @@ unfoldable pub hashOf : ℕ → ℕ → List (List Float) → ℕ → ℕ → �
 unfolding simhashResidual
 hashOf bits dimension vs p c = simhashResidual binary32 dimension (vectorOf vs p) (vectorOf vs c) bits
 
+-- a place is offered up to twice as many nodes as its row can take
+abbrev pub offered : ℕ → List ℕ → ℕ
+offered maxDegree leaf = 2 * min maxDegree (length leaf - 1)
+
 -- the other places of a leaf as place i sees them, the nearest first; of equally near ones the earlier place
 unfoldable pub candidatesAt : ℕ → List (List Float) → List ℕ → ℕ → List ℕ
 unfolding sortBy rank
-candidatesAt maxDegree vs leaf i =
-    firstBy (rank vs (getD leaf i 0)) (2 * min maxDegree (length leaf - 1)) (take i leaf ++ drop (suc i) leaf)
+candidatesAt maxDegree vs leaf i = firstBy (rank vs (getD leaf i 0)) (offered maxDegree leaf) (take i leaf ++ drop (suc i) leaf)
 
 module _ (maxDegree bits dimension : ℕ) (vs : List (List Float)) where
   -- the nearest of the nodes that hold cells after the candidates have come; of equally near ones that of the lower hash

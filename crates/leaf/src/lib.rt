@@ -11,5 +11,6 @@
 // proofs/Planes   a plane is a part of the first numbers of the stream
 // proofs/Cells    cells stand in strictly rising order and are no more than the candidates
 // proofs/Laws     n rows stay n rows, at most max_degree entries each, all of them nodes of the leaves
+// proofs/Examples leaves that compute
 //
 // Leans on `hyperplanes` for the stream of numbers, on `sorting` and `vectors` for the nearest.
