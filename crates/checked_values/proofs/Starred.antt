@@ -1,19 +1,19 @@
--- 01's starred values hold of the definitions: each side computes to the other; the worked example's do so where the calls are defined. Assumes nothing.
+-- 01's starred values hold of the definitions: each side computes to the other; the draw's and the worked example's do so where they are defined. Assumes nothing.
 use mathlib.Core.Path.{refl}
-use Rattle.lcg.specs.Lcg.{nextOf}
 use Rattle.root.specs.Root.{rootOf}
 use Rattle.hyperplanes.specs.Hyperplanes.{stream, planeNumber}
+use Rattle.leaders.proofs.Examples.{first-draw}
 use Rattle.calls.proofs.Examples.{worked-lists, worked-find, worked-one, worked-none, three-components}
 use Rattle.checked_values.specs.Starred.{Starred}
 
 pub starred : Starred
-unfolding rootOf stream planeNumber nextOf
+unfolding rootOf stream planeNumber
 starred = record {
   root-of-25 = refl;
   root-of-2 = refl;
   first-h = refl;
   first-plane = refl;
-  first-draw = refl;
+  first-draw = first-draw;
   worked-lists = worked-lists;
   worked-find = worked-find;
   worked-one = worked-one;

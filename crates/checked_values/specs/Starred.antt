@@ -2,15 +2,14 @@
 use mathlib.Core.Path.{_≡_}
 use mathlib.Core.Bool.{false}
 use mathlib.Core.List.{[], _∷_}
-use Prim.Native.Nat.{ℕ, _%_}
 use lib.IntN.{pos, negsuc}
 use lib.ListN.{replicate}
 use lib.Ieee.{fin, binary32}
 use Rattle.basics.specs.Sum.{+zero, +one}
-use Rattle.lcg.specs.Lcg.{nextOf, high, drawAddend}
+use Rattle.lcg.specs.Lcg.{high}
 use Rattle.root.specs.Root.{rootOf}
 use Rattle.hyperplanes.specs.Hyperplanes.{stream, planeNumber}
-use Rattle.leaders.specs.Leaders.{drawStart}
+use Rattle.leaders.specs.Leaders.{drawStart, drawn, upTo}
 use Rattle.calls.specs.Search.{refused}
 use Rattle.calls.specs.Example.{minusOne, lists, asked, told}
 
@@ -22,7 +21,7 @@ pub record Starred : Type 0 where
   pub first-h : high (stream 1) ≡ 1220265334
   pub first-plane : planeNumber binary32 0 ≡ fin false 9157719 (negsuc 25)
   -- first draw, level 0, three ids: position 2
-  pub first-draw : _≡_ {A = ℕ} (high (nextOf drawAddend (drawStart 0)) % 3) 2
+  pub first-draw : drawn 1 (drawStart 0) (upTo 3) ≡ 2 ∷ []
   -- lists here: 0:[1], 1:[0,2], 2:[1,1]
   pub worked-lists : lists ≡ (1 ∷ []) ∷ (0 ∷ 2 ∷ []) ∷ (1 ∷ 1 ∷ []) ∷ []
   -- this find: three ranks, and nothing written past them
