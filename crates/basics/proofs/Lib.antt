@@ -9,3 +9,4 @@ pub mod Sums
 pub mod Tests
 pub mod Members
 pub mod Rows
+pub mod Examples

@@ -15,3 +15,4 @@
 // proofs/Sums      a sum of products, one step and the end
 // proofs/Members   membership in a part of a list
 // proofs/Rows      rows stay bounded where one is replaced
+// proofs/Examples  a node's list that computes

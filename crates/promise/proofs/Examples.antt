@@ -36,20 +36,20 @@ calls =
     ∷ searchWithEf 512 384 one 3 3 (replicate 3 0) (replicate 3 +zero)
     ∷ []
 
--- what is remembered after a list of calls
-remembered : List Call → Past → List ℕ → List Float → Past
-remembered [] past w f = past
-remembered (c ∷ cs) past w f = remembered cs (then c (outcome c w f .0) past) (outcome c w f .1) (outcome c w f .2)
+-- what a list of calls leaves: what is remembered of it, and both stores
+unfoldable pub left : List Call → Past → List ℕ → List Float → Past × List ℕ × List Float
+left [] past w f = (past, w, f)
+left (c ∷ cs) past w f = left cs (then c (outcome c w f .0) past) (outcome c w f .1) (outcome c w f .2)
 
 -- three nodes, built: the add with one component gave 6, the one after the build 5
-three-nodes : remembered calls nothing (replicate 56 7) (replicate 16 minusOne)
+three-nodes : left calls nothing (replicate 56 7) (replicate 16 minusOne) .0
     ≡ built (record {
       dimension = 2;
       params = params;
       capacity = 8;
       nodes = record { doc = 10; vector = one } ∷ record { doc = 20; vector = up } ∷ record { doc = 30; vector = down } ∷ [];
     })
-unfolding remembered outcome then ofBits toBits plus sub mul div lt le eq isNan ofInt toUnsigned round
+unfolding left outcome then ofBits toBits plus sub mul div lt le eq isNan ofInt toUnsigned round
 three-nodes = refl
 
 -- the claim of this very list

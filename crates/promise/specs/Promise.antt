@@ -15,7 +15,7 @@ use Rattle.store.specs.Layout.{word, entryAt, bridgeCountAt}
 use Rattle.store.specs.View.{view, listIn}
 use Rattle.graph_rows.specs.Rows.{rowsOf}
 use Rattle.graph_utils.specs.Lengths.{totalLength, longestLength}
-use Rattle.beam.specs.Beam.{stopMultiplier, farFrom, placesFor}
+use Rattle.beam.specs.Beam.{farFrom, placesFor}
 use Rattle.calls.specs.Graph.{settingsOf}
 use Rattle.calls.specs.Search.{Reply, searchWithEfSpec, searchSpec}
 use Rattle.promise.specs.Calls.{Call, new, add, build, searchWithEf, search, outcome, Index, Past, nothing, opened, built, then, vectorsOf, docsOf}
@@ -74,7 +74,7 @@ pub record Answered (x : Index) (query : List Float) (k ef L : ℕ) (docs : List
   pub in-order : Nondecreasing (farOf x query) nodes
   -- the scored count
   pub scored-least : min (size x) (placesFor ef k) ≤ reply .scored
-  pub scored-most : reply .scored ≤ min (size x) (max 1 (stopMultiplier * placesFor ef k) + L)
+  pub scored-most : reply .scored ≤ min (size x) (max 1 (10 * placesFor ef k) + L)
   -- with b ≥ n nothing left out is nearer than anything returned
   pub nothing-missed : size x ≤ placesFor ef k → (i j : ℕ) → In i nodes → j < size x → (In j nodes → ⊥) → NotBefore (farOf x query j) (farOf x query i)
 

@@ -7,3 +7,4 @@
 // specs/Calls    a call, what it leaves, and what is remembered of a list of calls
 // specs/Promise  the claim: what stands between two calls, what a search tells
 // proofs/Promise the theorem, `demand-3`: the claim holds of every list of calls
+// proofs/Refuted stronger statements that are false, refuted by one index

@@ -8,3 +8,4 @@
 // specs/Walk     what an out-edge reaches, and the walk
 // proofs/Laws    a walk that ends with an empty frontier has seen all that is reached; each node once; how
 //                many it can see at most
+// proofs/Examples a walk that computes
