@@ -161,7 +161,7 @@ stored-ef x w f m s = within (paramsOf w) (ap withinLimits (built-shown x w f m 
 
 -- ---- one call
 
-call-judged : (c : Call) (past : Past) (w : List ℕ) (f : List Float) → Made past w f → Kept past w f → Welcome c past w f
+pub call-judged : (c : Call) (past : Past) (w : List ℕ) (f : List Float) → Made past w f → Kept past w f → Welcome c past w f
 unfolding outcome searchSpec
 call-judged (new d p t c) past w f m s = record { welcome = new-accepted d p t c w f; earned = new-earned d p t c w f }
 call-judged (add doc v) nothing w f m s = tt

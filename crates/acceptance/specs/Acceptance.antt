@@ -21,10 +21,17 @@ use Rattle.promise.specs.Promise.{size}
 abbrev pub Accepted : Call → List ℕ → List Float → Type 0
 Accepted c w f = outcome c w f .0 ≡ 0
 
--- it is accepted where P holds, and nowhere else
-pub record Exactly (P : Type 0) (c : Call) (w : List ℕ) (f : List Float) : Type 0 where
-  pub welcome : P → Accepted c w f
-  pub earned : Accepted c w f → P
+-- A holds where P does, and nowhere else; A is that a call is accepted
+pub record Exactly (P A : Type 0) : Type 0 where
+  pub welcome : P → A
+  pub earned : A → P
+
+-- a call that needs an index, judged by what is remembered before it: what it needs on an open store, and what on a built one. Before the first
+-- accepted `new` nothing is claimed of it.
+abbrev pub Judged : (onOpen onBuilt : Index → Type 0) → Past → Type 0 → Type 0
+Judged onOpen onBuilt nothing A = Unit
+Judged onOpen onBuilt (opened x) A = Exactly (onOpen x) A
+Judged onOpen onBuilt (built x) A = Exactly (onBuilt x) A
 
 abbrev pub Finite : List Float → Type 0
 Finite v = every finite v ≡ true
@@ -71,23 +78,16 @@ pub record AsksWithEf (x : Index) (ws fs : ℕ) (query : List Float) (k ef : ℕ
 
 -- ---- the claim
 
--- Of one call, by what is remembered before it. `new` is judged on stores of any content; before the first accepted one nothing else is claimed.
--- An add after a build is turned back, and so is a search before one. A built store has a node, and an ef_search that `new` has judged.
+-- Of one call, by what is remembered before it. `new` is judged on stores of any content. An add after a build is turned back, and so is a search
+-- before one. A built store has a node, and an ef_search that `new` has judged.
 abbrev pub Welcome : Call → Past → List ℕ → List Float → Type 0
-Welcome (new d p typed c) past w f = Exactly (Opens d p c w f) (new d p typed c) w f
-Welcome (add doc v) nothing w f = Unit
-Welcome (add doc v) (opened x) w f = Exactly (Adds x v) (add doc v) w f
-Welcome (add doc v) (built x) w f = Exactly ⊥ (add doc v) w f
-Welcome (build ws fs) nothing w f = Unit
-Welcome (build ws fs) (opened x) w f = Exactly (Builds x ws fs) (build ws fs) w f
-Welcome (build ws fs) (built x) w f = Exactly (Scratch (x .capacity) ws fs) (build ws fs) w f
-Welcome (searchWithEf ws fs q k ef docs distances) nothing w f = Unit
-Welcome (searchWithEf ws fs q k ef docs distances) (opened x) w f = Exactly ⊥ (searchWithEf ws fs q k ef docs distances) w f
-Welcome (searchWithEf ws fs q k ef docs distances) (built x) w f =
-    Exactly (AsksWithEf x ws fs q k ef docs distances) (searchWithEf ws fs q k ef docs distances) w f
-Welcome (search ws fs q k docs distances) nothing w f = Unit
-Welcome (search ws fs q k docs distances) (opened x) w f = Exactly ⊥ (search ws fs q k docs distances) w f
-Welcome (search ws fs q k docs distances) (built x) w f = Exactly (Asks x ws fs q k docs distances) (search ws fs q k docs distances) w f
+Welcome (new d p typed c) past w f = Exactly (Opens d p c w f) (Accepted (new d p typed c) w f)
+Welcome (add doc v) past w f = Judged (λ x. Adds x v) (λ x. ⊥) past (Accepted (add doc v) w f)
+Welcome (build ws fs) past w f = Judged (λ x. Builds x ws fs) (λ x. Scratch (x .capacity) ws fs) past (Accepted (build ws fs) w f)
+Welcome (searchWithEf ws fs q k ef docs distances) past w f =
+    Judged (λ x. ⊥) (λ x. AsksWithEf x ws fs q k ef docs distances) past (Accepted (searchWithEf ws fs q k ef docs distances) w f)
+Welcome (search ws fs q k docs distances) past w f =
+    Judged (λ x. ⊥) (λ x. Asks x ws fs q k docs distances) past (Accepted (search ws fs q k docs distances) w f)
 
 -- of a list of calls: each call gets both stores as the call before left them
 abbrev pub Accepts : List Call → Past → List ℕ → List Float → Type 0

@@ -96,7 +96,7 @@ graphed x w f b =
           (ideal-grown x (b .some)));
     }
 
-stands : (past : Past) (w : List ℕ) (f : List Float) → Made past w f → Stands past w f
+pub stands : (past : Past) (w : List ℕ) (f : List Float) → Made past w f → Stands past w f
 stands nothing w f m = tt
 stands (opened x) w f m = tt
 stands (built x) w f m = graphed x w f m
@@ -123,7 +123,7 @@ stored-ef : (past : Past) (w : List ℕ) (f : List Float) → Made past w f → 
 unfolding view paramsOf
 stored-ef past w f m x e = ap (λ (v : View). v .params .«ef_search») (subst (λ (h : Past). Made h w f) e m .is)
 
-call-told : (c : Call) (past : Past) (w : List ℕ) (f : List Float) → Made past w f → Told c past w f
+pub call-told : (c : Call) (past : Past) (w : List ℕ) (f : List Float) → Made past w f → Told c past w f
 unfolding searchSpec
 call-told (new d p t c) past w f m = tt
 call-told (add doc v) past w f m = tt

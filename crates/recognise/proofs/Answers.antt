@@ -1,9 +1,9 @@
 -- The four answers of the call, each from what its search has left: a search into one place has room, so its checks are search's without 12, and the
 -- one node that it gives stands at the front of both places. Assumes nothing.
 use mathlib.Core.Path.{_≡_, refl, sym, ap, ap₂, _∙_}
-use mathlib.Core.Bool.{false, true, not, _||_}
+use mathlib.Core.Bool.{Bool, false, true, not, _||_}
 use mathlib.Core.List.{List, [], _∷_, _++_, map, append-assoc}
-use Prim.Native.Nat.{ℕ, min}
+use Prim.Native.Nat.{ℕ, zero, suc, min}
 use native.Mathlib.Omega.{arith}
 use lib.Dec.{eqb, ltb, eqb→eq}
 use lib.ListN.{length, getD, drop}
@@ -80,6 +80,21 @@ module _ (ws fs : ℕ) (w : List ℕ) (f query : List Float) (ef : ℕ) (limit :
   unfolding firstRefusal
   limit-failed e h = asked-right e ∙ pick-true 13 0 (ap not h)
 
+  -- a call that is accepted was asked for nothing wrong, with a limit that is finite
+  asked-accepted : refusal ≡ 0 → firstRefusal asked ≡ 0
+  asked-accepted e = go (firstRefusal asked) refl
+    where
+      go : (n : ℕ) → firstRefusal asked ≡ n → firstRefusal asked ≡ 0
+      go zero h = h
+      go (suc n) h = absurd (omega (arith, asked-first (λ z. omega arith)))
+
+  pub limit-accepted : refusal ≡ 0 → finite limit ≡ true
+  limit-accepted e = go (finite limit) refl
+    where
+      go : (b : Bool) → finite limit ≡ b → finite limit ≡ true
+      go true h = h
+      go false h = absurd (omega (arith, limit-failed (asked-accepted e) h))
+
   -- ---- the search that the call makes, into one place each
 
   module _ (docs : List ℕ) (distances : List Float) (one-doc : length docs ≡ 1) (one-distance : length distances ≡ 1) where
@@ -107,6 +122,13 @@ module _ (ws fs : ℕ) (w : List ℕ) (f query : List Float) (ef : ℕ) (limit :
     searched-reply e =
         pick-true {X = Reply} (replyOf (view w f) query 1 ef docs distances) (refused (firstRefusal (searchChecks w query 1 ef docs distances ws fs f)) docs distances)
         (eq-eqb _ 0 (searched-first ∙ e))
+
+    -- the call is accepted exactly if this search is and the limit is finite
+    pub search-accepted : refusal ≡ 0 → reply .number ≡ 0
+    search-accepted e = searched-number ∙ asked-accepted e
+
+    pub call-accepted : reply .number ≡ 0 → finite limit ≡ true → refusal ≡ 0
+    call-accepted e h = limit-passed (sym searched-number ∙ e) h
 
     -- what it has left: its number, how many nodes it gives, both places
     module _ (left : Reply) (same : left ≡ reply) where
