@@ -1,0 +1,4 @@
+pub mod Recognised
+pub mod Promise
+pub mod Acceptance
+pub mod Examples
