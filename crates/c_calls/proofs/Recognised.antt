@@ -11,9 +11,7 @@ use lib.Ieee.Scale.{finite}
 use Rattle.basics.specs.Sum.{+zero}
 use Rattle.basics.specs.Refusals.{firstRefusal}
 use Rattle.calls.specs.Search.{Reply}
-use Rattle.score.specs.declared.Recognised.{Recognised}
-use Rattle.score.specs.declared.Recognised.the-variants.{Known, New, Refused}
-use Rattle.score.specs.Recognised.{recognisedAs, numberOf}
+use Rattle.score.specs.Recognised.{recognisedAs}
 use Rattle.recognise.specs.Recognise.{recogniseChecks, recogniseSpec}
 use Rattle.recognise.proofs.Laws.{number-is}
 use Rattle.recognise.proofs.Answers.{limit-accepted, search-accepted, call-accepted, found-one}
@@ -22,16 +20,15 @@ use Rattle.promise.specs.Calls.{searchWithEf, Index, Past, nothing, opened, bui
 use Rattle.promise.specs.Promise.{size, listNow, farOf, Answered}
 use Rattle.promise.proofs.Made.{Made}
 use Rattle.promise.proofs.Promise.{call-told}
-use Rattle.drintelbok.specs.Given.{recognisedWith}
+use Rattle.drintelbok.specs.Given.{recognition, recognisedWith}
 use Rattle.c_calls.specs.Calls.{recognised}
 use Rattle.c_calls.specs.Promise.{searchForOne, RecognisedBy, OnceBuilt}
 
 -- C gets the answer's number
-number-given : (r : Recognised) → recognisedWith r .number ≡ numberOf r
-unfolding recognisedWith
-number-given (Known doc score) = refl
-number-given (New score) = refl
-number-given (Refused number) = refl
+number-given : (number : ℕ) (values : List ℕ) → recognition number values .number ≡ number
+number-given number [] = refl
+number-given number (score ∷ []) = refl
+number-given number (doc ∷ score ∷ more) = refl
 
 -- a list of one node
 one-node : (nodes : List ℕ) → length nodes ≡ 1 → (node : ℕ) × (nodes ≡ node ∷ [])
@@ -41,7 +38,8 @@ one-node (node ∷ next ∷ more) e = absurd (omega arith)
 
 module _ (ws fs : ℕ) (w : List ℕ) (f query : List Float) (ef : ℕ) (limit : Float) where
   number-checked : recognised ws fs w f query ef limit .number ≡ firstRefusal (recogniseChecks ws fs w f query ef limit)
-  number-checked = number-given (recogniseSpec ws fs w f query ef limit) ∙ number-is ws fs w f query ef limit
+  unfolding recognisedWith
+  number-checked = number-given (recogniseSpec ws fs w f query ef limit .0) (recogniseSpec ws fs w f query ef limit .1) ∙ number-is ws fs w f query ef limit
 
   pub search-too : recognised ws fs w f query ef limit .number ≡ 0 → searchForOne ws fs w f query ef .number ≡ 0
   search-too e = search-accepted ws fs w f query ef limit (0 ∷ []) (+zero ∷ []) refl refl (sym number-checked ∙ e)
@@ -73,7 +71,7 @@ module _ (ws fs : ℕ) (w : List ℕ) (f query : List Float) (ef : ℕ) (limit :
         answered = a;
         node = node;
         alone = alone;
-        answer = ap recognisedWith (sym by-reply ∙ ap₂ (λ (d : ℕ) (r : Float). recognisedAs (record { 0 = d }) r limit) doc far);
+        answer = ap recognisedWith (sym by-reply ∙ ap₂ (λ (d : ℕ) (r : Float). recognisedAs d r limit) doc far);
       }
 
   recognised-by : (x : Index) → Made (built x) w f → recognised ws fs w f query ef limit .number ≡ 0 → RecognisedBy x ws fs w f query ef limit

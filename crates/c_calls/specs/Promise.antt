@@ -27,7 +27,7 @@ pub record RecognisedBy (x : Index) (ws fs : ℕ) (w : List ℕ) (f query : List
   pub node : ℕ
   pub alone : answered .nodes ≡ node ∷ []
   -- Known or New is by this node's doc id and its distance
-  pub answer : recognised ws fs w f query ef limit ≡ recognisedWith (recognisedAs (record { 0 = getD (docsOf x) node 0 }) (farOf x query node) limit)
+  pub answer : recognised ws fs w f query ef limit ≡ recognisedWith (recognisedAs (getD (docsOf x) node 0) (farOf x query node) limit)
 
 -- ---- the claim
 
