@@ -105,10 +105,10 @@ fn expand(
     size: usize,
     places: u32,
     walk: Walk,
-    node: u32,
+    node: Node,
 ) -> Walk
     requires { ⌜ 11 * size ≤ length (now words) ⌝ }
-    ensures { λ r. ⌜ Expanding (now (bridges .entry)) (now (links .entry)) (farFrom (now (query .entry)) (vectorsIn dimension (now (vectors .entry)))) size places (listIn size degree (now (rows .entry)) (now (bridges .entry))) node (now (words .entry)) (now (words .exit)) (now (floats .entry)) (now (floats .exit)) (now (nodes .entry)) (now (nodes .exit)) walk r ⌝ }
+    ensures { λ r. ⌜ Expanding (now (bridges .entry)) (now (links .entry)) (farFrom (now (query .entry)) (vectorsIn dimension (now (vectors .entry)))) size places (listIn size degree (now (rows .entry)) (now (bridges .entry))) (node .0) (now (words .entry)) (now (words .exit)) (now (floats .entry)) (now (floats .exit)) (now (nodes .entry)) (now (nodes .exit)) walk r ⌝ }
 {
     let count = gathering::gather(words, size, rows, degree, bridges, links, node);
     take_in(
@@ -181,7 +181,7 @@ fn step(
         size,
         places,
         walk,
-        node.0,
+        node,
     );
     let done = ends_after(next, places, size);
     Went { walk: next, done }
@@ -313,10 +313,10 @@ fn start(
     dimension: u32,
     size: usize,
     places: u32,
-    entry: u32,
+    entry: Node,
 ) -> Walk
     requires { ⌜ 11 * size ≤ length (now words) ⌝ }
-    ensures { λ r. ⌜ Starting (now (query .entry)) (vectorsIn dimension (now (vectors .entry))) size places entry (now (words .exit)) (now (floats .entry)) (now (floats .exit)) (now (nodes .entry)) (now (nodes .exit)) r ⌝ }
+    ensures { λ r. ⌜ Starting (now (query .entry)) (vectorsIn dimension (now (vectors .entry))) size places (entry .0) (now (words .exit)) (now (floats .entry)) (now (floats .exit)) (now (nodes .entry)) (now (nodes .exit)) r ⌝ }
 {
     prepare(words, size, places);
     let none = Walk {
@@ -347,7 +347,7 @@ fn tell(distances: &mut [f32], nodes: &[u32], floats: &[f32], count: usize)
     let many = slices::lesser(count, slices::lesser(nodes.len(), distances.len()));
     let mut i = 0;
     while i < many {
-        distances[i] = queues::distance_of(floats, nodes[i]);
+        distances[i] = queues::distance_of(floats, Node(nodes[i]));
         i += 1;
     }
 }
@@ -373,7 +373,6 @@ pub fn beam_search(
     ensures { λ r. ⌜ Searching (now (query .entry)) (now (vectors .entry)) (now (rows .entry)) degree (now (bridges .entry)) (entry .0) places (now (nodes .entry)) (now (nodes .exit)) (now (distances .entry)) (now (distances .exit)) (length (now (words .entry))) (length (now (floats .entry))) r ⌝ }
 {
     let size = rows.len() / (1 + degree as usize);
-    let from = entry.0;
     if (words.len() / 11 < size)
         | (query.len() > 4294967295)
         | (size > 1024)
@@ -394,7 +393,7 @@ pub fn beam_search(
         dimension,
         size,
         places,
-        from,
+        entry,
     );
     let last = walk_linked(
         words,

@@ -11,6 +11,7 @@ ghost use mathlib.Core.Path.{_≡_};
 ghost use Prim.Native.Nat.{_+_, _*_, _≤_, min};
 ghost use lib.ListN.{length, take};
 ghost use Rattle.beam_state.specs.State.{Pushing, PushingAll};
+use ids::Node;
 
 // How many nodes are scored, how many are held for the cutoff, the cutoff, and how many are in the answer.
 pub struct Walk {
@@ -38,11 +39,11 @@ fn push(
     size: usize,
     places: u32,
     walk: Walk,
-    node: u32,
+    node: Node,
 ) -> Walk
     requires { ⌜ 11 * size ≤ length (now words) ⌝ }
     ensures { λ r. ⌜ (take (2 * size) (now (words .exit)) ≡ take (2 * size) (now (words .entry)))
-        × Pushing size places node (now (floats .entry)) (now (words .entry)) (now (words .exit)) (now (nodes .entry)) (now (nodes .exit)) walk r ⌝ }
+        × Pushing size places (node .0) (now (floats .entry)) (now (words .entry)) (now (words .exit)) (now (nodes .entry)) (now (nodes .exit)) walk r ⌝ }
 {
     let front = 2 * size;
     let held = 6 * size;
@@ -52,7 +53,7 @@ fn push(
     queues::enter(&mut words[front..held], floats, node);
     let closest = queues::keep_closest(&mut words[held..held_end], floats, walk.held, places, node);
     let key = order::key(queues::distance_of(floats, node));
-    let kept = sorting::keep_first(&mut words[keys..end], nodes, walk.kept, key, node);
+    let kept = sorting::keep_first(&mut words[keys..end], nodes, walk.kept, key, node.0);
     Walk {
         scored: one_more(walk.scored),
         held: closest.held,
@@ -81,7 +82,7 @@ pub fn push_all(
     let mut now = walk;
     let mut i = 0;
     while i < many {
-        let node = words[size + i];
+        let node = Node(words[size + i]);
         now = push(words, floats, nodes, size, places, now, node);
         i += 1;
     }

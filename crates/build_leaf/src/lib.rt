@@ -12,6 +12,7 @@
 ghost use Prim.Native.Nat.{_+_, _≤_, _<_};
 ghost use lib.ListN.{length};
 ghost use Rattle.build_leaf.specs.Built.{RowPut, PlacePut, PlacesPut, LeafBuilt, LeavesBuilt, PlanesMade, Built};
+use ids::Node;
 
 // All leaves: `nodes` are their nodes, leaf after leaf, `sizes` how many each has, `rows` the rows of
 // all nodes, `floats` scratch.
@@ -184,7 +185,7 @@ fn one_place(
         &mut candidates[..],
         &mut far[..],
     );
-    let node = leaf[i];
+    let node = Node(leaf[i]);
     put_row(
         vectors,
         dimension,
@@ -205,15 +206,15 @@ fn put_row(
     degree: u16,
     bits: u32,
     planes: &[f32],
-    node: u32,
+    node: Node,
     candidates: &[u32],
     far: &[f32],
     rows: &mut [u32],
 )
-    ensures { λ _. ⌜ RowPut (now (vectors .entry)) dimension degree bits (now (planes .entry)) node (now (candidates .entry)) (now (far .entry)) (now (rows .entry)) (now (rows .exit)) ⌝ }
+    ensures { λ _. ⌜ RowPut (now (vectors .entry)) dimension degree bits (now (planes .entry)) (node .0) (now (candidates .entry)) (now (far .entry)) (now (rows .entry)) (now (rows .exit)) ⌝ }
 {
     let size = 1 + degree as usize;
-    let at = node as usize * size;
+    let at = node.0 as usize * size;
     let end = at + size;
     if rows.len() < end {
         return;

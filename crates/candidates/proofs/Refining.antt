@@ -87,6 +87,6 @@ module _ (list list′ : ℕ → List ℕ) (n : ℕ) (alike : (u : ℕ) → u < 
       let first : Nearest = nearest entry (farFrom vs q entry) in
       let a : aroundAll false list′ (list′ i) ≡ listsOf list (list i) = ap (aroundAll false list′) (alike i h) ∙ around-lists (list i) (within i) in
       let b : aroundAll true list′ (list′ entry) ≡ withLists list (list entry) = ap (aroundAll true list′) (alike entry e) ∙ around-with (list entry) (within entry) in
-      ap₂ (λ (x : List ℕ) (y : List ℕ). consideredAll words n vs q y (consideredAll words n vs q x first) .node) a b
-      ∙ ap (λ (z : Nearest). z .node) (both-lists words n vs q (listsOf list (list i)) (withLists list (list entry)) first
+      ap₂ (λ (x : List ℕ) (y : List ℕ). consideredAll words n vs q y (consideredAll words n vs q x first) .node .0) a b
+      ∙ ap (λ (z : Nearest). z .node .0) (both-lists words n vs q (listsOf list (list i)) (withLists list (list entry)) first
       ∙ all-refines words n reached m vs i (listsOf list (list i) ++ withLists list (list entry)) entry (either (lists-below (list i)) (with-below (list entry) (within entry))))

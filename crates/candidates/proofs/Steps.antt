@@ -130,11 +130,11 @@ module _ (words : List ℕ) (n : ℕ) (vs : List (List Float)) (query : List Flo
 
 pub start-is : (words : List ℕ) (n : ℕ) (vs : List (List Float)) (list : ℕ → List ℕ) (entry i : ℕ) (query : List Float) (far : Float) (own last : Nearest)
     → query ≡ vectorOf vs i → far ≡ farFrom vs query entry → own ≡ consideredAll words n vs query (aroundAll false list (list i)) (nearest entry far)
-    → last ≡ consideredAll words n vs query (aroundAll true list (list entry)) own → last .node ≡ startOf words n vs list entry i
+    → last ≡ consideredAll words n vs query (aroundAll true list (list entry)) own → last .node .0 ≡ startOf words n vs list entry i
 unfolding startOf
 start-is words n vs list entry i query far own last q f o l =
-    ap (λ (b : Nearest). b .node) (l ∙ ap (consideredAll words n vs query (aroundAll true list (list entry))) o)
+    ap (λ (b : Nearest). b .node .0) (l ∙ ap (consideredAll words n vs query (aroundAll true list (list entry))) o)
     ∙ ap (whole query) f ∙ ap (λ (x : List Float). whole x (farFrom vs x entry)) q
   where
     whole : List Float → Float → ℕ
-    whole x d = consideredAll words n vs x (aroundAll true list (list entry)) (consideredAll words n vs x (aroundAll false list (list i)) (nearest entry d)) .node
+    whole x d = consideredAll words n vs x (aroundAll true list (list entry)) (consideredAll words n vs x (aroundAll false list (list i)) (nearest entry d)) .node .0

@@ -12,7 +12,7 @@ use Rattle.vectors.specs.Vectors.{vectorOf}
 use Rattle.candidates.specs.declared.Nearest.{Nearest}
 
 abbrev pub nearest : ℕ → Float → Nearest
-nearest c d = record { node = c; distance = d }
+nearest c d = record { node = record { 0 = c }; distance = d }
 
 -- how far a node is from the query
 abbrev pub farFrom : List (List Float) → List Float → ℕ → Float
@@ -45,4 +45,4 @@ unfolding consideredAll aroundAll distanceOf
 startOf words n vs list entry i =
     let first : Nearest = nearest entry (farFrom vs (vectorOf vs i) entry) in
     let own : Nearest = consideredAll words n vs (vectorOf vs i) (aroundAll false list (list i)) first in
-    consideredAll words n vs (vectorOf vs i) (aroundAll true list (list entry)) own .node
+    consideredAll words n vs (vectorOf vs i) (aroundAll true list (list entry)) own .node .0

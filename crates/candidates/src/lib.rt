@@ -10,10 +10,11 @@ ghost use Rattle.chains.specs.Chains.{firstLink, linkedEnds};
 ghost use Rattle.marking.specs.Marking.{listWords};
 ghost use Rattle.vectors.specs.Vectors.{vectorsIn};
 ghost use Rattle.candidates.specs.Candidates.{considered, consideredAll, around, aroundAll, startOf};
+use ids::Node;
 
 // The nearest node so far, and how far it is.
 pub struct Nearest {
-    pub node: u32,
+    pub node: Node,
     pub distance: f32,
 }
 
@@ -27,10 +28,10 @@ pub fn bridge_start(
     n: u32,
     vectors: &[f32],
     dimension: u32,
-    entry: u32,
-    i: u32,
-) -> u32
-    ensures { λ r. ⌜ r ≡ startOf (now (state .entry)) n (vectorsIn dimension (now (vectors .entry))) (listWords degree n (now (rows .entry)) (now (bridges .entry)) (now (links .entry))) entry i ⌝ }
+    entry: Node,
+    i: Node,
+) -> Node
+    ensures { λ r. ⌜ r .0 ≡ startOf (now (state .entry)) n (vectorsIn dimension (now (vectors .entry))) (listWords degree n (now (rows .entry)) (now (bridges .entry)) (now (links .entry))) (entry .0) (i .0) ⌝ }
 {
     let query = vectors::get_vector(vectors, dimension, i);
     let far = distance::cosine_distance_normalized(
@@ -85,9 +86,9 @@ fn around_list(
     query: &[f32],
     best: Nearest,
     own: bool,
-    u: u32,
+    u: Node,
 ) -> Nearest
-    ensures { λ r. ⌜ r ≡ consideredAll (now (state .entry)) n (vectorsIn dimension (now (vectors .entry))) (now (query .entry)) (aroundAll own (listWords degree n (now (rows .entry)) (now (bridges .entry)) (now (links .entry))) (listWords degree n (now (rows .entry)) (now (bridges .entry)) (now (links .entry)) u)) best ⌝ }
+    ensures { λ r. ⌜ r ≡ consideredAll (now (state .entry)) n (vectorsIn dimension (now (vectors .entry))) (now (query .entry)) (aroundAll own (listWords degree n (now (rows .entry)) (now (bridges .entry)) (now (links .entry))) (listWords degree n (now (rows .entry)) (now (bridges .entry)) (now (links .entry)) (u .0))) best ⌝ }
 {
     let row = lists::row_of(rows, degree, u);
     let after = around_row(
@@ -151,7 +152,7 @@ fn around_row(
             query,
             near,
             own,
-            row[i],
+            Node(row[i]),
         );
         i += 1;
     }
@@ -170,9 +171,9 @@ fn around_ends(
     query: &[f32],
     best: Nearest,
     own: bool,
-    u: u32,
+    u: Node,
 ) -> Nearest
-    ensures { λ r. ⌜ r ≡ consideredAll (now (state .entry)) n (vectorsIn dimension (now (vectors .entry))) (now (query .entry)) (aroundAll own (listWords degree n (now (rows .entry)) (now (bridges .entry)) (now (links .entry))) (linkedEnds n (now (bridges .entry)) (now (links .entry)) (firstLink n (now (links .entry)) u))) best ⌝ }
+    ensures { λ r. ⌜ r ≡ consideredAll (now (state .entry)) n (vectorsIn dimension (now (vectors .entry))) (now (query .entry)) (aroundAll own (listWords degree n (now (rows .entry)) (now (bridges .entry)) (now (links .entry))) (linkedEnds n (now (bridges .entry)) (now (links .entry)) (firstLink n (now (links .entry)) (u .0)))) best ⌝ }
 {
     let mut near = best;
     let mut link = chains::first_link(links, n, u);
@@ -210,9 +211,9 @@ fn consider_around(
     query: &[f32],
     best: Nearest,
     own: bool,
-    u: u32,
+    u: Node,
 ) -> Nearest
-    ensures { λ r. ⌜ r ≡ consideredAll (now (state .entry)) n (vectorsIn dimension (now (vectors .entry))) (now (query .entry)) (around own (listWords degree n (now (rows .entry)) (now (bridges .entry)) (now (links .entry))) u) best ⌝ }
+    ensures { λ r. ⌜ r ≡ consideredAll (now (state .entry)) n (vectorsIn dimension (now (vectors .entry))) (now (query .entry)) (around own (listWords degree n (now (rows .entry)) (now (bridges .entry)) (now (links .entry))) (u .0)) best ⌝ }
 {
     if own {
         let first = consider(state, n, vectors, dimension, query, best, u);
@@ -256,9 +257,9 @@ fn consider_list(
     dimension: u32,
     query: &[f32],
     best: Nearest,
-    u: u32,
+    u: Node,
 ) -> Nearest
-    ensures { λ r. ⌜ r ≡ consideredAll (now (state .entry)) n (vectorsIn dimension (now (vectors .entry))) (now (query .entry)) (listWords degree n (now (rows .entry)) (now (bridges .entry)) (now (links .entry)) u) best ⌝ }
+    ensures { λ r. ⌜ r ≡ consideredAll (now (state .entry)) n (vectorsIn dimension (now (vectors .entry))) (now (query .entry)) (listWords degree n (now (rows .entry)) (now (bridges .entry)) (now (links .entry)) (u .0)) best ⌝ }
 {
     let row = lists::row_of(rows, degree, u);
     let after = consider_row(row, state, n, vectors, dimension, query, best);
@@ -289,7 +290,7 @@ fn consider_row(
     let mut near = best;
     let mut i: usize = 0;
     while i < row.len() {
-        near = consider(state, n, vectors, dimension, query, near, row[i]);
+        near = consider(state, n, vectors, dimension, query, near, Node(row[i]));
         i += 1;
     }
     near
@@ -304,9 +305,9 @@ fn consider_ends(
     dimension: u32,
     query: &[f32],
     best: Nearest,
-    u: u32,
+    u: Node,
 ) -> Nearest
-    ensures { λ r. ⌜ r ≡ consideredAll (now (state .entry)) n (vectorsIn dimension (now (vectors .entry))) (now (query .entry)) (linkedEnds n (now (bridges .entry)) (now (links .entry)) (firstLink n (now (links .entry)) u)) best ⌝ }
+    ensures { λ r. ⌜ r ≡ consideredAll (now (state .entry)) n (vectorsIn dimension (now (vectors .entry))) (now (query .entry)) (linkedEnds n (now (bridges .entry)) (now (links .entry)) (firstLink n (now (links .entry)) (u .0))) best ⌝ }
 {
     let mut near = best;
     let mut link = chains::first_link(links, n, u);
@@ -326,12 +327,12 @@ fn consider(
     dimension: u32,
     query: &[f32],
     best: Nearest,
-    c: u32,
+    c: Node,
 ) -> Nearest
-    ensures { λ r. ⌜ r ≡ considered (now (state .entry)) n (vectorsIn dimension (now (vectors .entry))) (now (query .entry)) c best ⌝ }
+    ensures { λ r. ⌜ r ≡ considered (now (state .entry)) n (vectorsIn dimension (now (vectors .entry))) (now (query .entry)) (c .0) best ⌝ }
 {
-    let mark = store::word_at(state, c as usize);
-    if (n <= c) | (mark == 0) {
+    let mark = store::word_at(state, c.0 as usize);
+    if (n <= c.0) | (mark == 0) {
         return best;
     }
     let d = distance::cosine_distance_normalized(query, vectors::get_vector(vectors, dimension, c));

@@ -13,6 +13,7 @@ ghost use mathlib.Core.Path.{_≡_};
 ghost use Prim.Native.Nat.{_-_, _<_, _^_};
 ghost use lib.ListN.{set};
 ghost use Rattle.chains.specs.Chains.{otherEndAt, firstLink, nextLink, clearedLinks, linkPlace, appendSlot, chainBridge};
+use ids::Node;
 
 // No node has a link: the heads and tails of n nodes are zero.
 pub fn clear_links(links: &mut [u32], n: u32)
@@ -24,24 +25,24 @@ pub fn clear_links(links: &mut [u32], n: u32)
 }
 
 // Bridge j comes to the end of both its ends' chains, once where they are one node.
-pub fn chain_bridge(links: &mut [u32], n: u32, j: u32, near: u32, far: u32)
-    ensures { λ _. ⌜ now (links .exit) ≡ chainBridge n j near far (now (links .entry)) ⌝ }
+pub fn chain_bridge(links: &mut [u32], n: u32, j: u32, near: Node, far: Node)
+    ensures { λ _. ⌜ now (links .exit) ≡ chainBridge n j (near .0) (far .0) (now (links .entry)) ⌝ }
 {
     if j >= 0x4000_0000 {
         return;
     }
     append_slot(links, n, near, 2 * j);
-    if near == far {
+    if near.0 == far.0 {
         return;
     }
     append_slot(links, n, far, 2 * j + 1);
 }
 
 // The first link of a node, 0 if there is none.
-pub fn first_link(links: &[u32], n: u32, node: u32) -> u32
-    ensures { λ r. ⌜ r ≡ firstLink n (now (links .entry)) node ⌝ }
+pub fn first_link(links: &[u32], n: u32, node: Node) -> u32
+    ensures { λ r. ⌜ r ≡ firstLink n (now (links .entry)) (node .0) ⌝ }
 {
-    let link = store::word_at(links, node as usize);
+    let link = store::word_at(links, node.0 as usize);
     if 2 * n as usize + link as usize <= links.len() {
         return link;
     }
@@ -60,8 +61,8 @@ pub fn next_link(links: &[u32], n: u32, link: u32) -> u32
 }
 
 // The node that a link leads to: the other word of the bridge that its slot is a word of.
-pub fn other_end(bridges: &[u32], link: u32) -> u32
-    ensures { λ r. ⌜ r ≡ otherEndAt (now (bridges .entry)) link ⌝ }
+pub fn other_end(bridges: &[u32], link: u32) -> Node
+    ensures { λ r. ⌜ r .0 ≡ otherEndAt (now (bridges .entry)) link ⌝ }
 {
     let slot = before(link as usize);
     let bridge = (slot / 2) as u32;
@@ -69,22 +70,22 @@ pub fn other_end(bridges: &[u32], link: u32) -> u32
 }
 
 // A slot comes to the end of a node's chain.
-fn append_slot(links: &mut [u32], n: u32, node: u32, slot: u32)
+fn append_slot(links: &mut [u32], n: u32, node: Node, slot: u32)
     requires { ⌜ slot < 2 ^ 31 ⌝ }
-    ensures { λ _. ⌜ now (links .exit) ≡ appendSlot n node slot (now (links .entry)) ⌝ }
+    ensures { λ _. ⌜ now (links .exit) ≡ appendSlot n (node .0) slot (now (links .entry)) ⌝ }
 {
-    let tail = store::word_at(links, n as usize + node as usize);
+    let tail = store::word_at(links, n as usize + node.0 as usize);
     let place = link_place(n, node, tail);
     put(links, place, slot + 1);
     put(links, 2 * n as usize + slot as usize, 0);
-    put(links, n as usize + node as usize, slot + 1);
+    put(links, n as usize + node.0 as usize, slot + 1);
 }
 
-fn link_place(n: u32, node: u32, tail: u32) -> usize
-    ensures { λ r. ⌜ r ≡ linkPlace n node tail ⌝ }
+fn link_place(n: u32, node: Node, tail: u32) -> usize
+    ensures { λ r. ⌜ r ≡ linkPlace n (node .0) tail ⌝ }
 {
     if tail == 0 {
-        return node as usize;
+        return node.0 as usize;
     }
     2 * n as usize + tail as usize - 1
 }

@@ -40,7 +40,7 @@ pub fn ensure_connectivity(
         degree,
         vectors,
         dimension,
-        entry.0,
+        entry,
         bridges,
         words,
         &mut state[..],
@@ -54,14 +54,14 @@ fn repair(
     degree: u16,
     vectors: &[f32],
     dimension: u32,
-    entry: u32,
+    entry: Node,
     bridges: &mut [u32],
     links: &mut [u32],
     state: &mut [u32],
     n: u32,
 ) -> u32
     requires { ⌜ n ≤ 1024 ⌝ }
-    ensures { λ r. ⌜ work r (now (bridges .exit)) (now (links .exit)) (now (state .exit)) ≡ turnedTo degree (now (rows .entry)) (vectorsIn dimension (now (vectors .entry))) entry n (begun degree (now (rows .entry)) (vectorsIn dimension (now (vectors .entry))) entry n (now (bridges .entry)) (now (links .entry)) (now (state .entry))) n ⌝ }
+    ensures { λ r. ⌜ work r (now (bridges .exit)) (now (links .exit)) (now (state .exit)) ≡ turnedTo degree (now (rows .entry)) (vectorsIn dimension (now (vectors .entry))) (entry .0) n (begun degree (now (rows .entry)) (vectorsIn dimension (now (vectors .entry))) (entry .0) n (now (bridges .entry)) (now (links .entry)) (now (state .entry))) n ⌝ }
 {
     chains::clear_links(links, n);
     marking::mark_reachable(rows, degree, bridges, links, state, n, entry);
@@ -92,7 +92,7 @@ fn turn(
     degree: u16,
     vectors: &[f32],
     dimension: u32,
-    entry: u32,
+    entry: Node,
     bridges: &mut [u32],
     links: &mut [u32],
     state: &mut [u32],
@@ -101,12 +101,13 @@ fn turn(
     i: u32,
 ) -> u32
     requires { ⌜ count < 1024 ⌝ }
-    ensures { λ r. ⌜ work r (now (bridges .exit)) (now (links .exit)) (now (state .exit)) ≡ turned degree (now (rows .entry)) (vectorsIn dimension (now (vectors .entry))) entry n i (work count (now (bridges .entry)) (now (links .entry)) (now (state .entry))) ⌝ }
+    ensures { λ r. ⌜ work r (now (bridges .exit)) (now (links .exit)) (now (state .exit)) ≡ turned degree (now (rows .entry)) (vectorsIn dimension (now (vectors .entry))) (entry .0) n i (work count (now (bridges .entry)) (now (links .entry)) (now (state .entry))) ⌝ }
 {
     let mark = store::word_at(state, i as usize);
     if 0 < mark {
         return count;
     }
+    let node = Node(i);
     let near = candidates::bridge_start(
         rows,
         degree,
@@ -117,17 +118,17 @@ fn turn(
         vectors,
         dimension,
         entry,
-        i,
+        node,
     );
-    put_bridge(bridges, count, near, i);
-    chains::chain_bridge(links, n, count, near, i);
-    marking::mark_reachable(rows, degree, bridges, links, state, n, i);
+    put_bridge(bridges, count, near, node);
+    chains::chain_bridge(links, n, count, near, node);
+    marking::mark_reachable(rows, degree, bridges, links, state, n, node);
     count + 1
 }
 
-fn put_bridge(bridges: &mut [u32], count: u32, near: u32, far: u32)
-    ensures { λ _. ⌜ now (bridges .exit) ≡ putBridge count near far (now (bridges .entry)) ⌝ }
+fn put_bridge(bridges: &mut [u32], count: u32, near: Node, far: Node)
+    ensures { λ _. ⌜ now (bridges .exit) ≡ putBridge count (near .0) (far .0) (now (bridges .entry)) ⌝ }
 {
-    chains::put(bridges, 2 * count as usize, near);
-    chains::put(bridges, 2 * count as usize + 1, far);
+    chains::put(bridges, 2 * count as usize, near.0);
+    chains::put(bridges, 2 * count as usize + 1, far.0);
 }

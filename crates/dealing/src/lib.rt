@@ -19,6 +19,7 @@ ghost use Rattle.dealing.specs.Marks.{run, marksOf};
 ghost use Rattle.dealing.specs.Cards.{cardOf, names, bucketAt, bucketsBy};
 ghost use Rattle.dealing.specs.Deal.{Fitting, Holding, Deals};
 ghost use Rattle.dealing.specs.Steps.{Holds, Gathers, Roomy, Dealt, noneYet};
+use ids::Node;
 
 // To how many of its nearest leaders a node goes; 0: a segment of any size is a leaf.
 pub fn fan_of(level: u32) -> u32
@@ -148,8 +149,8 @@ fn draw(level: u32, ids: &[u32], left: &mut [u32], leaders: &mut [u32])
 fn rank_of(vectors: &[f32], dimension: u32, a: u32, b: u32) -> u32
     ensures { λ r. ⌜ r ≡ rank (vectorsIn dimension (now (vectors .entry))) a b ⌝ }
 {
-    let from = vectors::get_vector(vectors, dimension, a);
-    let to = vectors::get_vector(vectors, dimension, b);
+    let from = vectors::get_vector(vectors, dimension, Node(a));
+    let to = vectors::get_vector(vectors, dimension, Node(b));
     order::key(distance::cosine_distance_normalized(from, to))
 }
 

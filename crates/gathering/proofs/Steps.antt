@@ -213,11 +213,11 @@ pub record Followed (n : ℕ) (bridges links : List ℕ) (first link : ℕ) (wor
   pub onward : (words′ : List ℕ) (r : ℕ) → Gathering n count (linkedEnds n bridges links link) words words′ r → Gathering n count₀ (linkedEnds n bridges links first) words₀ words′ r
 
 module _ (n : ℕ) (bridges links : List ℕ) where
-  pub followed-none : (u link : ℕ) (words : List ℕ) (count : ℕ) → link ≡ firstLink n links u → Followed n bridges links (firstLink n links u) link words count words count
+  pub followed-none : (u link : ℕ) (words : List ℕ) (count : ℕ) → link ≡ firstLink n links u → Followed n bridges links link link words count words count
   followed-none u link words count e = record {
     place = omega (arith, first-place n links u);
     kept = refl;
-    onward = λ words′ r g. subst (λ (k : ℕ). Gathering n count (linkedEnds n bridges links k) words words′ r) e g;
+    onward = λ words′ r g. g;
   }
 
   module _ {first link count₀ count : ℕ} {words₀ words : List ℕ} (p : Followed n bridges links first link words₀ count₀ words count) where
@@ -241,10 +241,10 @@ module _ (n : ℕ) (bridges links : List ℕ) where
           ap (λ (m : ℕ). length (linkedEnds n bridges links m)) e,
         )
 
-    pub followed-all : link ≡ 0 → Gathering n count₀ (linkedEnds n bridges links first) words₀ words count
-    followed-all e =
-        p .onward words count
-        (subst (λ (l : List ℕ). Gathering n count l words words count) (sym (ap (linkedEnds n bridges links) e ∙ linked-none n bridges links)) (gathering-none n count words))
+    pub followed-all : (u : ℕ) → first ≡ firstLink n links u → link ≡ 0 → Gathering n count₀ (linkedEnds n bridges links (firstLink n links u)) words₀ words count
+    followed-all u f e =
+        rw f at (p .onward words count
+        (subst (λ (l : List ℕ). Gathering n count l words words count) (sym (ap (linkedEnds n bridges links) e ∙ linked-none n bridges links)) (gathering-none n count words)))
 
 -- what is read from a node's first link on is the other ends of its bridges
 pub linked-ends : (n : ℕ) (bridges links : List ℕ) (u : ℕ) → Linked n bridges links → u < n → linkedEnds n bridges links (firstLink n links u) ≡ otherEnds (bridgeList bridges) u

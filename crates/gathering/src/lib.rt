@@ -11,6 +11,7 @@ ghost use Prim.Native.Nat.{_+_, _≤_};
 ghost use lib.ListN.{length};
 ghost use Rattle.chains.specs.Chains.{firstLink, linkedEnds};
 ghost use Rattle.gathering.specs.Gathering.{Gathering, GatheringAll, GatheringList};
+use ids::Node;
 
 // Marks a node, and puts it behind the `count` fresh ones that are there; it stays there as one of them if it
 // was not marked. Gives how many there are then. Which nodes are fresh cannot be foretold, so there is no
@@ -53,15 +54,15 @@ fn visit_ends(
     count: usize,
     bridges: &[u32],
     links: &[u32],
-    node: u32,
+    node: Node,
 ) -> usize
     requires { ⌜ n + n ≤ length (now words) ⌝ }
-    ensures { λ r. ⌜ Gathering n count (linkedEnds n (now (bridges .entry)) (now (links .entry)) (firstLink n (now (links .entry)) node)) (now (words .entry)) (now (words .exit)) r ⌝ }
+    ensures { λ r. ⌜ Gathering n count (linkedEnds n (now (bridges .entry)) (now (links .entry)) (firstLink n (now (links .entry)) (node .0))) (now (words .entry)) (now (words .exit)) r ⌝ }
 {
     let mut fresh = count;
     let mut link = chains::first_link(links, n, node);
     while link != 0 {
-        fresh = visit(words, n as usize, fresh, chains::other_end(bridges, link));
+        fresh = visit(words, n as usize, fresh, chains::other_end(bridges, link).0);
         link = chains::next_link(links, n, link);
     }
     fresh
@@ -75,9 +76,9 @@ pub fn gather(
     degree: u16,
     bridges: &[u32],
     links: &[u32],
-    node: u32,
+    node: Node,
 ) -> usize
-    ensures { λ r. ⌜ GatheringList size degree (now (rows .entry)) (now (bridges .entry)) (now (links .entry)) node (now (words .entry)) (now (words .exit)) r ⌝ }
+    ensures { λ r. ⌜ GatheringList size degree (now (rows .entry)) (now (bridges .entry)) (now (links .entry)) (node .0) (now (words .entry)) (now (words .exit)) r ⌝ }
 {
     if words.len() / 2 < size {
         return 0;
@@ -92,11 +93,11 @@ pub fn gather(
 }
 
 // Marks the one node that a walk starts at: the first fresh node.
-pub fn begin(words: &mut [u32], size: usize, node: u32) -> usize
-    ensures { λ r. ⌜ GatheringAll size (node ∷ []) (now (words .entry)) (now (words .exit)) r ⌝ }
+pub fn begin(words: &mut [u32], size: usize, node: Node) -> usize
+    ensures { λ r. ⌜ GatheringAll size (node .0 ∷ []) (now (words .entry)) (now (words .exit)) r ⌝ }
 {
     if words.len() / 2 < size {
         return 0;
     }
-    visit(words, size, 0, node)
+    visit(words, size, 0, node.0)
 }

@@ -28,6 +28,7 @@ ghost use Rattle.hashprune.specs.Steps.{cellIn, cellsIn, Placed, inserte
 ghost use Rattle.hashprune.specs.Steps.{CellRoom, PlaceRoom, RowRoom, SortRoom, SelectRoom, Selected, MergeRoom, TurnRoom, Scratch, turned};
 ghost use Rattle.hashprune.specs.Steps.{rankedPlace, selectedPairs, oldPairs, mergedPairs};
 ghost use Rattle.hashprune.specs.Hashprune.{Inserted};
+use ids::Node;
 
 // The hash of a candidate's residual, seen from p.
 fn hash_of(p: &[f32], c: &[f32], planes: &[f32], bits: u32) -> u32
@@ -118,11 +119,11 @@ fn hash_of_node(
     vectors: &[f32],
     dimension: u32,
     p: &[f32],
-    node: u32,
+    node: Node,
     planes: &[f32],
     bits: u32,
 ) -> u32
-    ensures { λ r. ⌜ r ≡ hashBy (now (planes .entry)) bits (now (p .entry)) (vectorOf (vectorsIn dimension (now (vectors .entry))) node) ⌝ }
+    ensures { λ r. ⌜ r ≡ hashBy (now (planes .entry)) bits (now (p .entry)) (vectorOf (vectorsIn dimension (now (vectors .entry))) (node .0)) ⌝ }
 {
     let c = vectors::get_vector(vectors, dimension, node);
     hash_of(p, c, planes, bits)
@@ -148,7 +149,7 @@ fn fill_cells(
     let mut held: usize = 0;
     let mut i: usize = 0;
     while i < candidates.len() {
-        let hash = hash_of_node(vectors, dimension, p, candidates[i], planes, bits);
+        let hash = hash_of_node(vectors, dimension, p, Node(candidates[i]), planes, bits);
         held = put_cell(hashes, places, held, hash, i as u32, far);
         i += 1;
     }
@@ -171,8 +172,8 @@ fn rank_places(candidates: &[u32], far: &[f32], places: &[u32], keys: &mut [u32]
     }
 }
 
-fn node_key(vectors: &[f32], dimension: u32, p: &[f32], node: u32) -> u32
-    ensures { λ r. ⌜ r ≡ keyOf binary32 (distanceOf binary32 (now (p .entry)) (vectorOf (vectorsIn dimension (now (vectors .entry))) node)) ⌝ }
+fn node_key(vectors: &[f32], dimension: u32, p: &[f32], node: Node) -> u32
+    ensures { λ r. ⌜ r ≡ keyOf binary32 (distanceOf binary32 (now (p .entry)) (vectorOf (vectorsIn dimension (now (vectors .entry))) (node .0))) ⌝ }
 {
     let x = vectors::get_vector(vectors, dimension, node);
     order::key(distance::cosine_distance_normalized(p, x))
@@ -194,11 +195,11 @@ fn rank_row(
         × (now (ids .exit) ≡ idsOf (oldPairs (now (vectors .entry)) dimension (now (p .entry)) (now (row .entry))) (now (ids .entry))) ⌝ }
 {
     let degree = (row.len() - 1) as u16;
-    let entries = lists::row_of(row, degree, 0);
+    let entries = lists::row_of(row, degree, Node(0));
     let mut i: usize = 0;
     while i < entries.len() {
         let node = entries[i];
-        keys[i] = node_key(vectors, dimension, p, node);
+        keys[i] = node_key(vectors, dimension, p, Node(node));
         ids[i] = node;
         i += 1;
     }
@@ -390,12 +391,12 @@ pub fn hashprune_insert(
     dimension: u32,
     bits: u32,
     planes: &[f32],
-    p: u32,
+    p: Node,
     candidates: &[u32],
     far: &[f32],
     row: &mut [u32],
 )
-    ensures { λ _. ⌜ Inserted (now (vectors .entry)) dimension bits (now (planes .entry)) p (now (candidates .entry)) (now (far .entry)) (now (row .entry)) (now (row .exit)) ⌝ }
+    ensures { λ _. ⌜ Inserted (now (vectors .entry)) dimension bits (now (planes .entry)) (p .0) (now (candidates .entry)) (now (far .entry)) (now (row .entry)) (now (row .exit)) ⌝ }
 {
     if candidates.len() > 64 {
         return;

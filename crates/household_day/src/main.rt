@@ -9,6 +9,7 @@
 ghost use Prim.Native.Nat.{_≤_};
 ghost use lib.ListN.{length};
 use household::Household;
+use ids::DocId;
 use libc::STDIN_FILENO;
 use libc::STDOUT_FILENO;
 
@@ -54,7 +55,7 @@ fn digit_of(b: u8) -> u64
 }
 
 pub enum Line {
-    Sighting(u64, u32),
+    Sighting(u64, DocId),
     Other,
 }
 
@@ -78,7 +79,7 @@ fn line_of(text: &[u8]) -> Line {
     if doc > 0xffff_ffff {
         return Line::Other;
     }
-    Line::Sighting(second, doc as u32)
+    Line::Sighting(second, DocId(doc as u32))
 }
 
 // Where the line that starts at `at` ends.
@@ -114,7 +115,7 @@ fn put(line: Line, seconds: &mut [u64], docs: &mut [u32], tally: Tally) -> Tally
     if at < seconds.len() {
         if at < docs.len() {
             seconds[at] = second;
-            docs[at] = doc;
+            docs[at] = doc.0;
             return Tally {
                 sightings: at + 1,
                 others: tally.others,

@@ -14,6 +14,7 @@ ghost use Prim.Native.Nat.{_+_, _*_, _≤_, _<_};
 ghost use lib.ListN.{length, take, drop};
 ghost use Rattle.vectors.specs.Vectors.{vectorsIn};
 ghost use Rattle.leaf_distances.specs.Lanes.{eightList, LanePut, BlockTurned, LanesFilled, Distances};
+use ids::Node;
 use simd::Eight;
 
 // The distances of the eight places from `first` on to every place of the leaf. A place past the last
@@ -52,7 +53,7 @@ fn turn_block(vectors: &[f32], dimension: u32, leaf: &[u32], first: usize, block
     let mut g: usize = 0;
     while g < 8 {
         let place = slices::lesser(first + g, last);
-        let v = vectors::get_vector(vectors, dimension, leaf[place]);
+        let v = vectors::get_vector(vectors, dimension, Node(leaf[place]));
         put_lane(block, g, v);
         g += 1;
     }
@@ -80,7 +81,7 @@ fn distance_rows(vectors: &[f32], dimension: u32, leaf: &[u32], block: &[f32], f
     let mut at: usize = 0;
     let mut j: usize = 0;
     while j < leaf.len() {
-        let v = vectors::get_vector(vectors, dimension, leaf[j]);
+        let v = vectors::get_vector(vectors, dimension, Node(leaf[j]));
         put_eight(
             floats,
             at,

@@ -21,6 +21,7 @@ ghost use mathlib.Core.List.{[]};
 ghost use lib.ListN.{getD};
 ghost use Rattle.store.specs.Layout.{word, bridgeSize};
 ghost use Rattle.lists.specs.Words.{blockAt, rowLists};
+use ids::Node;
 
 // Blocks of `stride` words each, one after the other: rows, or bridges.
 pub struct ListView<'a> {
@@ -65,11 +66,11 @@ pub fn block_in(words: &[u32], stride: u32, i: u32) -> &[u32]
 
 // The entries of a node's row, where rows have room for `degree` entries. A node that is not there has none.
 // A count above the room counts them all.
-pub fn row_of(rows: &[u32], degree: u16, node: u32) -> &[u32]
-    ensures { λ r. ⌜ now r ≡ getD (rowLists degree (now (rows .entry))) node [] ⌝ }
+pub fn row_of(rows: &[u32], degree: u16, node: Node) -> &[u32]
+    ensures { λ r. ⌜ now r ≡ getD (rowLists degree (now (rows .entry))) (node .0) [] ⌝ }
 {
     let stride = 1 + degree as u32;
-    let row = block_in(rows, stride, node);
+    let row = block_in(rows, stride, node.0);
     let none: usize = 0;
     if row.len() < stride as usize {
         return &row[none..none];
@@ -84,10 +85,10 @@ pub fn row_of(rows: &[u32], degree: u16, node: u32) -> &[u32]
 }
 
 // An entry of a node's row, 0 where there is none.
-pub fn entry_of(rows: &[u32], degree: u16, node: u32, e: usize) -> u32
-    ensures { λ r. ⌜ r ≡ getD (getD (rowLists degree (now (rows .entry))) node []) e 0 ⌝ }
+pub fn entry_of(rows: &[u32], degree: u16, node: Node, e: usize) -> Node
+    ensures { λ r. ⌜ r .0 ≡ getD (getD (rowLists degree (now (rows .entry))) (node .0) []) e 0 ⌝ }
 {
-    store::word_at(row_of(rows, degree, node), e)
+    Node(store::word_at(row_of(rows, degree, node), e))
 }
 
 // Which word of a bridge is which end.
@@ -96,9 +97,9 @@ pub const NEAR: usize = 0;
 pub const FAR: usize = 1;
 
 // An end of a bridge, 0 where there is none.
-pub fn end_of(bridges: &[u32], bridge: u32, side: usize) -> u32
-    ensures { λ r. ⌜ r ≡ word (blockAt bridgeSize bridge (now (bridges .entry))) side ⌝ }
+pub fn end_of(bridges: &[u32], bridge: u32, side: usize) -> Node
+    ensures { λ r. ⌜ r .0 ≡ word (blockAt bridgeSize bridge (now (bridges .entry))) side ⌝ }
 {
     let stride = store::BRIDGE_SIZE as u32;
-    store::word_at(block_in(bridges, stride, bridge), side)
+    Node(store::word_at(block_in(bridges, stride, bridge), side))
 }

@@ -10,6 +10,7 @@
 ghost use mathlib.Core.Path.{_≡_};
 ghost use Rattle.chains.specs.Chains.{firstLink, linkedEnds};
 ghost use Rattle.marking.specs.Marking.{marks, visited, visitedAll, marked, listWords};
+use ids::Node;
 
 // Marks every node that the lists lead to from a node that is not marked; from a marked one, nothing.
 pub fn mark_reachable(
@@ -19,16 +20,16 @@ pub fn mark_reachable(
     links: &[u32],
     state: &mut [u32],
     n: u32,
-    start: u32,
+    start: Node,
 )
-    ensures { λ _. ⌜ now (state .exit) ≡ marked n (listWords degree n (now (rows .entry)) (now (bridges .entry)) (now (links .entry))) start (now (state .entry)) ⌝ }
+    ensures { λ _. ⌜ now (state .exit) ≡ marked n (listWords degree n (now (rows .entry)) (now (bridges .entry)) (now (links .entry))) (start .0) (now (state .entry)) ⌝ }
 {
-    let mut top = visit(state, n, 0, start);
+    let mut top = visit(state, n, 0, start.0);
     let mut more = n;
     while (0 < top) & (0 < more) {
         top -= 1;
         more -= 1;
-        let u = store::word_at(state, n as usize + top as usize);
+        let u = Node(store::word_at(state, n as usize + top as usize));
         top = visit_list(rows, degree, bridges, links, state, n, top, u);
     }
 }
@@ -42,9 +43,9 @@ fn visit_list(
     state: &mut [u32],
     n: u32,
     top: u32,
-    u: u32,
+    u: Node,
 ) -> u32
-    ensures { λ r. ⌜ marks (now (state .exit)) r ≡ visitedAll n (listWords degree n (now (rows .entry)) (now (bridges .entry)) (now (links .entry)) u) (marks (now (state .entry)) top) ⌝ }
+    ensures { λ r. ⌜ marks (now (state .exit)) r ≡ visitedAll n (listWords degree n (now (rows .entry)) (now (bridges .entry)) (now (links .entry)) (u .0)) (marks (now (state .entry)) top) ⌝ }
 {
     let row = lists::row_of(rows, degree, u);
     let after = visit_row(row, state, n, top);
@@ -63,13 +64,13 @@ fn visit_row(row: &[u32], state: &mut [u32], n: u32, top: u32) -> u32
     front
 }
 
-fn visit_ends(bridges: &[u32], links: &[u32], state: &mut [u32], n: u32, top: u32, u: u32) -> u32
-    ensures { λ r. ⌜ marks (now (state .exit)) r ≡ visitedAll n (linkedEnds n (now (bridges .entry)) (now (links .entry)) (firstLink n (now (links .entry)) u)) (marks (now (state .entry)) top) ⌝ }
+fn visit_ends(bridges: &[u32], links: &[u32], state: &mut [u32], n: u32, top: u32, u: Node) -> u32
+    ensures { λ r. ⌜ marks (now (state .exit)) r ≡ visitedAll n (linkedEnds n (now (bridges .entry)) (now (links .entry)) (firstLink n (now (links .entry)) (u .0))) (marks (now (state .entry)) top) ⌝ }
 {
     let mut front = top;
     let mut link = chains::first_link(links, n, u);
     while link != 0 {
-        front = visit(state, n, front, chains::other_end(bridges, link));
+        front = visit(state, n, front, chains::other_end(bridges, link).0);
         link = chains::next_link(links, n, link);
     }
     front

@@ -9,6 +9,7 @@
 // Everything here is proved safe on every line, state and store, and nothing more: what is printed is
 // compared with recorded runs. It leans on `pipnn`, `build` and `search` for the calls.
 use ids::DocId;
+use ids::Node;
 use params::PipnnParams;
 use probe_text::CAP;
 use probe_text::HEADERS;
@@ -134,13 +135,13 @@ fn header_line(
 }
 
 fn add_line(
-    doc: u32,
+    doc: DocId,
     vector: &[f32],
     words: &mut [u32],
     floats: &mut [f32],
     out: &mut [u8],
 ) -> Printed {
-    let number = pipnn::add_slice(words, floats, DocId(doc), vector);
+    let number = pipnn::add_slice(words, floats, doc, vector);
     Printed::Bytes(probe_text::print_refusal(out, number))
 }
 
@@ -154,7 +155,7 @@ fn print_build(out: &mut [u8], number: u32, words: &[u32]) -> usize {
     if number != 0 {
         return probe_text::print_refusal(out, number);
     }
-    let entry = store::word_at(words, store::ENTRY);
+    let entry = Node(store::word_at(words, store::ENTRY));
     let bridges = store::word_at(words, store::BRIDGE_COUNT);
     probe_text::print_built(out, entry, bridges)
 }

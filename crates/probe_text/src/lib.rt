@@ -7,6 +7,8 @@
 // recorded runs. It leans on `replay` and `io` for digits, on `bits` for floats.
 ghost use Prim.Native.Nat.{_+_};
 ghost use Rattle.probe_text.specs.Places.{EndsFrom};
+use ids::DocId;
+use ids::Node;
 
 // The header lines, in 01's order: dim, leaf, min, fraction, degree, bits, final, alpha, ef, cap.
 pub const HEADERS: usize = 10;
@@ -20,7 +22,7 @@ pub const CAP: usize = 9;
 // What a line is. Components stand beside it, `count` of them.
 pub enum Read {
     Header { key: usize, value: u64 },
-    Add { doc: u32, count: usize },
+    Add { doc: DocId, count: usize },
     Build,
     Find { k: u32, ef: u32, count: usize },
     Other,
@@ -200,7 +202,7 @@ fn add_at(line: &[u8], at: usize, vector: &mut [f32]) -> Read {
         return Read::Other;
     };
     Read::Add {
-        doc: word(doc),
+        doc: DocId(word(doc)),
         count,
     }
 }
@@ -295,9 +297,9 @@ pub fn print_refusal(out: &mut [u8], number: u32) -> usize {
 }
 
 // Prints what a build made.
-pub fn print_built(out: &mut [u8], entry: u32, bridges: u32) -> usize {
+pub fn print_built(out: &mut [u8], entry: Node, bridges: u32) -> usize {
     let mut at = put(out, 0, b"entry=");
-    at = put_decimal(out, at, entry as u64);
+    at = put_decimal(out, at, entry.0 as u64);
     at = put(out, at, b" bridges=");
     at = put_decimal(out, at, bridges as u64);
     put_byte(out, at, b'\n')

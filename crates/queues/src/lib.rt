@@ -37,10 +37,10 @@ pub struct Closest {
 }
 
 // A node's distance; infinity for one that has none.
-pub fn distance_of(floats: &[f32], node: u32) -> f32
-    ensures { λ r. ⌜ r ≡ getD (now (floats .entry)) node (inf false) ⌝ }
+pub fn distance_of(floats: &[f32], node: Node) -> f32
+    ensures { λ r. ⌜ r ≡ getD (now (floats .entry)) (node .0) (inf false) ⌝ }
 {
-    let at = node as usize;
+    let at = node.0 as usize;
     if at < floats.len() {
         return floats[at];
     }
@@ -48,11 +48,11 @@ pub fn distance_of(floats: &[f32], node: u32) -> f32
 }
 
 // Puts a node into the frontier.
-pub fn enter(tree: &mut [u32], floats: &[f32], node: u32)
-    ensures { λ _. ⌜ Entering node (now (floats .entry)) (now (tree .entry)) (now (tree .exit)) ⌝ }
+pub fn enter(tree: &mut [u32], floats: &[f32], node: Node)
+    ensures { λ _. ⌜ Entering (node .0) (now (floats .entry)) (now (tree .entry)) (now (tree .exit)) ⌝ }
 {
     let key = order::key(distance_of(floats, node));
-    tournament::put(tree, node, key, node);
+    tournament::put(tree, node.0, key, node.0);
 }
 
 // Takes the nearest node from the frontier, the lower one of equally near nodes.
@@ -60,12 +60,13 @@ pub fn pop(tree: &mut [u32], floats: &[f32]) -> Popped
     ensures { λ r. ⌜ Popping (now (floats .entry)) (now (tree .entry)) (now (tree .exit)) r ⌝ }
 {
     let top = tournament::first(tree);
-    let node = top.id;
-    if node == NOTHING {
+    let id = top.id;
+    if id == NOTHING {
         return Popped::Empty;
     }
-    tournament::put(tree, node, NOTHING, NOTHING);
-    Popped::At(distance_of(floats, node), Node(node))
+    tournament::put(tree, id, NOTHING, NOTHING);
+    let node = Node(id);
+    Popped::At(distance_of(floats, node), node)
 }
 
 // Puts a distance at a place of the held.
@@ -89,8 +90,8 @@ fn worst_of(tree: &[u32]) -> f32
 // Offers a scored node to the held, of which there are so many places, and gives the cutoff: infinity where
 // the node went to a free place, also the last one, else the worst distance held. A node takes the worst's
 // place where its distance is less, as numbers are compared.
-pub fn keep_closest(tree: &mut [u32], floats: &[f32], held: u32, places: u32, node: u32) -> Closest
-    ensures { λ r. ⌜ Keeping places held node (now (floats .entry)) (now (tree .entry)) (now (tree .exit)) r ⌝ }
+pub fn keep_closest(tree: &mut [u32], floats: &[f32], held: u32, places: u32, node: Node) -> Closest
+    ensures { λ r. ⌜ Keeping places held (node .0) (now (floats .entry)) (now (tree .entry)) (now (tree .exit)) r ⌝ }
 {
     let distance = distance_of(floats, node);
     if held < places {

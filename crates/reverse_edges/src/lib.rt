@@ -13,6 +13,7 @@ ghost use lib.ListN.{length};
 ghost use Prim.Native.Nat.{_≤_};
 ghost use Rattle.basics.specs.Nodes.{has};
 ghost use Rattle.reverse_edges.specs.Reversed.{Reversed, Turned, BackAdded, EntryAdded};
+use ids::Node;
 
 // The rows of n nodes, each a count and `degree` entries, and at most 1,024 of them. Words that are no
 // such rows are left with some content.
@@ -23,14 +24,14 @@ pub fn add_reverse_edges(rows: &mut [u32], degree: u16)
     let n = slices::lesser(rows.len() / size, 1024) as u32;
     let mut i: u32 = 0;
     while i < n {
-        add_backs(rows, degree, i);
+        add_backs(rows, degree, Node(i));
         i += 1;
     }
 }
 
 // A node's turn: it goes to the rows of its neighbours, in their order.
-fn add_backs(rows: &mut [u32], degree: u16, node: u32)
-    ensures { λ _. ⌜ Turned degree node (now (rows .entry)) (now (rows .exit)) ⌝ }
+fn add_backs(rows: &mut [u32], degree: u16, node: Node)
+    ensures { λ _. ⌜ Turned degree (node .0) (now (rows .entry)) (now (rows .exit)) ⌝ }
 {
     let count = lists::row_of(rows, degree, node).len();
     let mut e: usize = 0;
@@ -42,16 +43,16 @@ fn add_backs(rows: &mut [u32], degree: u16, node: u32)
 }
 
 // The node goes to the row of one neighbour. A neighbour that is not there is passed over.
-fn add_back(rows: &mut [u32], degree: u16, node: u32, nb: u32)
-    ensures { λ _. ⌜ BackAdded degree node nb (now (rows .entry)) (now (rows .exit)) ⌝ }
+fn add_back(rows: &mut [u32], degree: u16, node: Node, nb: Node)
+    ensures { λ _. ⌜ BackAdded degree (node .0) (nb .0) (now (rows .entry)) (now (rows .exit)) ⌝ }
 {
     let size = 1 + degree as usize;
-    let at = nb as usize * size;
+    let at = nb.0 as usize * size;
     let end = at + size;
     if rows.len() < end {
         return;
     }
-    add_entry(&mut rows[at..end], node);
+    add_entry(&mut rows[at..end], node.0);
 }
 
 // One row: the node goes to its end, if the row lacks it and has room. A row's words are at most 65,536.

@@ -7,20 +7,21 @@ ghost use lib.ListN.{length, set, take, drop};
 ghost use Rattle.vectors.specs.Vectors.{vectorsIn};
 ghost use Rattle.beam.specs.Beam.{farFrom};
 ghost use Rattle.scoring.specs.Scoring.{scoredAt, scoredEight, placedEight};
+use ids::Node;
 use simd::Eight;
 
 // A distance goes to its node's place, where there is one.
-fn place(floats: &mut [f32], node: u32, distance: f32)
-    ensures { λ _. ⌜ now (floats .exit) ≡ set (now (floats .entry)) node distance ⌝ }
+fn place(floats: &mut [f32], node: Node, distance: f32)
+    ensures { λ _. ⌜ now (floats .exit) ≡ set (now (floats .entry)) (node .0) distance ⌝ }
 {
-    let at = node as usize;
+    let at = node.0 as usize;
     if at < floats.len() {
         floats[at] = distance;
     }
 }
 
-fn score_one(floats: &mut [f32], query: &[f32], vectors: &[f32], dimension: u32, node: u32)
-    ensures { λ _. ⌜ now (floats .exit) ≡ set (now (floats .entry)) node (farFrom (now (query .entry)) (vectorsIn dimension (now (vectors .entry))) node) ⌝ }
+fn score_one(floats: &mut [f32], query: &[f32], vectors: &[f32], dimension: u32, node: Node)
+    ensures { λ _. ⌜ now (floats .exit) ≡ set (now (floats .entry)) (node .0) (farFrom (now (query .entry)) (vectorsIn dimension (now (vectors .entry))) (node .0)) ⌝ }
 {
     let vector = vectors::get_vector(vectors, dimension, node);
     let d = distance::cosine_distance_normalized(query, vector);
@@ -32,14 +33,14 @@ fn eight(query: &[f32], vectors: &[f32], dimension: u32, nodes: &[u32], at: usiz
     requires { ⌜ at + 8 ≤ length (now nodes) ⌝ }
     ensures { λ r. ⌜ r ≡ scoredEight (farFrom (now (query .entry)) (vectorsIn dimension (now (vectors .entry)))) (now (nodes .entry)) at ⌝ }
 {
-    let a = vectors::get_vector(vectors, dimension, nodes[at]);
-    let b = vectors::get_vector(vectors, dimension, nodes[at + 1]);
-    let c = vectors::get_vector(vectors, dimension, nodes[at + 2]);
-    let d = vectors::get_vector(vectors, dimension, nodes[at + 3]);
-    let e = vectors::get_vector(vectors, dimension, nodes[at + 4]);
-    let f = vectors::get_vector(vectors, dimension, nodes[at + 5]);
-    let g = vectors::get_vector(vectors, dimension, nodes[at + 6]);
-    let h = vectors::get_vector(vectors, dimension, nodes[at + 7]);
+    let a = vectors::get_vector(vectors, dimension, Node(nodes[at]));
+    let b = vectors::get_vector(vectors, dimension, Node(nodes[at + 1]));
+    let c = vectors::get_vector(vectors, dimension, Node(nodes[at + 2]));
+    let d = vectors::get_vector(vectors, dimension, Node(nodes[at + 3]));
+    let e = vectors::get_vector(vectors, dimension, Node(nodes[at + 4]));
+    let f = vectors::get_vector(vectors, dimension, Node(nodes[at + 5]));
+    let g = vectors::get_vector(vectors, dimension, Node(nodes[at + 6]));
+    let h = vectors::get_vector(vectors, dimension, Node(nodes[at + 7]));
     distance::cosine_distance_normalized8(query, a, b, c, d, e, f, g, h)
 }
 
@@ -47,14 +48,14 @@ fn place_eight(floats: &mut [f32], nodes: &[u32], at: usize, distances: Eight)
     requires { ⌜ at + 8 ≤ length (now nodes) ⌝ }
     ensures { λ _. ⌜ now (floats .exit) ≡ placedEight (now (nodes .entry)) at distances (now (floats .entry)) ⌝ }
 {
-    place(floats, nodes[at], distances.a);
-    place(floats, nodes[at + 1], distances.b);
-    place(floats, nodes[at + 2], distances.c);
-    place(floats, nodes[at + 3], distances.d);
-    place(floats, nodes[at + 4], distances.e);
-    place(floats, nodes[at + 5], distances.f);
-    place(floats, nodes[at + 6], distances.g);
-    place(floats, nodes[at + 7], distances.h);
+    place(floats, Node(nodes[at]), distances.a);
+    place(floats, Node(nodes[at + 1]), distances.b);
+    place(floats, Node(nodes[at + 2]), distances.c);
+    place(floats, Node(nodes[at + 3]), distances.d);
+    place(floats, Node(nodes[at + 4]), distances.e);
+    place(floats, Node(nodes[at + 5]), distances.f);
+    place(floats, Node(nodes[at + 6]), distances.g);
+    place(floats, Node(nodes[at + 7]), distances.h);
 }
 
 fn score_eight(
@@ -85,7 +86,7 @@ fn score_rest(
 {
     let mut i = from;
     while i < nodes.len() {
-        score_one(floats, query, vectors, dimension, nodes[i]);
+        score_one(floats, query, vectors, dimension, Node(nodes[i]));
         i += 1;
     }
 }

@@ -1,5 +1,5 @@
--- The reply to a scaled query, from what a walk over the store's parts leaves: on a well-formed store the walk's graph is the view's, and the two
--- outputs, of which the front was lent, are written as far as nodes were found. Assumes nothing.
+-- The reply to a scaled query, from what a walk over the store's parts leaves: on a well-formed store the walk's graph is the view's. The nodes found
+-- stand at the front of an array, and both outputs are written as far as nodes were found. Assumes nothing.
 use mathlib.Core.Path.{_≡_, refl, sym, ap, ap₂, subst, _∙_}
 use mathlib.Core.Logic.{⊎-elim}
 use mathlib.Core.List.{List, [], _∷_, _++_, map, append-assoc}
@@ -9,7 +9,7 @@ use native.Mathlib.Nat.{mul-div-cancel}
 use native.Mathlib.Omega.{arith}
 use lib.Dec.{ltb, lt→ltb}
 use lib.ListN.{length, getD, take, drop, length-append, length-drop, length-map, take-append-drop}
-use lib.Seq.{length-take-le, take-at, drop-at, drop-append-le}
+use lib.Seq.{length-take-le, take-at, drop-append-le}
 use lib.Ieee.{Float}
 use borrow.Author.Tests.{ltb-false}
 use Rattle.basics.specs.Choice.{pick-yes}
@@ -53,7 +53,7 @@ map-in : (g h : ℕ → ℕ) (l : List ℕ) → ((x : ℕ) → In x l → g x �
 map-in g h [] e = refl
 map-in g h (x ∷ l) e = ap₂ (λ (y : ℕ) (m : List ℕ). y ∷ m) (e x (here refl)) (map-in g h l (λ y m. e y (there m)))
 
--- the first m places of l were lent, and xs was written to their front
+-- the first m places of l were passed in, and xs was written to their front
 lent-front : {A : Type 0} (m : ℕ) (xs l : List A) → length xs ≤ m → m ≤ length l
     → (xs ++ drop (length xs) (take m l)) ++ drop m l ≡ xs ++ drop (length xs) l
 lent-front {A} m xs l h fits =
@@ -69,6 +69,9 @@ module _ (w : List ℕ) (f scaled : List Float) (k ef : ℕ) (docs : List ℕ) (
 
   pub stores : Opened (Scratch ws fs) w f
   stores = opened (Scratch ws fs) w f (ready .opens)
+
+  pub few : n ≤ 1024
+  few = omega (arith, stores .header .nodes, stores .header .capacity .most)
 
   built : Built w
   built = ⊎-elim (λ o. absurd (omega (arith, o .state, ready .built))) (λ b. b) (stores .header .state)
@@ -124,7 +127,7 @@ module _ (w : List ℕ) (f scaled : List Float) (k ef : ℕ) (docs : List ℕ) (
     fits : Fits n (word w entryAt) scaled (bridgePart w f (stores .room)) nodes far-off ws fs
     fits = record {
       entry-below = built .entry;
-      few = omega (arith, stores .header .nodes, stores .header .capacity .most);
+      few = few;
       dimension = omega (arith, ready .components, stores .header .dimension .most);
       bridges-few = omega (arith, bridge-words w f (stores .rest) (stores .room), built .bridges);
       ends-below = bridge-nodes w f (stores .rest) (stores .room);
@@ -161,9 +164,12 @@ module _ (w : List ℕ) (f scaled : List Float) (k ef : ℕ) (docs : List ℕ) (
   docs-same : (i : ℕ) → In i found → docAt w i ≡ getD (view w f .docs) i 0
   docs-same i m = sym (doc-read w f i (found-nodes i m))
 
-  module _ (nodes′ : List ℕ) (far-off′ : List Float) (r : Walked) (s : Searched far found scored (take (min k n) docs) nodes′ (take (min k n) distances) far-off′ r) where
-    nodes-whole : nodes′ ++ drop (min k n) docs ≡ found ++ drop (length found) docs
-    nodes-whole = ap (λ (l : List ℕ). l ++ drop (min k n) docs) (s .nodes-are) ∙ lent-front (min k n) found docs found-few (ready .docs-room)
+  module _ (nodes nodes′ rest : List ℕ) (far-off′ : List Float) (r : Walked) (s : Searched far found scored nodes nodes′ (take (min k n) distances) far-off′ r) where
+    nodes-whole : nodes′ ++ rest ≡ found ++ (drop (length found) nodes ++ rest)
+    nodes-whole = ap (λ (l : List ℕ). l ++ rest) (s .nodes-are) ∙ append-assoc found (drop (length found) nodes) rest
+
+    nodes-found : take (r .count) (nodes′ ++ rest) ≡ found
+    nodes-found = ap (take (r .count)) nodes-whole ∙ take-at found (drop (length found) nodes ++ rest) (r .count) (sym (s .count-is))
 
     distances-whole : far-off′ ++ drop (min k n) distances ≡ map far found ++ drop (length found) distances
     distances-whole =
@@ -172,20 +178,19 @@ module _ (w : List ℕ) (f scaled : List Float) (k ef : ℕ) (docs : List ℕ) (
         ∙ lent-front (min k n) (map far found) distances (omega (arith, many, found-few)) (ready .distances-room)
         ∙ ap (λ (c : ℕ). map far found ++ drop c distances) many
 
-    pub replied : (docs₁ docs₂ : List ℕ) (distances₁ : List Float) → docs₁ ≡ nodes′ ++ drop (min k n) docs → distances₁ ≡ far-off′ ++ drop (min k n) distances
-        → docs₂ ≡ map (docAt w) (take (r .count) docs₁) ++ drop (r .count) docs₁
-        → _≡_ {A = Reply} (record { number = 0; count = r .count; scored = r .scored; docs = docs₂; distances = distances₁ }) (replyBy far (view w f) k ef docs distances)
+    pub replied : (docs′ : List ℕ) (distances′ : List Float) → docs′ ≡ map (docAt w) (take (r .count) (nodes′ ++ rest)) ++ drop (r .count) docs
+        → distances′ ≡ far-off′ ++ drop (min k n) distances
+        → _≡_ {A = Reply} (record { number = 0; count = r .count; scored = r .scored; docs = docs′; distances = distances′ }) (replyBy far (view w f) k ef docs distances)
     unfolding replyBy view
-    replied docs₁ docs₂ distances₁ e₁ e₃ e₂ =
-        let docs-are : docs₂ ≡ map (λ i. getD (view w f .docs) i 0) found ++ drop (length found) docs =
-        e₂
-        ∙ ap₂ (λ (c : ℕ) (l : List ℕ). map (docAt w) (take c l) ++ drop c l) (s .count-is) (e₁ ∙ nodes-whole)
-        ∙ ap₂ (λ (l m : List ℕ). map (docAt w) l ++ m) (take-at found (drop (length found) docs) (length found) refl) (drop-at found (drop (length found) docs) (length found) refl)
+    replied docs′ distances′ e₁ e₂ =
+        let docs-are : docs′ ≡ map (λ i. getD (view w f .docs) i 0) found ++ drop (length found) docs =
+        e₁
+        ∙ ap₂ (λ (l : List ℕ) (c : ℕ). map (docAt w) l ++ drop c docs) nodes-found (s .count-is)
         ∙ ap (λ (l : List ℕ). l ++ drop (length found) docs) (map-in (docAt w) (λ i. getD (view w f .docs) i 0) found docs-same) in
-        let distances-are : distances₁ ≡ map far found ++ drop (length found) distances = e₃ ∙ distances-whole in
+        let distances-are : distances′ ≡ map far found ++ drop (length found) distances = e₂ ∙ distances-whole in
         λ i. record { number = 0; count = s .count-is i; scored = s .scored-is i; docs = docs-are i; distances = distances-are i }
 
-  -- ---- as the code has them: the parts by their ends, the front of each output
+  -- ---- as the code has them: the parts by their ends, the front of the array and of an output
 
   -- the parts lie in the stores, and small numbers say where
   pub record PartsFit (p : Parts) : Type 0 where
@@ -207,9 +212,9 @@ module _ (w : List ℕ) (f scaled : List Float) (k ef : ℕ) (docs : List ℕ) (
       }
 
   module _ (p : Parts) (at : PartsIn w p) (answer places : ℕ) (answer-is : answer ≡ min k n) (places-are : places ≡ placesFor ef k)
-      (nodes′ : List ℕ) (far-off′ : List Float) (r : Walked)
+      (nodes nodes′ : List ℕ) (room : min k n ≤ length nodes) (far-off′ : List Float) (r : Walked)
       (ran : Searching scaled (take (p .«vectors_end») f) (take (p .«rows_to» - p .«rows_from») (drop (p .«rows_from») w)) (p .degree)
-      (take (p .«bridges_to» - p .«bridges_from») (drop (p .«bridges_from») w)) (p .entry) places (take answer docs) nodes′ (take answer distances) far-off′ ws fs r) where
+      (take (p .«bridges_to» - p .«bridges_from») (drop (p .«bridges_from») w)) (p .entry .0) places (take answer nodes) nodes′ (take answer distances) far-off′ ws fs r) where
     rows-are : take (p .«rows_to» - p .«rows_from») (drop (p .«rows_from») w) ≡ rowPart w f (stores .room)
     rows-are =
         let size : p .«rows_to» - p .«rows_from» ≡ n * rowSize (word w degreeAt) = omega (arith, at .rows-from, at .rows-to) in
@@ -220,20 +225,22 @@ module _ (w : List ℕ) (f scaled : List Float) (k ef : ℕ) (docs : List ℕ) (
         let size : p .«bridges_to» - p .«bridges_from» ≡ word w bridgeCountAt * bridgeSize = omega (arith, at .bridges-from, at .bridges-to) in
         ap₂ (λ (c : ℕ) (i : ℕ). take c (drop i w)) size (at .bridges-from)
 
-    walked : Searched far found scored (take (min k n) docs) nodes′ (take (min k n) distances) far-off′ r
+    walked : Searched far found scored (take (min k n) nodes) nodes′ (take (min k n) distances) far-off′ r
     walked =
-        searched (take (min k n) docs) nodes′ (take (min k n) distances) far-off′ r (length-take-le (min k n) docs (ready .docs-room)) (length-take-le (min k n) distances (ready .distances-room))
+        searched (take (min k n) nodes) nodes′ (take (min k n) distances) far-off′ r (length-take-le (min k n) nodes room) (length-take-le (min k n) distances (ready .distances-room))
         (subst (λ (X : Type 0). X)
-        (λ i. Searching scaled (take (at .vectors-end i) f) (rows-are i) (at .degree i) (bridges-are i) (at .entry i) (places-are i) (take (answer-is i) docs) nodes′ (take (answer-is i) distances) far-off′ ws fs r) ran)
+        (λ i. Searching scaled (take (at .vectors-end i) f) (rows-are i) (at .degree i) (bridges-are i) (at .entry i) (places-are i) (take (answer-is i) nodes) nodes′ (take (answer-is i) distances) far-off′ ws fs r) ran)
 
-    pub count-fits : r .count ≤ length (nodes′ ++ drop answer docs)
-    count-fits =
-        let whole : length (nodes′ ++ drop answer docs) ≡ length (found ++ drop (length found) docs) =
-        ap length (ap (λ (m : ℕ). nodes′ ++ drop m docs) answer-is ∙ nodes-whole nodes′ far-off′ r walked) in
-        omega (arith, whole, walked .count-is, length-append found (drop (length found) docs))
+    -- so many nodes stand at the front of the array
+    pub count-stands : (rest : List ℕ) → r .count ≤ length (nodes′ ++ rest)
+    count-stands rest =
+        omega (arith, ap length (nodes-whole (take (min k n) nodes) nodes′ rest far-off′ r walked), walked .count-is, length-append found (drop (length found) (take (min k n) nodes) ++ rest))
 
-    pub reply : (docs₂ : List ℕ) → docs₂ ≡ map (docAt w) (take (r .count) (nodes′ ++ drop answer docs)) ++ drop (r .count) (nodes′ ++ drop answer docs)
-        → _≡_ {A = Reply} (record { number = 0; count = r .count; scored = r .scored; docs = docs₂; distances = far-off′ ++ drop answer distances }) (replyBy far (view w f) k ef docs distances)
-    reply docs₂ e =
-        replied nodes′ far-off′ r walked (nodes′ ++ drop answer docs) docs₂ (far-off′ ++ drop answer distances) (ap (λ (m : ℕ). nodes′ ++ drop m docs) answer-is)
-        (ap (λ (m : ℕ). far-off′ ++ drop m distances) answer-is) e
+    -- and the output has room for their doc ids
+    pub count-fits : r .count ≤ length docs
+    count-fits = omega (arith, walked .count-is, found-few, ready .docs-room)
+
+    pub reply : (rest docs′ : List ℕ) → docs′ ≡ map (docAt w) (take (r .count) (nodes′ ++ rest)) ++ drop (r .count) docs
+        → _≡_ {A = Reply} (record { number = 0; count = r .count; scored = r .scored; docs = docs′; distances = far-off′ ++ drop answer distances }) (replyBy far (view w f) k ef docs distances)
+    reply rest docs′ e =
+        replied (take (min k n) nodes) nodes′ rest far-off′ r walked docs′ (far-off′ ++ drop answer distances) e (ap (λ (m : ℕ). far-off′ ++ drop m distances) answer-is)

@@ -26,7 +26,7 @@ pub record PartsIn (w : List ℕ) (p : Parts) : Type 0 where
   pub bridges-to : p .«bridges_to» ≡ bridgeAt (word w capacityAt) (word w degreeAt) (word w bridgeCountAt)
   pub vectors-end : p .«vectors_end» ≡ word w nodesAt * word w dimensionAt
   pub degree : p .degree ≡ word w degreeAt
-  pub entry : p .entry ≡ word w entryAt
+  pub entry : p .entry .0 ≡ word w entryAt
 
 -- a built store, a scaled query of its dimension, room for the answer, and scratch of ws words and fs floats
 pub record Ready (w : List ℕ) (f scaled : List Float) (k : ℕ) (docs : List ℕ) (distances : List Float) (ws fs : ℕ) : Type 0 where

@@ -2,7 +2,7 @@
 // of what the walk scored, as doc ids and distances, with their number and the scored count.
 //
 // A call checks its stores, the query, k and ef, the room of its outputs and scratch; then scales the query,
-// walks the graph that stands in the store, and turns the nodes found into doc ids. A refusal gives its
+// walks the graph that stands in the store, and writes the doc ids of the nodes found. A refusal gives its
 // number and counts 0, and writes to neither output.
 //
 // It promises one equation for everything that a call leaves: `searchWithEfSpec` of Rattle.calls, and
@@ -44,7 +44,7 @@ struct Parts {
     bridges_to: usize,
     vectors_end: usize,
     degree: u16,
-    entry: u32,
+    entry: Node,
 }
 
 // The limits of k and ef.
@@ -110,14 +110,14 @@ fn scale_into(out: &mut [f32], query: &[f32])
     norm::normalize(out);
 }
 
-// The first `count` nodes become their doc ids.
-fn put_docs(words: &[u32], docs: &mut [u32], count: usize)
-    requires { ⌜ count ≤ length (now docs) ⌝ }
-    ensures { λ _. ⌜ now (docs .exit) ≡ map (docAt (now (words .entry))) (take count (now (docs .entry))) ++ drop count (now (docs .entry)) ⌝ }
+// The doc ids of the first `count` nodes go to the front of `docs`.
+fn put_docs(words: &[u32], nodes: &[u32], docs: &mut [u32], count: usize)
+    requires { ⌜ (count ≤ length (now nodes)) × (count ≤ length (now docs)) ⌝ }
+    ensures { λ _. ⌜ now (docs .exit) ≡ map (docAt (now (words .entry))) (take count (now (nodes .entry))) ++ drop count (now (docs .entry)) ⌝ }
 {
     let mut i: usize = 0;
     while i < count {
-        let node = Node(docs[i]);
+        let node = Node(nodes[i]);
         docs[i] = store::doc_of(words, node).0;
         i += 1;
     }
@@ -147,11 +147,12 @@ fn parts_of(words: &[u32]) -> Parts
         bridges_to: store::bridge_at(capacity, degree, bridges),
         vectors_end: store::floats_size(n, dimension),
         degree,
-        entry: store::word_at(words, store::ENTRY),
+        entry: Node(store::word_at(words, store::ENTRY)),
     }
 }
 
-// The search of a scaled query. The walk gives nodes, which then become doc ids in their places.
+// The search of a scaled query. The walk's nodes stand in a local array of 4 KB, and their doc ids go to the
+// output, which never holds a node.
 fn find_scaled(
     words: &[u32],
     floats: &[f32],
@@ -174,20 +175,21 @@ fn find_scaled(
     let bridges_to = parts.bridges_to;
     let answer = wanted(words, k);
     let places = larger(ef, k);
+    let mut nodes = [0u32; 1024];
     let walked = beam_search::beam_search(
         scaled,
         &floats[..vectors_end],
         &words[rows_from..rows_to],
         parts.degree,
         &words[bridges_from..bridges_to],
-        Node(parts.entry),
+        parts.entry,
         places,
-        &mut docs[..answer],
+        &mut nodes[..answer],
         &mut distances[..answer],
         scratch_words,
         scratch_floats,
     );
-    put_docs(words, docs, walked.count as usize);
+    put_docs(words, &nodes[..], docs, walked.count as usize);
     Found {
         number: 0,
         count: walked.count,

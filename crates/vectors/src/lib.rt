@@ -5,14 +5,15 @@
 // proofs/Laws     a distance is the same both ways
 ghost use mathlib.Core.Path.{_≡_};
 ghost use Rattle.vectors.specs.Vectors.{vectorsIn, vectorOf};
+use ids::Node;
 
 // The vector of a node, where the vectors stand one after the other. A node that is not there has a
 // vector without components, which is infinitely far from any other.
-pub fn get_vector(vectors: &[f32], dimension: u32, node: u32) -> &[f32]
-    ensures { λ r. ⌜ now r ≡ vectorOf (vectorsIn dimension (now (vectors .entry))) node ⌝ }
+pub fn get_vector(vectors: &[f32], dimension: u32, node: Node) -> &[f32]
+    ensures { λ r. ⌜ now r ≡ vectorOf (vectorsIn dimension (now (vectors .entry))) (node .0) ⌝ }
 {
     let d = dimension as usize;
-    let at = node as usize * d;
+    let at = node.0 as usize * d;
     let end = at + d;
     if end <= vectors.len() {
         return &vectors[at..end];

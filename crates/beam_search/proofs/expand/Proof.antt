@@ -30,7 +30,7 @@ returns c =
     let gather = c .before .before .before .before .before .before .before .before .before .before .before .before .gather in
     let take = c .before .before .before .before .before .before .take-in in
     λ linked below nodes₀ seen front t.
-    gathered-in (farFrom (a .query .now) (vectorsIn (a .dimension) (a .vectors .now))) (a .size) (a .places) (gather .result) (listOf (rowLists (a .degree) (a .rows .now)) (bridgeList (a .bridges .now)) (a .node)) (a .words .now) (gather .last .0) (take .last .0)
+    gathered-in (farFrom (a .query .now) (vectorsIn (a .dimension) (a .vectors .now))) (a .size) (a .places) (gather .result) (listOf (rowLists (a .degree) (a .rows .now)) (bridgeList (a .bridges .now)) (a .node .0)) (a .words .now) (gather .last .0) (take .last .0)
     (a .floats .now) (take .last .1 .0) (a .nodes .now) (take .last .1 .1 .0) (a .walk) (take .result) nodes₀ (record { seen = seen; front = front })
     (omega (arith, (c .before .before .before .before .before .before .before .before .before .before .before .before .before .before .before .before .before .before .before .before .before .before) .pre)) (gather .ensures linked below) (take .ensures .1) (take .ensures .0) (t .marks) (t .standing) (t .known) (t .room)
 

@@ -38,7 +38,7 @@ returns c =
     let clear = c .before .before .before .before .before .before .before .before .before .before .before .before .before .before .before .before .prepare in
     let begin = c .before .before .before .before .before .before .before .before .before .before .before .before .begin in
     let take = c .before .before .before .before .before .before .take-in in
-    started (farFrom (a .query .now) (vectorsIn (a .dimension) (a .vectors .now))) (a .size) (a .places) (a .entry) (begin .result) (clear .last .0) (begin .last .0) (take .last .0) (a .floats .now) (take .last .1 .0) (a .nodes .now) (take .last .1 .1 .0) (take .result)
+    started (farFrom (a .query .now) (vectorsIn (a .dimension) (a .vectors .now))) (a .size) (a .places) (a .entry .0) (begin .result) (clear .last .0) (begin .last .0) (take .last .0) (a .floats .now) (take .last .1 .0) (a .nodes .now) (take .last .1 .1 .0) (take .result)
     (far-fits (a .query .now) (vectorsIn (a .dimension) (a .vectors .now))) (omega (arith, clear .kept .0, (c .before .before .before .before .before .before .before .before .before .before .before .before .before .before .before .before .before .before .before .before .before .before .before) .pre)) (clear .ensures) (begin .ensures) (take .ensures .1) (take .ensures .0)
 
 pub start-spec : {M : Type 1} → statement M

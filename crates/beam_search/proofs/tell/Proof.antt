@@ -36,10 +36,10 @@ lesser-requires-2 c κs = search needs
 loop-holds : tie.Need-loop-holds Inv-loop μ-loop
 loop-holds c = (omega arith, refl)
 
-mul-distance-of : tie.Need-mul-distance-of Inv-loop μ-loop
+mul-distance-of : tie.Need-mul-t12 Inv-loop μ-loop
 mul-distance-of c = search needs
 
-shared-slice-read-distance-of : tie.Need-shared-slice-read-distance-of Inv-loop μ-loop
+shared-slice-read-distance-of : tie.Need-shared-slice-read-t14 Inv-loop μ-loop
 shared-slice-read-distance-of c = search needs
 
 distance-of-requires : tie.Need-distance-of-requires Inv-loop μ-loop

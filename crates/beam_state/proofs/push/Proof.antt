@@ -97,9 +97,9 @@ returns c =
     let key = c .before .before .before .before .before .before .before .before .key in
     let first = c .before .before .before .before .before .keep-first in
     let end = ap (λ (m : ℕ). 6 * a .size + 4 * m) (c .before .before .before .before .before .before .before .before .before .before .before .before .before .before .before .before .before .before .lesser .ensures) in (
-      push-frame (a .size) (a .places) (a .node) (a .floats .now) (a .walk) (a .words .now) (a .nodes .now) (start .pre) (enter .last .0) (keep .last .0) (first .last .0) (first .last .1 .0)
+      push-frame (a .size) (a .places) (a .node .0) (a .floats .now) (a .walk) (a .words .now) (a .nodes .now) (start .pre) (enter .last .0) (keep .last .0) (first .last .0) (first .last .1 .0)
           (enter .kept .0) _ end (keep .kept .0) (first .kept .0),
-      push-is (a .size) (a .places) (a .node) (a .floats .now) (a .walk) (a .words .now) (a .nodes .now) (start .pre) (enter .last .0) (keep .last .0) (first .last .0) (first .last .1 .0)
+      push-is (a .size) (a .places) (a .node .0) (a .floats .now) (a .walk) (a .words .now) (a .nodes .now) (start .pre) (enter .last .0) (keep .last .0) (first .last .0) (first .last .1 .0)
           (enter .kept .0) _ end (keep .kept .0) (first .kept .0) (keep .result) (far .result) (key .result) (first .result) (c .one-more .result)
           (enter .ensures) (keep .ensures) (far .ensures) (key .ensures) (first .ensures) (first .kept .1 .0) (c .one-more .ensures),
     )

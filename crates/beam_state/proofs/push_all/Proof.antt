@@ -23,13 +23,13 @@ lesser-requires c κs = search needs
 loop-holds : tie.Need-loop-holds Inv-loop μ-loop
 loop-holds c = let a = (c .before .before .before .before .before) .args in going-none (a .size) (a .places) (a .count) (c .lesser .result) (a .floats .now) (a .words .now) (a .nodes .now) (a .walk)
 
-add-node : tie.Need-add-node Inv-loop μ-loop
+add-node : tie.Need-add-t16 Inv-loop μ-loop
 add-node c = omega (arith, (c .before .before .before) .if1 .left, (c .before .before) .lesser .ensures, c .loop-test .taken)
 
-mul-node : tie.Need-mul-node Inv-loop μ-loop
+mul-node : tie.Need-mul-t17 Inv-loop μ-loop
 mul-node c = search needs
 
-slice-read-node : tie.Need-slice-read-node Inv-loop μ-loop
+slice-read-node : tie.Need-slice-read-t19 Inv-loop μ-loop
 slice-read-node c = search needs
 
 push-requires : tie.Need-push-requires Inv-loop μ-loop

@@ -15,10 +15,10 @@ slice-aggregate-candidates-at-2 c = search needs
 candidates-at-requires : tie.Need-candidates-at-requires
 candidates-at-requires c κs = search needs
 
-mul-node : tie.Need-mul-node
+mul-node : tie.Need-mul-t19
 mul-node c = search needs
 
-shared-slice-read-node : tie.Need-shared-slice-read-node
+shared-slice-read-node : tie.Need-shared-slice-read-t21
 shared-slice-read-node c = search needs
 
 array-share-prefix-candidates : tie.Need-array-share-prefix-candidates

@@ -27,9 +27,9 @@ returns : tie.Need-returns
 returns c =
     let a = c .before .before .before .before .before .before .before .before .before .args in
     c .around-ends .ensures
-    ∙ ap (λ (b : Nearest). consideredAll (a .state .now) (a .n) (vectorsIn (a .dimension) (a .vectors .now)) (a .query .now) (aroundAll (a .own) (listWords (a .degree) (a .n) (a .rows .now) (a .bridges .now) (a .links .now)) (linkedEnds (a .n) (a .bridges .now) (a .links .now) (firstLink (a .n) (a .links .now) (a .u)))) b)
+    ∙ ap (λ (b : Nearest). consideredAll (a .state .now) (a .n) (vectorsIn (a .dimension) (a .vectors .now)) (a .query .now) (aroundAll (a .own) (listWords (a .degree) (a .n) (a .rows .now) (a .bridges .now) (a .links .now)) (linkedEnds (a .n) (a .bridges .now) (a .links .now) (firstLink (a .n) (a .links .now) (a .u .0)))) b)
     (c .before .around-row .ensures ∙ ap (λ (l : List ℕ). consideredAll (a .state .now) (a .n) (vectorsIn (a .dimension) (a .vectors .now)) (a .query .now) (aroundAll (a .own) (listWords (a .degree) (a .n) (a .rows .now) (a .bridges .now) (a .links .now)) l) (a .best)) (c .before .before .row-of .ensures))
-    ∙ around-both (a .state .now) (a .n) (vectorsIn (a .dimension) (a .vectors .now)) (a .query .now) (a .own) (listWords (a .degree) (a .n) (a .rows .now) (a .bridges .now) (a .links .now)) (getD (rowLists (a .degree) (a .rows .now)) (a .u) []) (linkedEnds (a .n) (a .bridges .now) (a .links .now) (firstLink (a .n) (a .links .now) (a .u))) (a .best)
+    ∙ around-both (a .state .now) (a .n) (vectorsIn (a .dimension) (a .vectors .now)) (a .query .now) (a .own) (listWords (a .degree) (a .n) (a .rows .now) (a .bridges .now) (a .links .now)) (getD (rowLists (a .degree) (a .rows .now)) (a .u .0) []) (linkedEnds (a .n) (a .bridges .now) (a .links .now) (firstLink (a .n) (a .links .now) (a .u .0))) (a .best)
 
 pub around-list-spec : {M : Type 1} → statement M
 around-list-spec =

@@ -21,10 +21,10 @@ abbrev μ-loop : tie.MeasureT-loop
 loop-holds : tie.Need-loop-holds Inv-loop μ-loop
 loop-holds c = (omega arith, refl)
 
-mul-consider-around : tie.Need-mul-consider-around Inv-loop μ-loop
+mul-consider-around : tie.Need-mul-t15 Inv-loop μ-loop
 mul-consider-around c = search needs
 
-shared-slice-read-consider-around : tie.Need-shared-slice-read-consider-around Inv-loop μ-loop
+shared-slice-read-consider-around : tie.Need-shared-slice-read-t18 Inv-loop μ-loop
 shared-slice-read-consider-around c = search needs
 
 consider-around-requires : tie.Need-consider-around-requires Inv-loop μ-loop

@@ -26,11 +26,11 @@ around-list-requires-2 c κs = search needs
 
 returns : tie.Need-returns
 returns c =
-    let a = c .before .before .before .before .before .before .before .before .before .before .args in
-    let d = c .before .before .cosine-distance-normalized in
-    let query = c .before .before .before .before .get-vector in
-    start-is (a .state .now) (a .n) (vectorsIn (a .dimension) (a .vectors .now)) (listWords (a .degree) (a .n) (a .rows .now) (a .bridges .now) (a .links .now)) (a .entry) (a .i) _ (d .result) (c .before .around-list .result) (c .around-list2 .result) (query .ensures)
-    (d .ensures ∙ ap (distanceOf binary32 _) (c .before .before .before .get-vector2 .ensures)) (c .before .around-list .ensures) (c .around-list2 .ensures)
+    let a = c .before .before .before .before .before .before .before .before .before .before .before .args in
+    let d = c .before .before .before .cosine-distance-normalized in
+    let query = c .before .before .before .before .before .get-vector in
+    start-is (a .state .now) (a .n) (vectorsIn (a .dimension) (a .vectors .now)) (listWords (a .degree) (a .n) (a .rows .now) (a .bridges .now) (a .links .now)) (a .entry .0) (a .i .0) _ (d .result) (c .before .before .around-list .result) (c .before .around-list2 .result) (query .ensures)
+    (d .ensures ∙ ap (distanceOf binary32 _) (c .before .before .before .before .get-vector2 .ensures)) (c .before .before .around-list .ensures) (c .before .around-list2 .ensures)
 
 pub bridge-start-spec : {M : Type 1} → statement M
 bridge-start-spec =

@@ -19,8 +19,8 @@ returns : tie.Need-returns
 returns c =
     let a = c .before .before .before .before .before .before .before .before .before .args in
     c .consider-list .ensures
-    ∙ ap (λ (b : Nearest). consideredAll (a .state .now) (a .n) (vectorsIn (a .dimension) (a .vectors .now)) (a .query .now) ((listWords (a .degree) (a .n) (a .rows .now) (a .bridges .now) (a .links .now)) (a .u)) b) (c .before .consider .ensures)
-    ∙ around-own (a .state .now) (a .n) (vectorsIn (a .dimension) (a .vectors .now)) (a .query .now) (a .own) (listWords (a .degree) (a .n) (a .rows .now) (a .bridges .now) (a .links .now)) (a .u) (a .best) (c .before .before .if1 .taken)
+    ∙ ap (λ (b : Nearest). consideredAll (a .state .now) (a .n) (vectorsIn (a .dimension) (a .vectors .now)) (a .query .now) ((listWords (a .degree) (a .n) (a .rows .now) (a .bridges .now) (a .links .now)) (a .u .0)) b) (c .before .consider .ensures)
+    ∙ around-own (a .state .now) (a .n) (vectorsIn (a .dimension) (a .vectors .now)) (a .query .now) (a .own) (listWords (a .degree) (a .n) (a .rows .now) (a .bridges .now) (a .links .now)) (a .u .0) (a .best) (c .before .before .if1 .taken)
 
 consider-list-requires-2 : tie.Need-consider-list-requires-2
 consider-list-requires-2 c κs = search needs
@@ -28,7 +28,7 @@ consider-list-requires-2 c κs = search needs
 returns-2 : tie.Need-returns-2
 returns-2 c =
     let a = c .before .before .before .before .before .before .before .before .args in
-    c .consider-list2 .ensures ∙ around-not (a .state .now) (a .n) (vectorsIn (a .dimension) (a .vectors .now)) (a .query .now) (a .own) (listWords (a .degree) (a .n) (a .rows .now) (a .bridges .now) (a .links .now)) (a .u) (a .best) (c .before .if1 .left)
+    c .consider-list2 .ensures ∙ around-not (a .state .now) (a .n) (vectorsIn (a .dimension) (a .vectors .now)) (a .query .now) (a .own) (listWords (a .degree) (a .n) (a .rows .now) (a .bridges .now) (a .links .now)) (a .u .0) (a .best) (c .before .if1 .left)
 
 pub consider-around-spec : {M : Type 1} → statement M
 consider-around-spec =

@@ -26,9 +26,9 @@ returns : tie.Need-returns
 returns c =
     let a = c .before .before .before .before .before .before .before .before .before .args in
     c .consider-ends .ensures
-    ∙ ap (λ (b : Nearest). consideredAll (a .state .now) (a .n) (vectorsIn (a .dimension) (a .vectors .now)) (a .query .now) (linkedEnds (a .n) (a .bridges .now) (a .links .now) (firstLink (a .n) (a .links .now) (a .u))) b)
+    ∙ ap (λ (b : Nearest). consideredAll (a .state .now) (a .n) (vectorsIn (a .dimension) (a .vectors .now)) (a .query .now) (linkedEnds (a .n) (a .bridges .now) (a .links .now) (firstLink (a .n) (a .links .now) (a .u .0))) b)
     (c .before .consider-row .ensures ∙ ap (λ (l : List ℕ). consideredAll (a .state .now) (a .n) (vectorsIn (a .dimension) (a .vectors .now)) (a .query .now) l (a .best)) (c .before .before .row-of .ensures))
-    ∙ both-lists (a .state .now) (a .n) (vectorsIn (a .dimension) (a .vectors .now)) (a .query .now) (getD (rowLists (a .degree) (a .rows .now)) (a .u) []) (linkedEnds (a .n) (a .bridges .now) (a .links .now) (firstLink (a .n) (a .links .now) (a .u))) (a .best)
+    ∙ both-lists (a .state .now) (a .n) (vectorsIn (a .dimension) (a .vectors .now)) (a .query .now) (getD (rowLists (a .degree) (a .rows .now)) (a .u .0) []) (linkedEnds (a .n) (a .bridges .now) (a .links .now) (firstLink (a .n) (a .links .now) (a .u .0))) (a .best)
 
 pub consider-list-spec : {M : Type 1} → statement M
 consider-list-spec =

@@ -20,10 +20,10 @@ abbrev μ-loop : tie.MeasureT-loop
 loop-holds : tie.Need-loop-holds Inv-loop μ-loop
 loop-holds c = (omega arith, refl)
 
-mul-consider : tie.Need-mul-consider Inv-loop μ-loop
+mul-consider : tie.Need-mul-t10 Inv-loop μ-loop
 mul-consider c = search needs
 
-shared-slice-read-consider : tie.Need-shared-slice-read-consider Inv-loop μ-loop
+shared-slice-read-consider : tie.Need-shared-slice-read-t13 Inv-loop μ-loop
 shared-slice-read-consider c = search needs
 
 consider-requires : tie.Need-consider-requires Inv-loop μ-loop

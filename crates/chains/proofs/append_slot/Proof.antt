@@ -8,6 +8,9 @@ use borrow.Author.Needs.{needs}
 use Rattle.chains.proofs.append_slot.Statement.{statement}
 use Rattle.chains.proofs.append_slot.Tie as tie
 
+cast-word-at : tie.Need-cast-word-at
+cast-word-at c = search needs
+
 add-word-at : tie.Need-add-word-at
 add-word-at c = search needs
 
@@ -32,6 +35,9 @@ add-put-2 c = search needs
 put-requires-2 : tie.Need-put-requires-2
 put-requires-2 c κs = search needs
 
+cast-put : tie.Need-cast-put
+cast-put c = search needs
+
 add-put-3 : tie.Need-add-put-3
 add-put-3 c = search needs
 
@@ -47,32 +53,19 @@ same-length c = search needs
 returns : tie.Need-returns
 unfolding appendSlot
 returns c =
-    let a = c .before .before .before .before .before .before .before .before .before .before .before .before .before .before .before .before .args in
+    let a = c .before .before .before .before .before .before .before .before .before .before .before .before .before .before .before .before .before .before .args in
     let three = c .before .before .put3 in
-    let two = c .before .before .before .before .before .before .put2 in
-    let one = c .before .before .before .before .before .before .before .before .before .before .put in
-    let place = c .before .before .before .before .before .before .before .before .before .before .before .before .link-place in
-    let tail = c .before .before .before .before .before .before .before .before .before .before .before .before .before .word-at in
+    let two = c .before .before .before .before .before .before .before .put2 in
+    let one = c .before .before .before .before .before .before .before .before .before .before .before .put in
+    let place = c .before .before .before .before .before .before .before .before .before .before .before .before .before .link-place in
+    let tail = c .before .before .before .before .before .before .before .before .before .before .before .before .before .before .word-at in
     three .ensures
-    ∙ ap (λ (l : List ℕ). set l (a .n + a .node) (a .slot + 1))
+    ∙ ap (λ (l : List ℕ). set l (a .n + a .node .0) (a .slot + 1))
     (two .ensures
     ∙ ap (λ (l : List ℕ). set l (2 * a .n + a .slot) 0)
-    (one .ensures ∙ ap (λ (p : ℕ). set (a .links .now) p (a .slot + 1)) (place .ensures ∙ ap (linkPlace (a .n) (a .node)) (tail .ensures))))
+    (one .ensures ∙ ap (λ (p : ℕ). set (a .links .now) p (a .slot + 1)) (place .ensures ∙ ap (linkPlace (a .n) (a .node .0)) (tail .ensures))))
 
 pub append-slot-spec : {M : Type 1} → statement M
 append-slot-spec =
     tie.close
-    (tie.spec
-    add-word-at
-    word-at-requires
-    link-place-requires
-    add-put
-    put-requires
-    mul-put
-    add-put-2
-    put-requires-2
-    add-put-3
-    add-put-4
-    put-requires-3
-    same-length
-    returns)
+    (tie.spec cast-word-at add-word-at word-at-requires link-place-requires add-put put-requires mul-put add-put-2 put-requires-2 cast-put add-put-3 add-put-4 put-requires-3 same-length returns)

@@ -25,9 +25,9 @@ same-length c = search needs
 returns-2 : tie.Need-returns-2
 unfolding chainBridge
 returns-2 c =
-    let a = c .before .before .before .before .before .before .before .args in
-    c .before .before .before .append-slot .ensures
-    ∙ sym (pick-true _ _ (eq-eqb (a .near) (a .far) (c .if2 .taken)))
+    let a = c .before .before .before .before .before .before .before .before .before .args in
+    c .before .before .before .before .before .append-slot .ensures
+    ∙ sym (pick-true _ _ (eq-eqb (a .near .0) (a .far .0) (c .if2 .taken)))
     ∙ sym (pick-true _ _ (lt-ltb (a .j) (2 ^ 30) (omega arith)))
 
 mul-append-slot-2 : tie.Need-mul-append-slot-2
@@ -45,10 +45,10 @@ same-length-2 c = search needs
 returns-3 : tie.Need-returns-3
 unfolding chainBridge
 returns-3 c =
-    let a = c .before .before .before .before .before .before .before .before .before .before .before .args in
+    let a = c .before .before .before .before .before .before .before .before .before .before .before .before .before .args in
     c .before .before .append-slot2 .ensures
-    ∙ ap (appendSlot (a .n) (a .far) (2 * a .j + 1)) (c .before .before .before .before .before .before .before .append-slot .ensures)
-    ∙ sym (pick-false _ _ (ne-eqb (a .near) (a .far) (c .before .before .before .before .if2 .left)))
+    ∙ ap (appendSlot (a .n) (a .far .0) (2 * a .j + 1)) (c .before .before .before .before .before .before .before .before .before .append-slot .ensures)
+    ∙ sym (pick-false _ _ (ne-eqb (a .near .0) (a .far .0) (c .before .before .before .before .if2 .left)))
     ∙ sym (pick-true _ _ (lt-ltb (a .j) (2 ^ 30) (omega arith)))
 
 pub chain-bridge-spec : {M : Type 1} → statement M

@@ -11,6 +11,9 @@ use borrow.Author.Needs.{needs}
 use Rattle.chains.proofs.first_link.Statement.{statement}
 use Rattle.chains.proofs.first_link.Tie as tie
 
+cast-word-at : tie.Need-cast-word-at
+cast-word-at c = search needs
+
 word-at-requires : tie.Need-word-at-requires
 word-at-requires c κs = search needs
 
@@ -27,15 +30,15 @@ returns : tie.Need-returns
 unfolding firstLink
 returns c =
     let w = c .before .word-at in
-    let a = c .before .before .before .args in
+    let a = c .before .before .before .before .args in
     sym (pick-true (w .result) 0 (le-leb _ _ (c .if1 .taken))) ∙ ap (λ (x : ℕ). pick (leb (2 * a .n + x) (length (a .links .now))) x 0) (w .ensures)
 
 returns-2 : tie.Need-returns-2
 unfolding firstLink
 returns-2 c =
     let w = c .before .word-at in
-    let a = c .before .before .before .args in
+    let a = c .before .before .before .before .args in
     sym (pick-false (w .result) 0 (lt-leb (2 * a .n + w .result) (length (a .links .now)) (omega arith))) ∙ ap (λ (x : ℕ). pick (leb (2 * a .n + x) (length (a .links .now))) x 0) (w .ensures)
 
 pub first-link-spec : {M : Type 1} → statement M
-first-link-spec = tie.close (tie.spec word-at-requires mul-if1 cast-if1 add-if1 returns returns-2)
+first-link-spec = tie.close (tie.spec cast-word-at word-at-requires mul-if1 cast-if1 add-if1 returns returns-2)

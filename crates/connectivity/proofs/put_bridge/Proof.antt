@@ -28,7 +28,7 @@ same-length c = search needs
 returns : tie.Need-returns
 returns c =
     let a = c .before .before .before .before .before .before .before .before .before .args in
-    c .before .before .put2 .ensures ∙ ap (λ (l : List ℕ). set l (2 * a .count + 1) (a .far)) (c .before .before .before .before .before .before .put .ensures)
+    c .before .before .put2 .ensures ∙ ap (λ (l : List ℕ). set l (2 * a .count + 1) (a .far .0)) (c .before .before .before .before .before .before .put .ensures)
 
 pub put-bridge-spec : {M : Type 1} → statement M
 put-bridge-spec =

@@ -11,7 +11,7 @@ use Rattle.connectivity.proofs.repair.Statement.{statement}
 use Rattle.connectivity.proofs.repair.Tie as tie
 
 abbrev Inv-loop : tie.InvT-loop
-Inv-loop rows degree vectors dimension entry bridges₀ links₀ state₀ n count₀ i₀ bridges links state count i = (i ≤ n) × (count ≤ i) × (length bridges ≡ length bridges₀) × (length links ≡ length links₀) × (length state ≡ length state₀) × (work count bridges links state ≡ turnedTo degree rows (vectorsIn dimension vectors) entry n (work 0 bridges₀ links₀ state₀) i)
+Inv-loop rows degree vectors dimension entry bridges₀ links₀ state₀ n count₀ i₀ bridges links state count i = (i ≤ n) × (count ≤ i) × (length bridges ≡ length bridges₀) × (length links ≡ length links₀) × (length state ≡ length state₀) × (work count bridges links state ≡ turnedTo degree rows (vectorsIn dimension vectors) (entry .0) n (work 0 bridges₀ links₀ state₀) i)
 
 abbrev μ-loop : tie.MeasureT-loop
 μ-loop rows degree vectors dimension entry bridges₀ links₀ state₀ n count₀ i₀ bridges links state count i = n - i
@@ -25,7 +25,7 @@ mark-reachable-requires c κs = search needs
 loop-holds : tie.Need-loop-holds Inv-loop μ-loop
 loop-holds c =
     let a = c .before .before .before .before .before .before .before .before .before .before .before .before .before .before .before .args in
-    (omega arith, omega arith, refl, refl, refl, no-turn (a .degree) (a .rows .now) (vectorsIn (a .dimension) (a .vectors .now)) (a .entry) (a .n) (work 0 _ _ _))
+    (omega arith, omega arith, refl, refl, refl, no-turn (a .degree) (a .rows .now) (vectorsIn (a .dimension) (a .vectors .now)) (a .entry .0) (a .n) (work 0 _ _ _))
 
 turn-requires : tie.Need-turn-requires Inv-loop μ-loop
 turn-requires c κs = search needs
@@ -42,11 +42,11 @@ loop-again c =
     let a = c .before .before .before .before .before .before .before .before .before .before .before .before .before .before .before .before .before .before .before .before .before .before .before .before .before .before .before .args in
     let t = c .before .before .before .before .before .before .turn in (
       omega arith,
-      omega (arith, ap (λ (w : Work). w .count) (t .ensures), turned-count (a .degree) (a .rows .now) (vectorsIn (a .dimension) (a .vectors .now)) (a .entry) (a .n) (l .i) (work (l .count) (l .bridges) (l .links) (l .state))),
+      omega (arith, ap (λ (w : Work). w .count) (t .ensures), turned-count (a .degree) (a .rows .now) (vectorsIn (a .dimension) (a .vectors .now)) (a .entry .0) (a .n) (l .i) (work (l .count) (l .bridges) (l .links) (l .state))),
       t .kept .1 .1 .1 .1 .1 .0 ∙ l .inv .2,
       t .kept .1 .1 .1 .1 .1 .1 .0 ∙ l .inv .3,
       t .kept .1 .1 .1 .1 .1 .1 .1 .0 ∙ l .inv .4,
-      one-turn (a .degree) (a .rows .now) (vectorsIn (a .dimension) (a .vectors .now)) (a .entry) (a .n) _ (work (l .count) (l .bridges) (l .links) (l .state)) _ (l .i) (l .inv .5) (t .ensures),
+      one-turn (a .degree) (a .rows .now) (vectorsIn (a .dimension) (a .vectors .now)) (a .entry .0) (a .n) _ (work (l .count) (l .bridges) (l .links) (l .state)) _ (l .i) (l .inv .5) (t .ensures),
     )
 
 same-length : tie.Need-same-length Inv-loop μ-loop
@@ -63,10 +63,10 @@ returns c =
     let l = c .before .loop in
     let a = c .before .before .before .before .before .before .before .before .before .before .before .before .before .before .before .before .before .args in
     let e : l .i ≡ a .n = omega arith in
-    let first = begin-is (a .degree) (a .rows .now) (vectorsIn (a .dimension) (a .vectors .now)) (a .entry) (a .n) (a .bridges .now) (a .links .now) (a .state .now) (c .before .before .before .before .before .before .before .before .before .before .clear-links .last .0) (c .before .before .before .before .mark-reachable .last .1 .1 .1 .1 .0) (c .before .before .before .before .before .before .before .before .before .before .clear-links .ensures)
+    let first = begin-is (a .degree) (a .rows .now) (vectorsIn (a .dimension) (a .vectors .now)) (a .entry .0) (a .n) (a .bridges .now) (a .links .now) (a .state .now) (c .before .before .before .before .before .before .before .before .before .before .clear-links .last .0) (c .before .before .before .before .mark-reachable .last .1 .1 .1 .1 .0) (c .before .before .before .before .before .before .before .before .before .before .clear-links .ensures)
     (c .before .before .before .before .mark-reachable .ensures) in
-    l .inv .5 ∙ ap (λ (k : ℕ). turnedTo (a .degree) (a .rows .now) (vectorsIn (a .dimension) (a .vectors .now)) (a .entry) (a .n) (work 0 (a .bridges .now) (c .before .before .before .before .before .before .before .before .before .before .clear-links .last .0) (c .before .before .before .before .mark-reachable .last .1 .1 .1 .1 .0)) k) e
-    ∙ ap (λ (w : Work). turnedTo (a .degree) (a .rows .now) (vectorsIn (a .dimension) (a .vectors .now)) (a .entry) (a .n) w (a .n)) first
+    l .inv .5 ∙ ap (λ (k : ℕ). turnedTo (a .degree) (a .rows .now) (vectorsIn (a .dimension) (a .vectors .now)) (a .entry .0) (a .n) (work 0 (a .bridges .now) (c .before .before .before .before .before .before .before .before .before .before .clear-links .last .0) (c .before .before .before .before .mark-reachable .last .1 .1 .1 .1 .0)) k) e
+    ∙ ap (λ (w : Work). turnedTo (a .degree) (a .rows .now) (vectorsIn (a .dimension) (a .vectors .now)) (a .entry .0) (a .n) w (a .n)) first
 
 pub repair-spec : {M : Type 1} → statement M
 repair-spec =

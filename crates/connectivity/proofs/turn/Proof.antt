@@ -15,7 +15,7 @@ returns : tie.Need-returns
 returns c =
     let a = c .before .before .before .before .before .before .before .before .args in
     let w = c .before .word-at in
-    turn-passed (a .degree) (a .rows .now) (vectorsIn (a .dimension) (a .vectors .now)) (a .entry) (a .n) (a .i) (a .count) (w .result) (a .bridges .now) (a .links .now) (a .state .now) (w .ensures) (c .if1 .taken)
+    turn-passed (a .degree) (a .rows .now) (vectorsIn (a .dimension) (a .vectors .now)) (a .entry .0) (a .n) (a .i) (a .count) (w .result) (a .bridges .now) (a .links .now) (a .state .now) (w .ensures) (c .if1 .taken)
 
 bridge-start-requires : tie.Need-bridge-start-requires
 bridge-start-requires c κs = search needs
@@ -46,7 +46,7 @@ returns-2 c =
     let a = c .before .before .before .before .before .before .before .before .before .before .before .before .before .before .before .before .before .before .before .before .before .before .before .before .before .before .args in
     let w = c .before .before .before .before .before .before .before .before .before .before .before .before .before .before .before .before .before .before .before .word-at in
     let near = c .before .before .before .before .before .before .before .before .before .before .before .before .before .before .bridge-start in
-    turn-bridged (a .degree) (a .rows .now) (vectorsIn (a .dimension) (a .vectors .now)) (a .entry) (a .n) (a .i) (a .count) (w .result) (a .bridges .now) (a .links .now) (a .state .now) (w .ensures) (near .result) (c .before .before .before .before .before .before .before .before .before .before .before .before .put-bridge .last .0) (c .before .before .before .before .before .before .before .before .chain-bridge .last .0)
+    turn-bridged (a .degree) (a .rows .now) (vectorsIn (a .dimension) (a .vectors .now)) (a .entry .0) (a .n) (a .i) (a .count) (w .result) (a .bridges .now) (a .links .now) (a .state .now) (w .ensures) (near .result .0) (c .before .before .before .before .before .before .before .before .before .before .before .before .put-bridge .last .0) (c .before .before .before .before .before .before .before .before .chain-bridge .last .0)
     (c .before .before .mark-reachable .last .1 .1 .1 .1 .0) (c .before .before .before .before .before .before .before .before .before .before .before .before .before .before .before .before .before .before .if1 .left) (near .ensures) (c .before .before .before .before .before .before .before .before .before .before .before .before .put-bridge .ensures) (c .before .before .before .before .before .before .before .before .chain-bridge .ensures) (c .before .before .mark-reachable .ensures)
 
 pub turn-spec : {M : Type 1} → statement M

@@ -39,9 +39,9 @@ returns-3 c =
     let a = (c .before .before .before .before .before .before .before .before .before .before .before .before .before .before .before) .args in
     let all = c .before .before .before .before .before .before .visit-all in
     let ends = c .before .before .visit-ends in
-    λ linked below long. gathering-then (getD (rowLists (a .degree) (a .rows .now)) (a .node) []) (otherEnds (bridgeList (a .bridges .now)) (a .node))
+    λ linked below long. gathering-then (getD (rowLists (a .degree) (a .rows .now)) (a .node .0) []) (otherEnds (bridgeList (a .bridges .now)) (a .node .0))
     (subst (λ (l : List ℕ). Gathering (a .size) 0 l (a .words .now) (all .last .0) (all .result)) (c .before .before .before .before .before .before .before .before .row-of .ensures) (all .ensures))
-    (subst (λ (l : List ℕ). Gathering (a .size) (all .result) l (all .last .0) (ends .last .0) (ends .result)) (linked-ends (a .size) (a .bridges .now) (a .links .now) (a .node) linked below) (ends .ensures))
+    (subst (λ (l : List ℕ). Gathering (a .size) (all .result) l (all .last .0) (ends .last .0) (ends .result)) (linked-ends (a .size) (a .bridges .now) (a .links .now) (a .node .0) linked below) (ends .ensures))
 
 pub gather-spec : {M : Type 1} → statement M
 gather-spec =

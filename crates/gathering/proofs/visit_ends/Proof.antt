@@ -1,7 +1,7 @@
 -- `gathering::visit_ends` meets its contract: what is gathered from a link on is gathered from the first one on. The measure is how many ends are
 -- left. Assumes nothing.
 use lib.ListN.{length}
-use Rattle.chains.specs.Chains.{firstLink, linkedEnds}
+use Rattle.chains.specs.Chains.{linkedEnds}
 use Rattle.gathering.proofs.Steps.{Followed, followed-none, followed-more, followed-less, followed-all}
 use borrow.Author.Needs.{needs}
 use native.Mathlib.Omega.{arith}
@@ -9,16 +9,16 @@ use Rattle.gathering.proofs.visit_ends.Statement.{statement}
 use Rattle.gathering.proofs.visit_ends.Tie as tie
 
 abbrev Inv-loop : tie.InvT-loop
-Inv-loop words₀ n count bridges links node fresh₀ link₀ words fresh link = Followed n bridges links (firstLink n links node) link words₀ fresh₀ words fresh
+Inv-loop words₀ n count bridges links fresh₀ link₀ words fresh link = Followed n bridges links link₀ link words₀ fresh₀ words fresh
 
 abbrev μ-loop : tie.MeasureT-loop
-μ-loop words₀ n count bridges links node fresh₀ link₀ words fresh link = length (linkedEnds n bridges links link)
+μ-loop words₀ n count bridges links fresh₀ link₀ words fresh link = length (linkedEnds n bridges links link)
 
 first-link-requires : tie.Need-first-link-requires Inv-loop μ-loop
 first-link-requires c κs = search needs
 
 loop-holds : tie.Need-loop-holds Inv-loop μ-loop
-loop-holds c = let a = (c .before .before .before .before) .args in followed-none (a .n) (a .bridges .now) (a .links .now) (a .node) (c .first-link .result) (a .words .now) (a .count) (c .first-link .ensures)
+loop-holds c = let a = (c .before .before .before .before) .args in followed-none (a .n) (a .bridges .now) (a .links .now) (a .node .0) (c .first-link .result) (a .words .now) (a .count) (c .first-link .ensures)
 
 other-end-requires : tie.Need-other-end-requires Inv-loop μ-loop
 other-end-requires c κs = search needs
@@ -40,7 +40,7 @@ loop-again c =
     let l = c .before .before .before .before .before .before .before .loop in
     let a = (c .before .before .before .before .before .before .before .before .before .before .before .before) .args in
     let v = c .before .before .before .visit in
-    followed-more (a .n) (a .bridges .now) (a .links .now) (l .inv) (c .next-link .result) (c .before .before .before .before .other-end .result) (v .result) (v .last .0) (c .before .before .before .before .before .before .loop-test .taken) (c .next-link .ensures)
+    followed-more (a .n) (a .bridges .now) (a .links .now) (l .inv) (c .next-link .result) (c .before .before .before .before .other-end .result .0) (v .result) (v .last .0) (c .before .before .before .before .before .before .loop-test .taken) (c .next-link .ensures)
     (c .before .before .before .before .other-end .ensures) (v .kept .0) (v .ensures)
 
 same-length : tie.Need-same-length Inv-loop μ-loop
@@ -50,7 +50,7 @@ returns : tie.Need-returns Inv-loop μ-loop
 returns c =
     let l = c .before .loop in
     let a = (c .before .before .before .before .before .before) .args in
-    followed-all (a .n) (a .bridges .now) (a .links .now) (l .inv) (c .loop-test .left)
+    followed-all (a .n) (a .bridges .now) (a .links .now) (l .inv) (a .node .0) (c .before .before .first-link .ensures) (c .loop-test .left)
 
 pub visit-ends-spec : {M : Type 1} → statement M
 visit-ends-spec =

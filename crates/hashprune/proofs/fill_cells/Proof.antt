@@ -24,10 +24,10 @@ loop-holds c =
     let a = c .before .before .before .before .before .before .before .args in
     (omega arith, refl, refl, came-none (farAt (a .far .now)) (hashAt (a .vectors .now) (a .dimension) (a .bits) (a .planes .now) (a .p .now) (a .candidates .now)) (a .hashes .now) (a .places .now))
 
-mul-hash-of-node : tie.Need-mul-hash-of-node Inv-loop μ-loop
+mul-hash-of-node : tie.Need-mul-put-cell Inv-loop μ-loop
 mul-hash-of-node c = search needs
 
-shared-slice-read-hash-of-node : tie.Need-shared-slice-read-hash-of-node Inv-loop μ-loop
+shared-slice-read-hash-of-node : tie.Need-shared-slice-read-put-cell Inv-loop μ-loop
 shared-slice-read-hash-of-node c = search needs
 
 hash-of-node-requires : tie.Need-hash-of-node-requires Inv-loop μ-loop

@@ -15,7 +15,7 @@ returns : tie.Need-returns
 returns c = λ old t. absurd (omega (arith, c .if1 .taken, t .candidates-most))
 
 returns-2 : tie.Need-returns-2
-returns-2 c = λ old t. let a = c .before .before .before .before .before .before .before .args in absurd (omega (arith, c .if2 .taken, ap length (t .far-is) ∙ length-map (a .candidates .now) (between (vectorsIn (a .dimension) (a .vectors .now)) (a .p))))
+returns-2 c = λ old t. let a = c .before .before .before .before .before .before .before .args in absurd (omega (arith, c .if2 .taken, ap length (t .far-is) ∙ length-map (a .candidates .now) (between (vectorsIn (a .dimension) (a .vectors .now)) (a .p .0))))
 
 returns-3 : tie.Need-returns-3
 returns-3 c = λ old t. absurd (omega (arith, c .if3 .taken, t .row-some))
@@ -37,7 +37,7 @@ returns-5 c = λ old t.
     let a = c .before .before .before .before .before .before .before .before .before .before .before .before .before .before .args in
     c .before .before .insert-fitting .ensures
     ∙ ap (λ (v : List Float). turned (a .vectors .now) (a .dimension) (a .bits) (a .planes .now) v (a .candidates .now) (a .far .now) (a .row .now)) (c .before .before .before .before .get-vector .ensures)
-    ∙ turn-is (a .vectors .now) (a .dimension) (a .bits) (a .planes .now) (a .p) (a .candidates .now) (a .far .now) (a .row .now) old t
+    ∙ turn-is (a .vectors .now) (a .dimension) (a .bits) (a .planes .now) (a .p .0) (a .candidates .now) (a .far .now) (a .row .now) old t
 
 pub hashprune-insert-spec : {M : Type 1} → statement M
 hashprune-insert-spec =

@@ -23,10 +23,10 @@ abbrev μ-loop : tie.MeasureT-loop
 loop-holds : tie.Need-loop-holds Inv-loop μ-loop
 loop-holds c = let x = c .before .before .before .before .args in (omega arith, omega arith, refl, filled-none (vectorsIn (x .dimension) (x .vectors .now)) (x .leaf .now) (x .block .now) (x .floats .now))
 
-mul-get-vector : tie.Need-mul-get-vector Inv-loop μ-loop
+mul-get-vector : tie.Need-mul-t9 Inv-loop μ-loop
 mul-get-vector c = search needs
 
-shared-slice-read-get-vector : tie.Need-shared-slice-read-get-vector Inv-loop μ-loop
+shared-slice-read-get-vector : tie.Need-shared-slice-read-t12 Inv-loop μ-loop
 shared-slice-read-get-vector c = search needs
 
 get-vector-requires : tie.Need-get-vector-requires Inv-loop μ-loop

@@ -28,10 +28,10 @@ add-lesser c = search needs
 lesser-requires : tie.Need-lesser-requires Inv-loop μ-loop
 lesser-requires c κs = search needs
 
-mul-get-vector : tie.Need-mul-get-vector Inv-loop μ-loop
+mul-get-vector : tie.Need-mul-t12 Inv-loop μ-loop
 mul-get-vector c = search needs
 
-shared-slice-read-get-vector : tie.Need-shared-slice-read-get-vector Inv-loop μ-loop
+shared-slice-read-get-vector : tie.Need-shared-slice-read-t14 Inv-loop μ-loop
 shared-slice-read-get-vector c = search needs
 
 get-vector-requires : tie.Need-get-vector-requires Inv-loop μ-loop

@@ -32,7 +32,7 @@ returns : tie.Need-returns
 returns c =
     let a = c .before .before .before .before .args in
     let b = c .before .before .block-in in
-    no-row (a .degree) (a .node) (a .rows .now) (b .result .now) (b .ensures) (omega arith)
+    no-row (a .degree) (a .node .0) (a .rows .now) (b .result .now) (b .ensures) (omega arith)
 
 shared-slice-read-count : tie.Need-shared-slice-read-count
 shared-slice-read-count c = search needs
@@ -59,7 +59,7 @@ returns-2 : tie.Need-returns-2
 returns-2 c =
     let a = c .before .before .before .before .before .before .args in
     let b = c .before .before .before .before .block-in in
-    counted-row (a .degree) (a .node) (a .rows .now) (b .result .now) (b .ensures) (1 + getD (b .result .now) 0 0 - 1) (omega arith) (omega arith)
+    counted-row (a .degree) (a .node .0) (a .rows .now) (b .result .now) (b .ensures) (1 + getD (b .result .now) 0 0 - 1) (omega arith) (omega arith)
 
 mul-result-3 : tie.Need-mul-result-3
 mul-result-3 c = search needs
@@ -77,7 +77,7 @@ returns-3 : tie.Need-returns-3
 returns-3 c =
     let a = c .before .before .before .before .before .before .args in
     let b = c .before .before .before .before .block-in in
-    full-row (a .degree) (a .node) (a .rows .now) (b .result .now) (b .ensures) (omega arith) (omega arith)
+    full-row (a .degree) (a .node .0) (a .rows .now) (b .result .now) (b .ensures) (omega arith) (omega arith)
 
 pub row-of-spec : {M : Type 1} → statement M
 row-of-spec =

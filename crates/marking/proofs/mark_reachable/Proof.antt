@@ -16,10 +16,10 @@ use Rattle.marking.proofs.mark_reachable.Statement.{statement}
 use Rattle.marking.proofs.mark_reachable.Tie as tie
 
 abbrev Inv-loop : tie.InvT-loop
-Inv-loop rows degree bridges links state₀ n start top₀ more₀ state top more = (length state ≡ length state₀) × (top < 2 ^ 32) × (walked n (listWords degree n rows bridges links) more state top ≡ walked n (listWords degree n rows bridges links) n state₀ top₀)
+Inv-loop rows degree bridges links state₀ n top₀ more₀ state top more = (length state ≡ length state₀) × (top < 2 ^ 32) × (walked n (listWords degree n rows bridges links) more state top ≡ walked n (listWords degree n rows bridges links) n state₀ top₀)
 
 abbrev μ-loop : tie.MeasureT-loop
-μ-loop rows degree bridges links state₀ n start top₀ more₀ state top more = more
+μ-loop rows degree bridges links state₀ n top₀ more₀ state top more = more
 
 visit-requires : tie.Need-visit-requires Inv-loop μ-loop
 visit-requires c κs = search needs
@@ -85,7 +85,7 @@ returns c =
     let list : ℕ → List ℕ = listWords (a .degree) (a .n) (a .rows .now) (a .bridges .now) (a .links .now) in
     ended list (a .n) (l .more) (l .top) (l .state) (one-false (ltb 0 (l .top)) (ltb 0 (l .more)) (c .loop-test .left))
     ∙ l .inv .2
-    ∙ start list (a .n) (a .start) (a .state .now) (c .before .before .before .before .visit .last .0) (c .before .before .before .before .visit .result) (c .before .before .before .before .visit .ensures)
+    ∙ start list (a .n) (a .start .0) (a .state .now) (c .before .before .before .before .visit .last .0) (c .before .before .before .before .visit .result) (c .before .before .before .before .visit .ensures)
 
 pub mark-reachable-spec : {M : Type 1} → statement M
 mark-reachable-spec =

@@ -2,7 +2,7 @@
 use mathlib.Core.Path.{_≡_, refl, ap, _∙_}
 use Prim.Native.Nat.{ℕ, _≤_}
 use lib.ListN.{length}
-use Rattle.chains.specs.Chains.{firstLink, nextLink, linkedEnds}
+use Rattle.chains.specs.Chains.{nextLink, linkedEnds}
 use Rattle.chains.proofs.Reading.{first-place, next-place}
 use Rattle.marking.specs.Marking.{Marks, marks, visited, visitedAll}
 use Rattle.marking.proofs.Steps.{ends-step, ends-less, ends-end}
@@ -12,10 +12,10 @@ use Rattle.marking.proofs.visit_ends.Statement.{statement}
 use Rattle.marking.proofs.visit_ends.Tie as tie
 
 abbrev Inv-loop : tie.InvT-loop
-Inv-loop bridges links state₀ n top u front₀ link₀ state front link = (link ≤ length links) × (length state ≡ length state₀) × (visitedAll n (linkedEnds n bridges links link) (marks state front) ≡ visitedAll n (linkedEnds n bridges links (firstLink n links u)) (marks state₀ top))
+Inv-loop bridges links state₀ n top front₀ link₀ state front link = (link ≤ length links) × (length state ≡ length state₀) × (visitedAll n (linkedEnds n bridges links link) (marks state front) ≡ visitedAll n (linkedEnds n bridges links link₀) (marks state₀ top))
 
 abbrev μ-loop : tie.MeasureT-loop
-μ-loop bridges links state₀ n top u front₀ link₀ state front link = length (linkedEnds n bridges links link)
+μ-loop bridges links state₀ n top front₀ link₀ state front link = length (linkedEnds n bridges links link)
 
 first-link-requires : tie.Need-first-link-requires Inv-loop μ-loop
 first-link-requires c κs = search needs
@@ -24,9 +24,9 @@ loop-holds : tie.Need-loop-holds Inv-loop μ-loop
 loop-holds c =
     let a = c .before .before .before .before .args in
     let f = c .first-link in (
-      omega (arith, f .ensures, first-place (a .n) (a .links .now) (a .u)),
+      omega (arith, f .ensures, first-place (a .n) (a .links .now) (a .u .0)),
       refl,
-      ap (λ (k : ℕ). visitedAll (a .n) (linkedEnds (a .n) (a .bridges .now) (a .links .now) k) (marks (a .state .now) (a .top))) (f .ensures),
+      refl,
     )
 
 other-end-requires : tie.Need-other-end-requires Inv-loop μ-loop
@@ -71,6 +71,7 @@ returns c =
     let l = c .before .loop in
     let a = c .before .before .before .before .before .before .args in
     ends-end (a .n) (a .bridges .now) (a .links .now) (l .link) (marks (l .state) (l .front)) (c .loop-test .left) ∙ l .inv .2
+    ∙ ap (λ (k : ℕ). visitedAll (a .n) (linkedEnds (a .n) (a .bridges .now) (a .links .now) k) (marks (a .state .now) (a .top))) (c .before .before .first-link .ensures)
 
 pub visit-ends-spec : {M : Type 1} → statement M
 visit-ends-spec =

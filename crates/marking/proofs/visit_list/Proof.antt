@@ -27,10 +27,10 @@ same-length c = search needs
 returns : tie.Need-returns
 returns c =
     let a = c .before .before .before .before .before .before .before .before .before .before .before .before .before .args in
-    let ends : List ℕ = linkedEnds (a .n) (a .bridges .now) (a .links .now) (firstLink (a .n) (a .links .now) (a .u)) in
+    let ends : List ℕ = linkedEnds (a .n) (a .bridges .now) (a .links .now) (firstLink (a .n) (a .links .now) (a .u .0)) in
     c .before .before .visit-ends .ensures
     ∙ ap (visitedAll (a .n) ends) (c .before .before .before .before .before .before .visit-row .ensures ∙ ap (λ (l : List ℕ). visitedAll (a .n) l (marks (a .state .now) (a .top))) (c .before .before .before .before .before .before .before .before .row-of .ensures))
-    ∙ sym (visit-both (a .n) (getD (rowLists (a .degree) (a .rows .now)) (a .u) []) ends (marks (a .state .now) (a .top)))
+    ∙ sym (visit-both (a .n) (getD (rowLists (a .degree) (a .rows .now)) (a .u .0) []) ends (marks (a .state .now) (a .top)))
 
 pub visit-list-spec : {M : Type 1} → statement M
 visit-list-spec =

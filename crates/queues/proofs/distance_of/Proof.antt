@@ -11,6 +11,9 @@ use borrow.Author.Needs.{needs}
 use Rattle.queues.proofs.distance_of.Statement.{statement}
 use Rattle.queues.proofs.distance_of.Tie as tie
 
+cast-at : tie.Need-cast-at
+cast-at c = search needs
+
 mul-result : tie.Need-mul-result
 mul-result c = search needs
 
@@ -23,7 +26,7 @@ at-either (x ∷ l) zero h = refl
 at-either (x ∷ l) (suc i) h = at-either l i (omega arith)
 
 returns : tie.Need-returns
-returns c = at-either (c .before .before .args .floats .now) (c .before .before .args .node) (c .before .if1 .taken)
+returns c = at-either (c .before .before .before .args .floats .now) (c .before .before .before .args .node .0) (c .before .if1 .taken)
 
 float-from-bits-result : tie.Need-float-from-bits-result
 unfolding nanBits
@@ -31,9 +34,9 @@ float-from-bits-result c = tt
 
 returns-2 : tie.Need-returns-2
 unfolding ofBits
-returns-2 c = sym (List·getD-eq-default (c .before .args .floats .now) (inf false) (c .if1 .left))
+returns-2 c = sym (List·getD-eq-default (c .before .before .args .floats .now) (inf false) (c .if1 .left))
 
 pub distance-of-spec : {M : Type 1} → statement M
 distance-of-spec =
     tie.close
-    (tie.spec mul-result shared-slice-read-result returns float-from-bits-result returns-2)
+    (tie.spec cast-at mul-result shared-slice-read-result returns float-from-bits-result returns-2)

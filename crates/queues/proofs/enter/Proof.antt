@@ -19,7 +19,7 @@ same-length c = search needs
 returns : tie.Need-returns
 returns c =
     let a = (c .before .before .before .before .before .before .before .before) .args in
-    entering (a .node) (a .floats .now) (a .tree .now) (c .before .before .put .last .0) (c .before .before .before .before .before .distance-of .result) (c .before .before .before .before .key .result) (c .before .before .before .before .before .distance-of .ensures) (c .before .before .before .before .key .ensures) (c .before .before .put .ensures)
+    entering (a .node .0) (a .floats .now) (a .tree .now) (c .before .before .put .last .0) (c .before .before .before .before .before .distance-of .result) (c .before .before .before .before .key .result) (c .before .before .before .before .before .distance-of .ensures) (c .before .before .before .before .key .ensures) (c .before .before .put .ensures)
 
 pub enter-spec : {M : Type 1} → statement M
 enter-spec =

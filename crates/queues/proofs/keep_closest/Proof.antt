@@ -31,7 +31,7 @@ returns c =
     let words = c .before .before .before .before .before .before .before .slice-known .given in
     let new = c .before .before .before .before .before .distance-of in
     let put = c .before .before .hold in
-    kept-free (a .tree .now) (firstOf (a .tree .now)) refl (omega (arith, words 3)) (omega (arith, words 2)) (a .floats .now) (a .places) (a .held) (a .node) (new .result) (new .ensures)
+    kept-free (a .tree .now) (firstOf (a .tree .now)) refl (omega (arith, words 3)) (omega (arith, words 2)) (a .floats .now) (a .places) (a .held) (a .node .0) (new .result) (new .ensures)
     (put .last .0) (c .before .before .before .before .if1 .taken) (put .ensures)
 
 first-requires : tie.Need-first-requires
@@ -51,7 +51,7 @@ returns-2 c =
     let words = c .before .before .before .before .before .before .slice-known .given in
     let new = c .before .before .before .before .distance-of in
     let first = c .before .first in
-    kept-none (a .tree .now) (first .result) (first .ensures) (omega (arith, words 3)) (omega (arith, words 2)) (a .floats .now) (a .places) (a .held) (a .node) (new .result) (new .ensures)
+    kept-none (a .tree .now) (first .result) (first .ensures) (omega (arith, words 3)) (omega (arith, words 2)) (a .floats .now) (a .places) (a .held) (a .node .0) (new .result) (new .ensures)
     (c .before .before .before .if1 .left) (c .if2 .taken)
 
 sub-value : tie.Need-sub-value
@@ -77,7 +77,7 @@ returns-3 c =
     let first = c .before .before .before .before .before .before .before .before .before .before .first in
     let most = c .before .before .before .before .before .before .before .value in
     let put = c .before .before .before .before .hold2 in
-    kept-new (a .tree .now) (first .result) (first .ensures) (omega (arith, words 3)) (omega (arith, words 2)) (a .floats .now) (a .places) (a .held) (a .node) (new .result) (new .ensures)
+    kept-new (a .tree .now) (first .result) (first .ensures) (omega (arith, words 3)) (omega (arith, words 2)) (a .floats .now) (a .places) (a .held) (a .node .0) (new .result) (new .ensures)
     (c .before .before .before .before .before .before .before .before .before .before .before .before .if1 .left) (c .before .before .before .before .before .before .before .before .before .if2 .left) (most .result) (most .ensures) (put .last .0) (c .worst-of .result) (c .before .before .before .before .before .before .if3 .taken) (put .ensures) (c .worst-of .ensures)
 
 same-length-4 : tie.Need-same-length-4
@@ -90,7 +90,7 @@ returns-4 c =
     let new = c .before .before .before .before .before .before .before .distance-of in
     let first = c .before .before .before .before .first in
     let most = c .before .value in
-    kept-same (a .tree .now) (first .result) (first .ensures) (omega (arith, words 3)) (omega (arith, words 2)) (a .floats .now) (a .places) (a .held) (a .node) (new .result) (new .ensures)
+    kept-same (a .tree .now) (first .result) (first .ensures) (omega (arith, words 3)) (omega (arith, words 2)) (a .floats .now) (a .places) (a .held) (a .node .0) (new .result) (new .ensures)
     (c .before .before .before .before .before .before .if1 .left) (c .before .before .before .if2 .left) (most .result) (most .ensures) (c .if3 .left)
 
 pub keep-closest-spec : {M : Type 1} → statement M

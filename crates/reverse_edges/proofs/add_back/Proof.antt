@@ -11,14 +11,17 @@ use Rattle.reverse_edges.proofs.add_back.Tie as tie
 add-size : tie.Need-add-size
 add-size c = search needs
 
+cast-at : tie.Need-cast-at
+cast-at c = search needs
+
 mul-at : tie.Need-mul-at
-mul-at c = omega (arith, place-fits (c .before .args .nb) (1 + c .before .args .degree) (omega arith) (omega arith))
+mul-at c = omega (arith, place-fits (c .before .before .args .nb .0) (1 + c .before .before .args .degree) (omega arith) (omega arith))
 
 add-end : tie.Need-add-end
-add-end c = omega (arith, place-fits (c .before .args .nb) (1 + c .before .args .degree) (omega arith) (omega arith))
+add-end c = omega (arith, place-fits (c .before .before .args .nb .0) (1 + c .before .before .args .degree) (omega arith) (omega arith))
 
 returns : tie.Need-returns
-returns c = let x = c .before .before .args in back-none (x .degree) (x .node) (x .nb) (x .rows .now) (c .if1 .taken)
+returns c = let x = c .before .before .before .args in back-none (x .degree) (x .node .0) (x .nb .0) (x .rows .now) (c .if1 .taken)
 
 mul-add-entry : tie.Need-mul-add-entry
 mul-add-entry c = search needs
@@ -40,16 +43,17 @@ same-length c = search needs
 
 returns-2 : tie.Need-returns-2
 returns-2 c =
-    let x = c .before .before .before .before .before .before .args in
-    let at : ℕ = x .nb * (1 + x .degree) in
+    let x = c .before .before .before .before .before .before .before .args in
+    let at : ℕ = x .nb .0 * (1 + x .degree) in
     let size : ℕ = (at + (1 + x .degree)) - at in
-    back-put (x .degree) (x .node) (x .nb) (x .rows .now) at size _ refl (omega arith) (c .before .before .add-entry .ensures)
+    back-put (x .degree) (x .node .0) (x .nb .0) (x .rows .now) at size _ refl (omega arith) (c .before .before .add-entry .ensures)
 
 pub add-back-spec : {M : Type 1} → statement M
 add-back-spec =
     tie.close
     (tie.spec
     add-size
+    cast-at
     mul-at
     add-end
     returns

@@ -10,7 +10,7 @@ use Rattle.reverse_edges.proofs.add_backs.Statement.{statement}
 use Rattle.reverse_edges.proofs.add_backs.Tie as tie
 
 abbrev Inv-loop : tie.InvT-loop
-Inv-loop rows₀ degree node count e₀ rows e = (length rows ≡ length rows₀) × TurnedTo degree node e rows₀ rows
+Inv-loop rows₀ degree node count e₀ rows e = (length rows ≡ length rows₀) × TurnedTo degree (node .0) e rows₀ rows
 
 abbrev μ-loop : tie.MeasureT-loop
 μ-loop rows₀ degree node count e₀ rows e = count - e
@@ -21,7 +21,7 @@ row-of-requires c κs = search needs
 loop-holds : tie.Need-loop-holds Inv-loop μ-loop
 loop-holds c =
     let x = c .before .before .before .args in
-    (refl, turn-first (x .degree) (x .node) (x .rows .now))
+    (refl, turn-first (x .degree) (x .node .0) (x .rows .now))
 
 entry-of-requires : tie.Need-entry-of-requires Inv-loop μ-loop
 entry-of-requires c κs = search needs
@@ -44,7 +44,7 @@ loop-again c =
     let nb = c .before .before .before .before .entry-of in
     let back = c .before .before .add-back in (
       back .kept .0 ∙ l .inv .0,
-      turn-more (x .degree) (x .node) (x .rows .now) (l .e) (nb .result) (l .rows) (back .last .0) (omega (arith, ap length (row .ensures))) (nb .ensures) (l .inv .1) (back .ensures),
+      turn-more (x .degree) (x .node .0) (x .rows .now) (l .e) (nb .result .0) (l .rows) (back .last .0) (omega (arith, ap length (row .ensures))) (nb .ensures) (l .inv .1) (back .ensures),
     )
 
 same-length : tie.Need-same-length Inv-loop μ-loop
@@ -54,7 +54,7 @@ returns : tie.Need-returns Inv-loop μ-loop
 returns c =
     let l = c .before .loop in
     let x = c .before .before .before .before .before .args in
-    turn-last (x .degree) (x .node) (x .rows .now) (l .e) (l .rows) (omega (arith, ap length (c .before .before .row-of .ensures))) (l .inv .1)
+    turn-last (x .degree) (x .node .0) (x .rows .now) (l .e) (l .rows) (omega (arith, ap length (c .before .before .row-of .ensures))) (l .inv .1)
 
 pub add-backs-spec : {M : Type 1} → statement M
 add-backs-spec =

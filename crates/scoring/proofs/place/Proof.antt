@@ -5,6 +5,9 @@ use borrow.Author.Needs.{needs}
 use Rattle.scoring.proofs.place.Statement.{statement}
 use Rattle.scoring.proofs.place.Tie as tie
 
+cast-at : tie.Need-cast-at
+cast-at c = search needs
+
 mul-floats : tie.Need-mul-floats
 mul-floats c = search needs
 
@@ -21,4 +24,4 @@ returns-2 : tie.Need-returns-2
 returns-2 c = sym (set-out _ _ _ (c .if1 .left))
 
 pub place-spec : {M : Type 1} → statement M
-place-spec = tie.close (tie.spec mul-floats slice-write-floats same-length returns returns-2)
+place-spec = tie.close (tie.spec cast-at mul-floats slice-write-floats same-length returns returns-2)

@@ -25,7 +25,7 @@ unfolding farFrom
 returns c =
     let a = (c .before .before .before .before .before .before .before .before .before) .args in
     c .before .before .place .ensures
-    ∙ ap (set (a .floats .now) (a .node)) (c .before .before .before .before .cosine-distance-normalized .ensures ∙ ap (distanceOf binary32 (a .query .now)) (c .before .before .before .before .before .get-vector .ensures))
+    ∙ ap (set (a .floats .now) (a .node .0)) (c .before .before .before .before .cosine-distance-normalized .ensures ∙ ap (distanceOf binary32 (a .query .now)) (c .before .before .before .before .before .get-vector .ensures))
 
 pub score-one-spec : {M : Type 1} → statement M
 score-one-spec =

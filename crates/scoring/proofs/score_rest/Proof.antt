@@ -19,10 +19,10 @@ abbrev μ-loop : tie.MeasureT-loop
 loop-holds : tie.Need-loop-holds Inv-loop μ-loop
 loop-holds c = (refl, refl)
 
-mul-score-one : tie.Need-mul-score-one Inv-loop μ-loop
+mul-score-one : tie.Need-mul-t8 Inv-loop μ-loop
 mul-score-one c = search needs
 
-shared-slice-read-score-one : tie.Need-shared-slice-read-score-one Inv-loop μ-loop
+shared-slice-read-score-one : tie.Need-shared-slice-read-t14 Inv-loop μ-loop
 shared-slice-read-score-one c = search needs
 
 score-one-requires : tie.Need-score-one-requires Inv-loop μ-loop

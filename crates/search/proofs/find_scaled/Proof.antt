@@ -1,11 +1,18 @@
 -- The parts lie in the stores, and what the walk over them leaves is the reply (proofs/Replying). Assumes nothing.
-use mathlib.Core.Path.{sym}
-use lib.Seq.{length-take-le}
+use mathlib.Core.Path.{sym, _∙_}
+use mathlib.Core.List.{List}
+use Prim.Native.Nat.{ℕ}
+use lib.ListN.{drop, replicate, length-replicate}
+use lib.Seq.{length-take-le, length-front}
 use Rattle.search.proofs.Replying as replying
 use native.Mathlib.Omega.{arith}
 use borrow.Author.Needs.{needs}
 use Rattle.search.proofs.find_scaled.Statement.{statement}
 use Rattle.search.proofs.find_scaled.Tie as tie
+
+-- the array of nodes as the walk finds it
+abbrev zeroes : List ℕ
+zeroes = replicate 1024 0
 
 parts-of-requires : tie.Need-parts-of-requires
 parts-of-requires c κs =
@@ -53,16 +60,16 @@ part-beam-search-start-2 c = search needs
 part-beam-search-end-2 : tie.Need-part-beam-search-end-2
 part-beam-search-end-2 c = fit (c .before .before .before .before) .bridges-end
 
+array-borrow-prefix-nodes : tie.Need-array-borrow-prefix-nodes
+array-borrow-prefix-nodes c = let s = c .before .before .before .before .before .before .before .before .before .before .before .before .before in omega (arith, c .before .before .before .before .wanted .ensures, replying.few _ _ _ (s .args .k) (s .args .ef) _ _ _ _ (s .pre))
+
 slice-relend-prefix-beam-search : tie.Need-slice-relend-prefix-beam-search
 slice-relend-prefix-beam-search c = search needs
 
 slice-aggregate-beam-search-2 : tie.Need-slice-aggregate-beam-search-2
 slice-aggregate-beam-search-2 c =
     let s = c .before .before .before .before .before .before .before .before .before .before .before .before .before .before in
-    sym (length-take-le _ _ (omega (arith, c .before .before .before .before .before .wanted .ensures, s .pre .docs-room)))
-
-slice-relend-prefix-beam-search-2 : tie.Need-slice-relend-prefix-beam-search-2
-slice-relend-prefix-beam-search-2 c = search needs
+    sym (length-take-le _ zeroes (omega (arith, c .before .before .before .before .before .wanted .ensures, replying.few _ _ _ (s .args .k) (s .args .ef) _ _ _ _ (s .pre), length-replicate {A = ℕ} 1024 0)))
 
 slice-aggregate-beam-search-3 : tie.Need-slice-aggregate-beam-search-3
 slice-aggregate-beam-search-3 c =
@@ -72,6 +79,11 @@ slice-aggregate-beam-search-3 c =
 beam-search-requires : tie.Need-beam-search-requires
 beam-search-requires c κs = search needs
 
+slice-aggregate-put-docs : tie.Need-slice-aggregate-put-docs
+slice-aggregate-put-docs c =
+    let beam = c .before .before .before .before .before .before .before .before .beam-search in
+    sym (length-front zeroes (beam .last .1 .1 .1 .1 .1 .1 .1 .0) (c .before .before .before .before .before .before .before .before .before .before .before .before .before .before .before .before .before .wanted .result) (beam .kept .1 .1 .1 .1 .1 .1 .1 .0) ∙ length-replicate {A = ℕ} 1024 0)
+
 cast-put-docs : tie.Need-cast-put-docs
 cast-put-docs c = search needs
 
@@ -80,9 +92,15 @@ put-docs-requires c κs =
     let s = c .before .before .before .before .before .before .before .before .before .before .before .before .before .before .before .before .before .before .before .before .before .before .before .before .before .before .before .before in
     let a = s .args in
     let beam = c .before .before .before .before .before .before .before .before .before .before .beam-search in
+    let stands =
+    replying.count-stands (a .words .now) (a .floats .now) (a .scaled .now) (a .k) (a .ef) (a .docs .now) (a .distances .now) _ _ (s .pre) (c .before .before .before .before .before .before .before .before .before .before .before .before .before .before .before .before .before .before .before .before .parts-of .result) (c .before .before .before .before .before .before .before .before .before .before .before .before .before .before .before .before .before .before .before .before .parts-of .ensures)
+    (c .before .before .before .before .before .before .before .before .before .before .before .before .before .before .before .before .before .before .before .wanted .result) (c .before .before .before .before .before .before .before .before .before .before .before .before .before .before .before .before .before .before .larger .result) (c .before .before .before .before .before .before .before .before .before .before .before .before .before .before .before .before .before .before .before .wanted .ensures) (c .before .before .before .before .before .before .before .before .before .before .before .before .before .before .before .before .before .before .larger .ensures)
+    zeroes (beam .last .1 .1 .1 .1 .1 .1 .1 .0) (omega (arith, replying.few _ _ _ (s .args .k) (s .args .ef) _ _ _ _ (s .pre), length-replicate {A = ℕ} 1024 0)) (beam .last .1 .1 .1 .1 .1 .1 .1 .1 .0) (beam .result) (beam .ensures) (drop (c .before .before .before .before .before .before .before .before .before .before .before .before .before .before .before .before .before .before .before .wanted .result) zeroes) in
+    let fits =
     replying.count-fits (a .words .now) (a .floats .now) (a .scaled .now) (a .k) (a .ef) (a .docs .now) (a .distances .now) _ _ (s .pre) (c .before .before .before .before .before .before .before .before .before .before .before .before .before .before .before .before .before .before .before .before .parts-of .result) (c .before .before .before .before .before .before .before .before .before .before .before .before .before .before .before .before .before .before .before .before .parts-of .ensures)
     (c .before .before .before .before .before .before .before .before .before .before .before .before .before .before .before .before .before .before .before .wanted .result) (c .before .before .before .before .before .before .before .before .before .before .before .before .before .before .before .before .before .before .larger .result) (c .before .before .before .before .before .before .before .before .before .before .before .before .before .before .before .before .before .before .before .wanted .ensures) (c .before .before .before .before .before .before .before .before .before .before .before .before .before .before .before .before .before .before .larger .ensures)
-    (beam .last .1 .1 .1 .1 .1 .1 .1 .0) (beam .last .1 .1 .1 .1 .1 .1 .1 .1 .0) (beam .result) (beam .ensures)
+    zeroes (beam .last .1 .1 .1 .1 .1 .1 .1 .0) (omega (arith, replying.few _ _ _ (s .args .k) (s .args .ef) _ _ _ _ (s .pre), length-replicate {A = ℕ} 1024 0)) (beam .last .1 .1 .1 .1 .1 .1 .1 .1 .0) (beam .result) (beam .ensures) in
+    (omega (arith, stands), omega (arith, fits))
 
 same-length : tie.Need-same-length
 same-length c = search needs
@@ -103,7 +121,8 @@ returns c =
     let beam = c .before .before .before .before .before .before .before .before .before .before .before .before .before .beam-search in
     replying.reply (a .words .now) (a .floats .now) (a .scaled .now) (a .k) (a .ef) (a .docs .now) (a .distances .now) _ _ (s .pre) (c .before .before .before .before .before .before .before .before .before .before .before .before .before .before .before .before .before .before .before .before .before .before .before .parts-of .result) (c .before .before .before .before .before .before .before .before .before .before .before .before .before .before .before .before .before .before .before .before .before .before .before .parts-of .ensures)
     (c .before .before .before .before .before .before .before .before .before .before .before .before .before .before .before .before .before .before .before .before .before .before .wanted .result) (c .before .before .before .before .before .before .before .before .before .before .before .before .before .before .before .before .before .before .before .before .before .larger .result) (c .before .before .before .before .before .before .before .before .before .before .before .before .before .before .before .before .before .before .before .before .before .before .wanted .ensures) (c .before .before .before .before .before .before .before .before .before .before .before .before .before .before .before .before .before .before .before .before .before .larger .ensures)
-    (beam .last .1 .1 .1 .1 .1 .1 .1 .0) (beam .last .1 .1 .1 .1 .1 .1 .1 .1 .0) (beam .result) (beam .ensures) (c .before .before .put-docs .last .1 .0) (c .before .before .put-docs .ensures)
+    zeroes (beam .last .1 .1 .1 .1 .1 .1 .1 .0) (omega (arith, replying.few _ _ _ (s .args .k) (s .args .ef) _ _ _ _ (s .pre), length-replicate {A = ℕ} 1024 0)) (beam .last .1 .1 .1 .1 .1 .1 .1 .1 .0) (beam .result) (beam .ensures)
+    (drop (c .before .before .before .before .before .before .before .before .before .before .before .before .before .before .before .before .before .before .before .before .before .before .wanted .result) zeroes) (c .before .before .put-docs .last .1 .1 .0) (c .before .before .put-docs .ensures)
 
 pub find-scaled-spec : {M : Type 1} → statement M
 find-scaled-spec =
@@ -121,11 +140,12 @@ find-scaled-spec =
     sub-beam-search-2
     part-beam-search-start-2
     part-beam-search-end-2
-    slice-relend-prefix-beam-search
+    array-borrow-prefix-nodes
     slice-aggregate-beam-search-2
-    slice-relend-prefix-beam-search-2
+    slice-relend-prefix-beam-search
     slice-aggregate-beam-search-3
     beam-search-requires
+    slice-aggregate-put-docs
     cast-put-docs
     put-docs-requires
     same-length

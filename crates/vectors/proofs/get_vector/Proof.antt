@@ -14,11 +14,14 @@ use Rattle.vectors.proofs.get_vector.Lts as lts
 small : (a b : ℕ) → a ≤ 4294967295 → b ≤ 4294967295 → a * b ≤ 4294967295 * 4294967295
 small a b h k = mul-le-mul h k
 
+cast-at : tie.Need-cast-at
+cast-at c = search needs
+
 mul-at : tie.Need-mul-at
-mul-at c = omega (arith, small (c .args .node) (c .args .dimension) (omega arith) (omega arith))
+mul-at c = omega (arith, small (c .before .args .node .0) (c .before .args .dimension) (omega arith) (omega arith))
 
 add-end : tie.Need-add-end
-add-end c = omega (arith, small (c .args .node) (c .args .dimension) (omega arith) (omega arith))
+add-end c = omega (arith, small (c .before .args .node .0) (c .before .args .dimension) (omega arith) (omega arith))
 
 mul-result : tie.Need-mul-result
 mul-result c = search needs
@@ -34,11 +37,11 @@ part-result-end c = search needs
 
 returns : tie.Need-returns
 returns c =
-    let a = c .before .before .args in
+    let a = c .before .before .before .args in
     let d : ℕ = a .dimension in
-    let at : ℕ = a .node * d in
+    let at : ℕ = a .node .0 * d in
     let size : at + d - at ≡ d = omega arith in
-    ap (λ (k : ℕ). take k (drop at (a .vectors .now))) size ∙ sym (whole-piece d (a .node) (a .vectors .now) (c .before .if1 .taken))
+    ap (λ (k : ℕ). take k (drop at (a .vectors .now))) size ∙ sym (whole-piece d (a .node .0) (a .vectors .now) (c .before .if1 .taken))
 
 mul-result-2 : tie.Need-mul-result-2
 mul-result-2 c = search needs
@@ -53,21 +56,9 @@ part-result-end-2 : tie.Need-part-result-end-2
 part-result-end-2 c = search needs
 
 returns-2 : tie.Need-returns-2
-returns-2 c = let a = c .before .before .args in sym (no-piece (a .dimension) (a .node) (a .vectors .now) (omega arith))
+returns-2 c = let a = c .before .before .before .args in sym (no-piece (a .dimension) (a .node .0) (a .vectors .now) (omega arith))
 
 pub get-vector-spec : {M : Type 1} → statement M
 get-vector-spec =
     tie.close
-    (tie.spec
-    mul-at
-    add-end
-    mul-result
-    sub-result
-    part-result-start
-    part-result-end
-    returns
-    mul-result-2
-    sub-result-2
-    part-result-start-2
-    part-result-end-2
-    returns-2)
+    (tie.spec cast-at mul-at add-end mul-result sub-result part-result-start part-result-end returns mul-result-2 sub-result-2 part-result-start-2 part-result-end-2 returns-2)
