@@ -129,7 +129,7 @@ module _ (n d : ℕ) (p : PipnnParams) (vectors : List Float) (rows₀ : List �
   many = vectors-many n d vectors (fit .dimension-some) (fit .vectors-are)
 
   laid : Laid full count (2 * n) words′
-  laid = carved (record { vectors = many; most = fit .most; some = fit .leaf-some; room = fit .words-room })
+  laid = carved .made many (record { most = fit .most; some = fit .leaf-some; room = fit .words-room })
 
   pub carved-count : count ≤ 2 * n
   carved-count =

@@ -1,7 +1,7 @@
 -- One segment and its buckets, as the slices hold them, against the equations of carving. Assumes nothing.
 use mathlib.Core.Path.{_≡_, refl, sym, ap, ap₂, _∙_, subst}
 use mathlib.Core.Bool.{true}
-use mathlib.Core.List.{List, [], _∷_, _++_, map, flatten, append-nil}
+use mathlib.Core.List.{List, [], _∷_, _++_, map, flatten, append-nil, append-assoc}
 use Prim.Native.Nat.{ℕ, _+_, _-_, _*_, _≤_, _<_, min}
 use native.Mathlib.Omega.{arith}
 use lib.Dec.{leb, eqb}
@@ -13,7 +13,7 @@ use borrow.Author.Tests.{eq-eqb, ne-eqb, le-leb, lt-leb}
 use Rattle.basics.specs.Choice.{pick, pick-true, pick-false, pick-ind}
 use Rattle.leaders.specs.Leaders.{upTo}
 use Rattle.leaders.proofs.Draws.{length-upTo}
-use Rattle.partition.specs.Partition.{fanout, isLeaf, bucketsOf, carveSegment, carveBuckets, leavesOf, segment-equation}
+use Rattle.partition.specs.Partition.{fanout, isLeaf, bucketsOf, carveSegment, carveBuckets, leavesOf, eachBy, segment-equation}
 use Rattle.dealing.specs.Marks.{run, marksOf}
 use Rattle.dealing.specs.Deal.{Fitting, Holding}
 use Rattle.dealing.proofs.Marks.{marks-one, flatten-one, length-run}
@@ -38,17 +38,38 @@ fan-some level =
     (λ _. pick-ind (λ (k : ℕ). (k ≡ 0 → ⊥) → level ≤ 20) (leb level 20) (λ t _. lib.Dec.leb→le level 20 t) (λ _ f. absurd (f refl)))
 
 -- a segment below the top fits over its own place
-pub fitting-down : (level : ℕ) (part nodes marks : List ℕ) → Dealing level nodes marks → part ≡ nodes → Fitting level part nodes marks
-fitting-down level part nodes marks d e =
-    let one = fan-one level (d .0) (d .1) in
+pub fitting-down : (level : ℕ) (part nodes marks : List ℕ) (ids room cards : ℕ) → Dealing level nodes marks ids room cards → part ≡ nodes
+    → (cards′ : ℕ) → cards′ ≡ length nodes → Fitting level part nodes marks room cards′
+fitting-down level part nodes marks ids room cards d e cards′ f =
+    let one = fan-one level (d .below) (d .levels) in
     let same = ap length e in
     record {
       deals = omega arith;
-      two = omega (arith, d .2);
+      two = omega (arith, d .two);
       nodes-size = omega (arith, ap (λ (k : ℕ). k * length part) one);
-      marks-size = d .4;
-      few = d .3;
+      marks-size = d .marked;
+      few = d .few;
+      room-size = omega (arith, d .few, d .scratch .room-size);
+      cards-size = f ∙ sym same;
     }
+
+-- ---- a part of a slice, lent and come back
+
+module _ (xs part : List ℕ) (at end : ℕ) (starts : at ≤ end) (ends : end ≤ length xs) (same : length part ≡ length (take (end - at) (drop at xs))) where
+  part-size : length part ≡ end - at
+  part-size = same ∙ length-take-le (end - at) (drop at xs) (omega (arith, length-drop at xs))
+
+  front-size : length (take at xs ++ part) ≡ end
+  front-size = let h : at ≤ length xs = omega arith in omega (arith, length-append (take at xs) part, length-take-le at xs h, part-size)
+
+  joined : putMid at (end - at) xs part ≡ (take at xs ++ part) ++ drop (end - at) (drop at xs)
+  joined = sym (append-assoc (take at xs) part (drop (end - at) (drop at xs)))
+
+  pub back-front : take end (putMid at (end - at) xs part) ≡ take at xs ++ part
+  back-front = ap (take end) joined ∙ take-at (take at xs ++ part) (drop (end - at) (drop at xs)) end front-size
+
+  pub back-rest : drop end (putMid at (end - at) xs part) ≡ drop (end - at) (drop at xs)
+  back-rest = ap (drop end) joined ∙ drop-at (take at xs ++ part) (drop (end - at) (drop at xs)) end front-size
 
 module _ (maxLeaf minLeaf : ℕ) (fraction : Float) (vs : List (List Float)) where
   -- ---- a leaf, and what is none
@@ -80,54 +101,75 @@ module _ (maxLeaf minLeaf : ℕ) (fraction : Float) (vs : List (List Float)) whe
   pub leaf-stays : (level : ℕ) (nodes marks : List ℕ) → carved level nodes ≡ nodes ∷ [] → CarvesSegment maxLeaf minLeaf fraction vs level nodes marks nodes marks
   leaf-stays level nodes marks e m = (sym (ap flatten e ∙ flatten-one nodes), m ∙ sym (ap marksOf e))
 
-  -- ---- buckets
+  -- ---- buckets, one after the other
 
   empty-leaf : (level : ℕ) → carved level [] ≡ [] ∷ []
   empty-leaf level = leaf-small level [] (omega arith)
 
-  nothing : (l : List ℕ) → length l ≡ 0 → l ≡ []
-  nothing [] e = refl
-  nothing (x ∷ l) e = absurd (omega arith)
+  -- in front of `at` stand the leaves of some buckets, from there on the other buckets
+  pub record Partly (level : ℕ) (buckets : List (List ℕ)) (nodes marks : List ℕ) (at : ℕ) : Type 0 where
+    pub rest : List (List ℕ)
+    pub left : Holding rest (drop at nodes) (drop at marks)
+    pub nodes-done : flatten (carveBuckets maxLeaf minLeaf fraction vs level buckets) ≡ take at nodes ++ flatten (carveBuckets maxLeaf minLeaf fraction vs level rest)
+    pub marks-done : marksOf (carveBuckets maxLeaf minLeaf fraction vs level buckets) ≡ take at marks ++ marksOf (carveBuckets maxLeaf minLeaf fraction vs level rest)
 
-  pub buckets-end : (level : ℕ) (nodes marks : List ℕ) → length nodes ≡ 0 → length marks ≡ length nodes → CarvesBuckets maxLeaf minLeaf fraction vs level nodes marks nodes marks
+  pub partly-none : (level : ℕ) (bs : List (List ℕ)) (nodes marks : List ℕ) → Holding bs nodes marks → Partly level bs nodes marks 0
+  partly-none level bs nodes marks h = record { rest = bs; left = h; nodes-done = refl; marks-done = refl }
+
+  pub partly-done : (level : ℕ) (bs : List (List ℕ)) (nodes marks : List ℕ) (at : ℕ) → length nodes ≤ at → length marks ≡ length nodes → Partly level bs nodes marks at
+      → Holding (carveBuckets maxLeaf minLeaf fraction vs level bs) nodes marks
   unfolding carveBuckets
-  buckets-end level nodes marks e m bs h =
-      let none = none-left bs (sym (ap length (h .0)) ∙ e) .1 (carved level) (empty-leaf level) in
-      (nothing nodes e ∙ sym (none .0), nothing marks (m ∙ e) ∙ sym (none .1))
+  partly-done level bs nodes marks at h e p =
+      let none = none-left (p .rest) (omega (arith, ap length (p .left .0), length-drop at nodes)) .1 (carved level) (empty-leaf level) in (
+        sym (p .nodes-done ∙ ap₂ (λ (a : List ℕ) (b : List ℕ). a ++ b) (take-all at nodes h) (none .0) ∙ append-nil nodes),
+        sym (p .marks-done ∙ ap₂ (λ (a : List ℕ) (b : List ℕ). a ++ b) (take-all at marks (omega arith)) (none .1) ∙ append-nil marks),
+      )
 
-  -- the first bucket is carved, then those behind it
-  module _ (level : ℕ) (nodes marks n₁ m₁ n₂ m₂ : List ℕ) (size : ℕ) (some : 0 < length nodes) (is : size ≡ firstSize marks)
-      (first-one : CarvesSegment maxLeaf minLeaf fraction vs level (take size nodes) (take size marks) n₁ m₁)
-      (then-others : CarvesBuckets maxLeaf minLeaf fraction vs level (drop size nodes) (drop size marks) n₂ m₂) where
-    pub buckets-step : CarvesBuckets maxLeaf minLeaf fraction vs level nodes marks (n₁ ++ n₂) (m₁ ++ m₂)
+  -- the next bucket is carved
+  module _ (level : ℕ) (bs : List (List ℕ)) (nodes marks n₁ m₁ : List ℕ) (at end : ℕ) (some : at < length nodes) (even : length marks ≡ length nodes)
+      (is : end ≡ at + firstSize (drop at marks)) (within : end ≤ length nodes)
+      (n-same : length n₁ ≡ length (take (end - at) (drop at nodes))) (m-same : length m₁ ≡ length (take (end - at) (drop at marks)))
+      (one : CarvesSegment maxLeaf minLeaf fraction vs level (take (end - at) (drop at nodes)) (take (end - at) (drop at marks)) n₁ m₁)
+      (p : Partly level bs nodes marks at) where
+    pub partly-more : Partly level bs (putMid at (end - at) nodes n₁) (putMid at (end - at) marks m₁) end
     unfolding carveBuckets
-    buckets-step bs h = (
-      ap₂ (λ (a : List ℕ) (b : List ℕ). a ++ b) (one .0) (rest .0) ∙ sym (f .each (carved level) (empty-leaf level) .0),
-      ap₂ (λ (a : List ℕ) (b : List ℕ). a ++ b) (one .1) (rest .1) ∙ sym (f .each (carved level) (empty-leaf level) .1),
-    )
+    partly-more = record {
+      rest = f .others;
+      left = (
+        back-rest nodes n₁ at end starts within n-same ∙ ap (drop (end - at)) (p .left .0 ∙ f .nodes-are) ∙ drop-at (f .bucket) (flatten (f .others)) (end - at) (sym size-is),
+        back-rest marks m₁ at end starts (omega arith) m-same ∙ ap (drop (end - at)) (p .left .1 ∙ f .marks-are)
+            ∙ drop-at (run 1 (length (f .bucket))) (marksOf (f .others)) (end - at) (length-run 1 (length (f .bucket)) ∙ sym size-is),
+      );
+      nodes-done = p .nodes-done
+          ∙ ap (λ (r : List ℕ). take at nodes ++ r) (f .each (carved level) (empty-leaf level) .0 ∙ ap (λ (r : List ℕ). r ++ flatten (eachBy (carved level) (f .others))) (sym (held .0)))
+          ∙ sym (append-assoc (take at nodes) n₁ (flatten (eachBy (carved level) (f .others))))
+          ∙ ap (λ (r : List ℕ). r ++ flatten (eachBy (carved level) (f .others))) (sym (back-front nodes n₁ at end starts within n-same));
+      marks-done = p .marks-done
+          ∙ ap (λ (r : List ℕ). take at marks ++ r) (f .each (carved level) (empty-leaf level) .1 ∙ ap (λ (r : List ℕ). r ++ marksOf (eachBy (carved level) (f .others))) (sym (held .1)))
+          ∙ sym (append-assoc (take at marks) m₁ (marksOf (eachBy (carved level) (f .others))))
+          ∙ ap (λ (r : List ℕ). r ++ marksOf (eachBy (carved level) (f .others))) (sym (back-front marks m₁ at end starts (omega arith) m-same));
+    }
       where
-        f : First bs
-        f = first-of bs (subst (λ (l : List ℕ). 0 < length l) (h .0) some)
+        f : First (p .rest)
+        f = first-of (p .rest) (omega (arith, ap length (p .left .0), length-drop at nodes))
 
-        size-is : size ≡ length (f .bucket)
-        size-is = is ∙ ap firstSize (h .1) ∙ first-size bs f
+        starts : at ≤ end
+        starts = omega arith
 
-        bucket-nodes : take size nodes ≡ f .bucket
-        bucket-nodes = ap (take size) (h .0 ∙ f .nodes-are) ∙ take-at (f .bucket) (flatten (f .others)) size (sym size-is)
+        size-is : end - at ≡ length (f .bucket)
+        size-is = omega (arith, is, ap firstSize (p .left .1) ∙ first-size (p .rest) f)
 
-        bucket-marks : take size marks ≡ marksOf (take size nodes ∷ [])
+        bucket-nodes : take (end - at) (drop at nodes) ≡ f .bucket
+        bucket-nodes = ap (take (end - at)) (p .left .0 ∙ f .nodes-are) ∙ take-at (f .bucket) (flatten (f .others)) (end - at) (sym size-is)
+
+        bucket-marks : take (end - at) (drop at marks) ≡ marksOf (take (end - at) (drop at nodes) ∷ [])
         bucket-marks =
-            ap (take size) (h .1 ∙ f .marks-are) ∙ take-at (run 1 (length (f .bucket))) (marksOf (f .others)) size (length-run 1 (length (f .bucket)) ∙ sym size-is)
-            ∙ ap (λ (l : List ℕ). run 1 (length l)) (sym bucket-nodes) ∙ sym (marks-one (take size nodes))
+            ap (take (end - at)) (p .left .1 ∙ f .marks-are)
+            ∙ take-at (run 1 (length (f .bucket))) (marksOf (f .others)) (end - at) (length-run 1 (length (f .bucket)) ∙ sym size-is)
+            ∙ ap (λ (l : List ℕ). run 1 (length l)) (sym bucket-nodes) ∙ sym (marks-one (take (end - at) (drop at nodes)))
 
-        one : Holding (carved level (f .bucket)) n₁ m₁
-        one = subst (λ (l : List ℕ). Holding (carved level l) n₁ m₁) bucket-nodes (first-one bucket-marks)
-
-        rest : Holding (carveBuckets maxLeaf minLeaf fraction vs level (f .others)) n₂ m₂
-        rest = then-others (f .others) (
-          ap (drop size) (h .0 ∙ f .nodes-are) ∙ drop-at (f .bucket) (flatten (f .others)) size (sym size-is),
-          ap (drop size) (h .1 ∙ f .marks-are) ∙ drop-at (run 1 (length (f .bucket))) (marksOf (f .others)) size (length-run 1 (length (f .bucket)) ∙ sym size-is),
-        )
+        held : Holding (carved level (f .bucket)) n₁ m₁
+        held = subst (λ (l : List ℕ). Holding (carved level l) n₁ m₁) bucket-nodes (one bucket-marks)
 
 -- ---- a front part and the rest of a slice, lent one after the other
 
@@ -195,8 +237,9 @@ module _ (maxLeaf minLeaf : ℕ) (fraction : Float) (vs : List (List Float)) (n 
       ∙ ap (λ (l : List ℕ). carveBuckets maxLeaf minLeaf fraction vs 1 (bucketsOf minLeaf fraction vs 0 l)) (sym e)
 
 -- the first segment fits twice
-pub fitting-top : (n : ℕ) (part nodes marks : List ℕ) → n ≤ 1024 → 2 ≤ n → length nodes ≡ 2 * n → length marks ≡ 2 * n → part ≡ upTo n → Fitting 0 part nodes marks
-fitting-top n part nodes marks h k a b e =
+pub fitting-top : (n : ℕ) (part nodes marks : List ℕ) (cards : ℕ) → n ≤ 1024 → 2 ≤ n → length nodes ≡ 2 * n → length marks ≡ 2 * n → part ≡ upTo n → cards ≡ n
+    → Fitting 0 part nodes marks 2048 cards
+fitting-top n part nodes marks cards h k a b e f =
     let top = fan-top in
     let size : length part ≡ n = ap length e ∙ length-upTo n in
     record {
@@ -205,6 +248,8 @@ fitting-top n part nodes marks h k a b e =
       nodes-size = a ∙ ap₂ (λ (f : ℕ) (m : ℕ). f * m) (sym top) (sym size);
       marks-size = b ∙ sym a;
       few = omega arith;
+      room-size = omega arith;
+      cards-size = f ∙ sym size;
     }
 
 -- ---- what is left in the words

@@ -21,13 +21,13 @@ pub record Laid (leaves : List (List ℕ)) (count at : ℕ) (words : List ℕ) :
   pub nodes : take (length (flatten leaves)) words ≡ flatten leaves
   pub sizes : take (length leaves) (drop at words) ≡ map length leaves
 
--- an index of at most 1,024 nodes, with room for 4 words a node
-pub record Asked (maxLeaf n : ℕ) (vs : List (List Float)) (words : List ℕ) : Type 0 where
-  pub vectors : length vs ≡ n
+-- an index of at most 1,024 nodes, leaves of at least one, and room for 4 words a node
+pub record Asked (maxLeaf n : ℕ) (words : List ℕ) : Type 0 where
   pub most : n ≤ 1024
   pub some : 1 ≤ maxLeaf
   pub room : 4 * n ≤ length words
 
-abbrev pub Partitioned : (maxLeaf minLeaf : ℕ) (fraction : Float) (vs : List (List Float)) (n : ℕ) (words words′ : List ℕ) (count : ℕ) → Type 0
-Partitioned maxLeaf minLeaf fraction vs n words words′ count =
-    Asked maxLeaf n vs words → Laid (nonEmpty (leavesOf maxLeaf minLeaf fraction vs)) count (2 * n) words′
+-- the leaves are laid out, or 0 is returned and nothing is written
+pub record Partitioned (maxLeaf minLeaf : ℕ) (fraction : Float) (vs : List (List Float)) (n : ℕ) (words words′ : List ℕ) (count : ℕ) : Type 0 where
+  pub made : length vs ≡ n → Asked maxLeaf n words → Laid (nonEmpty (leavesOf maxLeaf minLeaf fraction vs)) count (2 * n) words′
+  pub refused : (Asked maxLeaf n words → ⊥) → (count ≡ 0) × (words′ ≡ words)

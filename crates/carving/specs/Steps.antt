@@ -22,16 +22,29 @@ unfoldable pub firstSize : List ℕ → ℕ
 unfolding zeroes
 firstSize marks = 1 + zeroes (drop 1 marks)
 
+-- room for the copy of a segment, for what dealing gathers and for its cards
+pub record Scratch (ids room cards : ℕ) : Type 0 where
+  pub ids-size : 2048 ≤ ids
+  pub room-size : 2048 ≤ room
+  pub cards-size : 2048 ≤ cards
+
 -- levels below the top, and as many marks as nodes
-pub record Segment (maxLeaf level : ℕ) (nodes marks : List ℕ) : Type 0 where
+pub record Segment (maxLeaf level : ℕ) (nodes marks : List ℕ) (ids room cards : ℕ) : Type 0 where
   pub some : 1 ≤ maxLeaf
   pub below : 1 ≤ level
   pub levels : level ≤ 21
   pub few : length nodes ≤ 2048
   pub marked : length marks ≡ length nodes
+  pub scratch : Scratch ids room cards
 
-abbrev pub Dealing : (level : ℕ) (nodes marks : List ℕ) → Type 0
-Dealing level nodes marks = (1 ≤ level) × (level ≤ 20) × (2 ≤ length nodes) × (length nodes ≤ 2048) × (length marks ≡ length nodes)
+-- a segment that is dealt over its own place
+pub record Dealing (level : ℕ) (nodes marks : List ℕ) (ids room cards : ℕ) : Type 0 where
+  pub below : 1 ≤ level
+  pub levels : level ≤ 20
+  pub two : 2 ≤ length nodes
+  pub few : length nodes ≤ 2048
+  pub marked : length marks ≡ length nodes
+  pub scratch : Scratch ids room cards
 
 module _ (maxLeaf minLeaf : ℕ) (fraction : Float) (vs : List (List Float)) (level : ℕ) where
   -- a segment marked as one is carved

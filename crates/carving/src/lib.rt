@@ -4,8 +4,10 @@
 // leaf, and behind them the leaves' sizes: equal to `leavesOf` of the crate partition. Segments are
 // permuted in place. A slice of marks beside the nodes says where buckets begin, so that no list of
 // pending buckets is kept: `carve_segment` deals a segment that is no leaf to its leaders (crate dealing)
-// over its own place, and `carve_buckets` carves each of its buckets one level down, 21 levels at most.
-// Leans on `dealing` for one level, on `leaders` for the first segment.
+// over its own place, and `carve_buckets` goes through its buckets in a loop and carves each, one level
+// down. So calls stand one inside the other once a level, 21 times at most. The arrays that dealing works
+// in are made once, above all levels, and passed down as slices: a level's own frame is small
+// (bindings/stack adds them up). Leans on `dealing` for one level, on `leaders` for the first segment.
 ghost use mathlib.Core.Path.{_≡_};
 ghost use Prim.Native.Nat.{_*_, _≤_};
 ghost use lib.ListN.{length};
@@ -14,10 +16,12 @@ ghost use Rattle.partition.specs.Partition.{bucketsOf};
 ghost use Rattle.dealing.specs.Deal.{Holding};
 ghost use Rattle.carving.specs.Carving.{Partitioned};
 ghost use Rattle.carving.specs.Steps.{firstSize, Segment, Dealing, CarvesSegment, CarvesBuckets, Carved, Sized};
+use dealing::DealParams;
 
 // The leaves of an index of n nodes, whose vectors of `dimension` floats stand in `vectors`. Returns how
 // many leaves hold a node. From word 0 on stand their nodes, n or 2·n, leaf after leaf; from word 2·n on
-// their sizes. Of more than 1,024 nodes, of leaves of no node or in fewer than 4·n words it makes nothing.
+// their sizes. More than 1,024 nodes, leaves of no node and fewer than 4·n words are refused: 0 is
+// returned, and no word changes.
 pub fn partition(
     vectors: &[f32],
     dimension: u32,
@@ -40,14 +44,17 @@ pub fn partition(
         return 0;
     }
     let room = 2 * size;
+    let p = DealParams {
+        dimension,
+        min_leaf: min_leaf_size,
+        leader_fraction,
+    };
     let mut marks = [0u32; 2048];
     let total = carve_all(
         vectors,
-        dimension,
+        p,
         n,
         max_leaf_size,
-        min_leaf_size,
-        leader_fraction,
         &mut words[..room],
         &mut marks[..room],
     );
@@ -55,19 +62,18 @@ pub fn partition(
 }
 
 // The first segment is a leaf, or is dealt to its leaders, each node to two, and its buckets are carved.
-// Returns how many nodes the leaves have.
+// Returns how many nodes the leaves have. Whatever dealing writes besides its buckets stands in three local
+// arrays, which all levels share.
 fn carve_all(
     vectors: &[f32],
-    dimension: u32,
+    p: DealParams,
     n: u32,
     max_leaf: u32,
-    min_leaf: u32,
-    leader_fraction: f64,
     nodes: &mut [u32],
     marks: &mut [u32],
 ) -> usize
     requires { ⌜ (n ≤ 1024) × (1 ≤ «max_leaf») × (length (now nodes) ≡ 2 * n) × (length (now marks) ≡ 2 * n) ⌝ }
-    ensures { λ r. ⌜ Carved «max_leaf» «min_leaf» «leader_fraction» (vectorsIn dimension (now (vectors .entry))) n r (now (nodes .exit)) (now (marks .exit)) ⌝ }
+    ensures { λ r. ⌜ Carved «max_leaf» (p .«min_leaf») (p .«leader_fraction») (vectorsIn (p .dimension) (now (vectors .entry))) n r (now (nodes .exit)) (now (marks .exit)) ⌝ }
 {
     let size = n as usize;
     if n <= max_leaf {
@@ -75,44 +81,48 @@ fn carve_all(
         dealing::mark(&mut marks[..size], 1);
         return size;
     }
-    let mut ids = [0u32; 1024];
+    let mut ids = [0u32; 2048];
+    let mut room = [0u32; 2048];
+    let mut cards = [0u32; 2048];
     leaders::all_positions(n, &mut ids[..size]);
     dealing::deal(
         vectors,
-        dimension,
+        p,
         0,
-        min_leaf,
-        leader_fraction,
         &ids[..size],
         nodes,
         marks,
+        &mut room[..],
+        &mut cards[..size],
     );
     carve_buckets(
         vectors,
-        dimension,
+        p,
         max_leaf,
-        min_leaf,
-        leader_fraction,
         1,
         nodes,
         marks,
+        &mut ids[..],
+        &mut room[..],
+        &mut cards[..],
     );
     nodes.len()
 }
 
-// Carves a segment over its own place. A leaf stays, with its one mark.
+// Carves a segment over its own place. A leaf stays, with its one mark. The last three slices are scratch.
 fn carve_segment(
     vectors: &[f32],
-    dimension: u32,
+    p: DealParams,
     max_leaf: u32,
-    min_leaf: u32,
-    leader_fraction: f64,
     level: u32,
     nodes: &mut [u32],
     marks: &mut [u32],
+    ids: &mut [u32],
+    room: &mut [u32],
+    cards: &mut [u32],
 )
-    requires { ⌜ Segment «max_leaf» level (now nodes) (now marks) ⌝ }
-    ensures { λ _. ⌜ CarvesSegment «max_leaf» «min_leaf» «leader_fraction» (vectorsIn dimension (now (vectors .entry))) level
+    requires { ⌜ Segment «max_leaf» level (now nodes) (now marks) (length (now ids)) (length (now room)) (length (now cards)) ⌝ }
+    ensures { λ _. ⌜ CarvesSegment «max_leaf» (p .«min_leaf») (p .«leader_fraction») (vectorsIn (p .dimension) (now (vectors .entry))) level
         (now (nodes .entry)) (now (marks .entry)) (now (nodes .exit)) (now (marks .exit)) ⌝ }
 {
     if dealing::fan_of(level) == 0 {
@@ -121,93 +131,79 @@ fn carve_segment(
     if nodes.len() <= max_leaf as usize {
         return;
     }
-    deal_over(
-        vectors,
-        dimension,
-        min_leaf,
-        leader_fraction,
-        level,
-        nodes,
-        marks,
-    );
+    deal_over(vectors, p, level, nodes, marks, ids, room, cards);
     carve_buckets(
         vectors,
-        dimension,
+        p,
         max_leaf,
-        min_leaf,
-        leader_fraction,
         level + 1,
         nodes,
         marks,
+        ids,
+        room,
+        cards,
     );
 }
 
-// Carves buckets one after the other: the first, up to the next mark, then those behind it.
+// Carves buckets one after the other, each up to the next mark.
 fn carve_buckets(
     vectors: &[f32],
-    dimension: u32,
+    p: DealParams,
     max_leaf: u32,
-    min_leaf: u32,
-    leader_fraction: f64,
     level: u32,
     nodes: &mut [u32],
     marks: &mut [u32],
+    ids: &mut [u32],
+    room: &mut [u32],
+    cards: &mut [u32],
 )
-    requires { ⌜ Segment «max_leaf» level (now nodes) (now marks) ⌝ }
-    ensures { λ _. ⌜ CarvesBuckets «max_leaf» «min_leaf» «leader_fraction» (vectorsIn dimension (now (vectors .entry))) level
+    requires { ⌜ Segment «max_leaf» level (now nodes) (now marks) (length (now ids)) (length (now room)) (length (now cards)) ⌝ }
+    ensures { λ _. ⌜ CarvesBuckets «max_leaf» (p .«min_leaf») (p .«leader_fraction») (vectorsIn (p .dimension) (now (vectors .entry))) level
         (now (nodes .entry)) (now (marks .entry)) (now (nodes .exit)) (now (marks .exit)) ⌝ }
 {
-    if nodes.len() == 0 {
-        return;
+    let mut at: usize = 0;
+    while at < nodes.len() {
+        let end = at + first_size(&marks[at..]);
+        carve_segment(
+            vectors,
+            p,
+            max_leaf,
+            level,
+            &mut nodes[at..end],
+            &mut marks[at..end],
+            ids,
+            room,
+            cards,
+        );
+        at = end;
     }
-    let size = first_size(marks);
-    carve_segment(
-        vectors,
-        dimension,
-        max_leaf,
-        min_leaf,
-        leader_fraction,
-        level,
-        &mut nodes[..size],
-        &mut marks[..size],
-    );
-    carve_buckets(
-        vectors,
-        dimension,
-        max_leaf,
-        min_leaf,
-        leader_fraction,
-        level,
-        &mut nodes[size..],
-        &mut marks[size..],
-    );
 }
 
-// Deals a segment over its own place, from a copy.
+// Deals a segment over its own place, from a copy in `ids`.
 fn deal_over(
     vectors: &[f32],
-    dimension: u32,
-    min_leaf: u32,
-    leader_fraction: f64,
+    p: DealParams,
     level: u32,
     nodes: &mut [u32],
     marks: &mut [u32],
+    ids: &mut [u32],
+    room: &mut [u32],
+    cards: &mut [u32],
 )
-    requires { ⌜ Dealing level (now nodes) (now marks) ⌝ }
-    ensures { λ _. ⌜ Holding (bucketsOf «min_leaf» «leader_fraction» (vectorsIn dimension (now (vectors .entry))) level (now (nodes .entry))) (now (nodes .exit)) (now (marks .exit)) ⌝ }
+    requires { ⌜ Dealing level (now nodes) (now marks) (length (now ids)) (length (now room)) (length (now cards)) ⌝ }
+    ensures { λ _. ⌜ Holding (bucketsOf (p .«min_leaf») (p .«leader_fraction») (vectorsIn (p .dimension) (now (vectors .entry))) level (now (nodes .entry))) (now (nodes .exit)) (now (marks .exit)) ⌝ }
 {
     let size = nodes.len();
-    let mut ids = [0u32; 2048];
     slices::copy_words(&mut ids[..size], nodes);
     dealing::deal(
         vectors,
-        dimension,
+        p,
         level,
-        min_leaf,
-        leader_fraction,
         &ids[..size],
         nodes,
         marks,
+        room,
+        &mut cards[..size],
     );
 }
 

@@ -169,7 +169,7 @@ module _ (minLeaf : ℕ) (fraction : Float) (vs : List (List Float)) (level fan 
       ∙ all-dealt vs fan leaders some (omega arith) (omega arith) (omega arith) ids
 
 -- a segment that fits has few nodes
-pub few-ids : (level : ℕ) (ids nodes marks : List ℕ) → Fitting level ids nodes marks → (length ids ≤ 2048) × (length ids ≤ length nodes)
-few-ids level ids nodes marks f =
+pub few-ids : (level : ℕ) (ids nodes marks : List ℕ) (room cards : ℕ) → Fitting level ids nodes marks room cards → (length ids ≤ 2048) × (length ids ≤ length nodes)
+few-ids level ids nodes marks room cards f =
     let m = mul-le-mul-right (length ids) (f .deals) in
     (omega (arith, f .nodes-size, f .few), omega (arith, f .nodes-size))

@@ -4,7 +4,8 @@
 // `deal` draws leaders from a segment, finds for each node the nearest of them (at level 0 the two
 // nearest), and writes the buckets one after the other over `nodes`, where small ones have gathered, with
 // a mark at the first node of each. Equal to `bucketsOf` of the crate partition; specs/Marks says how
-// buckets stand in the two slices. Leans on `leaders` for the draws, on `vectors`, `distance` and `order`
+// buckets stand in the two slices. It works in two slices of scratch that the caller passes, so that no
+// large array stands in its frame. Leans on `leaders` for the draws, on `vectors`, `distance` and `order`
 // for how near a leader is, on `sorting` for the nearest.
 ghost use mathlib.Core.Path.{_≡_};
 ghost use mathlib.Core.List.{map, flatten, _++_};
@@ -32,21 +33,30 @@ pub fn fan_of(level: u32) -> u32
     }
 }
 
+// What dealing takes from an index and its parameters.
+pub struct DealParams {
+    pub dimension: u32,
+    pub min_leaf: u32,
+    pub leader_fraction: f64,
+}
+
 // Deals a segment to its leaders and leaves its buckets in `nodes`, one after the other, with a mark at
-// the first node of each in `marks`. A segment of one node, one above 2,048 words, or slices of other
-// lengths than its buckets are left as they are.
+// the first node of each in `marks`. `room` is scratch of at least as many words as `nodes`, `cards` of as
+// many as the segment. A level that deals nothing, fewer than two nodes, more than 2,048 of them and slices
+// of other lengths are refused: `nodes` and `marks` stay as they are.
 pub fn deal(
     vectors: &[f32],
-    dimension: u32,
+    p: DealParams,
     level: u32,
-    min_leaf: u32,
-    leader_fraction: f64,
     ids: &[u32],
     nodes: &mut [u32],
     marks: &mut [u32],
+    room: &mut [u32],
+    cards: &mut [u32],
 )
-    ensures { λ _. ⌜ Deals «min_leaf» «leader_fraction» (vectorsIn dimension (now (vectors .entry))) level
-        (now (ids .entry)) (now (nodes .entry)) (now (marks .entry)) (now (nodes .exit)) (now (marks .exit)) ⌝ }
+    ensures { λ _. ⌜ Deals (p .«min_leaf») (p .«leader_fraction») (vectorsIn (p .dimension) (now (vectors .entry))) level
+        (now (ids .entry)) (now (nodes .entry)) (now (marks .entry)) (length (now (room .entry))) (length (now (cards .entry)))
+        (now (nodes .exit)) (now (marks .exit)) ⌝ }
 {
     let fan = fan_of(level) as usize;
     let size = ids.len();
@@ -68,50 +78,37 @@ pub fn deal(
     if nodes.len() > 2048 {
         return;
     }
-    deal_all(
-        vectors,
-        dimension,
-        level,
-        fan,
-        min_leaf as usize,
-        leader_fraction,
-        ids,
-        nodes,
-        marks,
-    );
+    if room.len() < nodes.len() {
+        return;
+    }
+    if cards.len() != size {
+        return;
+    }
+    deal_all(vectors, p, level, fan, ids, nodes, marks, room, cards);
 }
 
-// The same of slices that fit. The leaders and the cards stand on the stack.
+// The same of slices that fit. The leaders stand in `room` until each node has its card; then small buckets
+// gather there.
 fn deal_all(
     vectors: &[f32],
-    dimension: u32,
+    p: DealParams,
     level: u32,
     fan: usize,
-    min_leaf: usize,
-    leader_fraction: f64,
     ids: &[u32],
     nodes: &mut [u32],
     marks: &mut [u32],
+    room: &mut [u32],
+    cards: &mut [u32],
 )
     requires { ⌜ fan ≡ fanout level ⌝ }
-    requires { ⌜ Fitting level (now ids) (now nodes) (now marks) ⌝ }
-    ensures { λ _. ⌜ Holding (bucketsOf «min_leaf» «leader_fraction» (vectorsIn dimension (now (vectors .entry))) level (now (ids .entry))) (now (nodes .exit)) (now (marks .exit)) ⌝ }
+    requires { ⌜ Fitting level (now ids) (now nodes) (now marks) (length (now room)) (length (now cards)) ⌝ }
+    ensures { λ _. ⌜ Holding (bucketsOf (p .«min_leaf») (p .«leader_fraction») (vectorsIn (p .dimension) (now (vectors .entry))) level (now (ids .entry))) (now (nodes .exit)) (now (marks .exit)) ⌝ }
 {
-    let size = ids.len();
-    let count = leaders::leader_count(size as u32, leader_fraction);
+    let count = leaders::leader_count(ids.len() as u32, p.leader_fraction);
     let k = count as usize;
-    let mut leaders = [0u32; 2048];
-    let mut cards = [0u32; 2048];
-    draw(level, ids, nodes, &mut leaders[..k]);
-    assign(
-        vectors,
-        dimension,
-        &leaders[..k],
-        fan,
-        ids,
-        &mut cards[..size],
-    );
-    gather(ids, &cards[..size], count, min_leaf, nodes, marks);
+    draw(level, ids, nodes, &mut room[..k]);
+    assign(vectors, p.dimension, &room[..k], fan, ids, cards);
+    gather(ids, cards, count, p.min_leaf as usize, room, nodes, marks);
 }
 
 // ---- which leaders
@@ -352,21 +349,22 @@ fn finish(rest: &[u32], nodes: &mut [u32], marks: &mut [u32], at: usize)
     mark(&mut marks[at..], first_mark(at));
 }
 
-// All buckets of a segment, with the small ones gathered.
+// All buckets of a segment, with the small ones gathered in `small`.
 fn gather(
     ids: &[u32],
     cards: &[u32],
     leaders: u32,
     min_leaf: usize,
+    small: &mut [u32],
     nodes: &mut [u32],
     marks: &mut [u32],
 )
     requires { ⌜ Dealt leaders (now ids) (now cards) (now nodes) (now marks) ⌝ }
+    requires { ⌜ length (now nodes) ≤ length (now small) ⌝ }
     ensures { λ _. ⌜ (now (nodes .exit) ≡ flatten (gathered «min_leaf» (bucketsBy leaders (now (ids .entry)) (now (cards .entry)))))
         × (now (marks .exit) ≡ marksOf (gathered «min_leaf» (bucketsBy leaders (now (ids .entry)) (now (cards .entry))))) ⌝ }
 {
-    let mut small = [0u32; 2048];
-    let g = gather_all(ids, cards, leaders, min_leaf, &mut small[..], nodes, marks);
+    let g = gather_all(ids, cards, leaders, min_leaf, small, nodes, marks);
     let at = g.at;
     let held = g.held;
     finish(&small[..held], nodes, marks, at);

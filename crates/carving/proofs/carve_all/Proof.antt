@@ -2,7 +2,7 @@
 use mathlib.Core.Path.{_≡_, sym, ap, _∙_}
 use mathlib.Core.List.{List, _++_, flatten}
 use Prim.Native.Nat.{ℕ, _≤_}
-use lib.ListN.{length, take, drop, replicate, length-append}
+use lib.ListN.{length, take, drop, replicate, length-append, length-drop}
 use lib.Seq.{length-take-le, take-at, take-all}
 use Rattle.vectors.specs.Vectors.{vectorsIn}
 use Rattle.leaders.specs.Leaders.{upTo}
@@ -15,98 +15,102 @@ use borrow.Author.Needs.{needs}
 use Rattle.carving.proofs.carve_all.Statement.{statement}
 use Rattle.carving.proofs.carve_all.Tie as tie
 
--- where the first segment is read: all nodes
-part-is : (c : tie.After-ids3) → take (c .before .before .before .before .before .before .before .before .args .n) (c .before .before .all-positions2 .last .1 .0 ++ drop (c .before .before .before .before .before .before .before .before .args .n) (replicate 1024 0)) ≡ upTo (c .before .before .before .before .before .before .before .before .args .n)
+-- an array of 2,048 words, and what a call leaves of one whose first n words it was lent
+abbrev array : List ℕ
+array = replicate 2048 0
+
+first-words : (s : tie.Start) → length (take (s .args .n) array) ≡ s .args .n
+first-words s = length-take-le (s .args .n) array (omega (arith, s .pre .0))
+
+array-back : (s : tie.Start) (part : List ℕ) → length part ≡ length (take (s .args .n) array) → length (part ++ drop (s .args .n) array) ≡ 2048
+array-back s part e = let f = first-words s in omega (arith, s .pre .0, length-append part (drop (s .args .n) array), length-drop (s .args .n) array)
+
+-- ---- the first segment: all nodes
+
+abbrev start : tie.After-all-positions2 → tie.Start
+start c = c .before .before .before .before .before .before
+
+abbrev n : tie.After-all-positions2 → ℕ
+n c = start c .args .n
+
+part-is : (c : tie.After-all-positions2) → take (n c) (c .all-positions2 .last .1 .0 ++ drop (n c) array) ≡ upTo (n c)
 part-is c =
-    let s = c .before .before .before .before .before .before .before .before in
-    let n : ℕ = s .args .n in
-    let all = c .before .before .all-positions2 in
-    let room : length (take {A = ℕ} n (replicate 1024 0)) ≡ n = length-take-le {A = ℕ} n (replicate 1024 0) (s .pre .0) in
-    take-at (all .last .1 .0) _ n (all .kept .1 .0 ∙ room) ∙ positions-all n (take {A = ℕ} n (replicate 1024 0)) (all .last .1 .0) room (all .ensures)
-
-all-positions-requires : tie.Need-all-positions-requires
-all-positions-requires c κs = search needs
-
-slice-relend-prefix-mark : tie.Need-slice-relend-prefix-mark
-slice-relend-prefix-mark c = search needs
+    let all = c .all-positions2 in
+    let room = first-words (start c) in
+    take-at (all .last .1 .0) _ (n c) (all .kept .1 .0 ∙ room) ∙ positions-all (n c) (take (n c) array) (all .last .1 .0) room (all .ensures)
 
 slice-aggregate-mark : tie.Need-slice-aggregate-mark
 slice-aggregate-mark c = let s = c .before .before .before .before .before .before .before .before .before in sym (length-take-le (s .args .n) (s .args .marks .now) (omega (arith, s .pre .3)))
-
-mark-requires : tie.Need-mark-requires
-mark-requires c κs = search needs
-
-same-length : tie.Need-same-length
-same-length c = search needs
-
-same-length-2 : tie.Need-same-length-2
-same-length-2 c = search needs
 
 returns : tie.Need-returns
 returns c =
     let s = c .before .before .before .before .before .before .before .before .before .before .before .before in
     let x = s .args in
     let all = c .before .before .before .before .before .before .all-positions in
+    let marked = c .before .before .mark in
     let long : x .n ≤ length (x .marks .now) = omega (arith, s .pre .3) in
     record {
       within = omega (arith, s .pre .2, all .kept .1 .0);
-      leaves = λ many. top-leaf (x .max-leaf) (x .min-leaf) (x .leader-fraction) (vectorsIn (x .dimension) (x .vectors .now)) (x .n) many (c .before .before .before .before .before .before .before .before .if1 .taken) _ _
+      leaves = λ many. top-leaf (x .max-leaf) (x .p .«min_leaf») (x .p .«leader_fraction») (vectorsIn (x .p .dimension) (x .vectors .now)) (x .n) many (c .before .before .before .before .before .before .before .before .if1 .taken) _ _
           (positions-front (x .n) (x .nodes .now) (all .last .1 .0) (omega (arith, s .pre .2)) (all .ensures))
-          (take-at (c .before .before .mark .last .0) _ (x .n) (c .before .before .mark .kept .0 ∙ length-take-le (x .n) (x .marks .now) long) ∙ c .before .before .mark .ensures ∙ ap (run 1) (length-take-le (x .n) (x .marks .now) long));
+          (take-at (marked .last .0) _ (x .n) (marked .kept .0 ∙ length-take-le (x .n) (x .marks .now) long) ∙ marked .ensures ∙ ap (run 1) (length-take-le (x .n) (x .marks .now) long));
     }
 
-array-borrow-prefix-ids : tie.Need-array-borrow-prefix-ids
-array-borrow-prefix-ids c = search needs
-
 slice-aggregate-all-positions : tie.Need-slice-aggregate-all-positions
-slice-aggregate-all-positions c = sym (length-take-le _ _ (c .before .before .before .before .before .pre .0))
-
-all-positions-requires-2 : tie.Need-all-positions-requires-2
-all-positions-requires-2 c κs = search needs
+slice-aggregate-all-positions c = sym (first-words (c .before .before .before .before .before))
 
 array-share-prefix-ids : tie.Need-array-share-prefix-ids
-array-share-prefix-ids c =
-    let s = c .before .before .before .before .before .before .before in
-    let n : ℕ = s .args .n in
-    let found : List ℕ = c .before .all-positions2 .last .1 .0 in
-    let size : length found ≡ n = c .before .all-positions2 .kept .1 .0 ∙ length-take-le _ _ (s .pre .0) in
-    let room : n ≤ length (found ++ drop n (replicate 1024 0)) = omega (arith, length-append found (drop n (replicate 1024 0)), size) in
-    room
+array-share-prefix-ids c = let s = c .before .before .before .before .before .before .before in omega (arith, s .pre .0, array-back s (c .before .all-positions2 .last .1 .0) (c .before .all-positions2 .kept .1 .0))
 
 slice-aggregate-deal : tie.Need-slice-aggregate-deal
-slice-aggregate-deal c = sym (ap length (part-is c) ∙ length-upTo _)
+slice-aggregate-deal c = sym (ap length (part-is (c .before .before)) ∙ length-upTo _)
 
-deal-requires : tie.Need-deal-requires
-deal-requires c κs = search needs
+slice-aggregate-deal-3 : tie.Need-slice-aggregate-deal-3
+slice-aggregate-deal-3 c = sym (first-words (c .before .before .before .before .before .before .before .before .before .before .before .before))
+
+-- ---- its buckets
+
+slice-aggregate-carve-buckets : tie.Need-slice-aggregate-carve-buckets
+slice-aggregate-carve-buckets c = sym (array-back (c .before .before .before .before .before .before .before .before .before .before .before .before .before .before .before .before .before .before .before .before .before .before) (c .before .before .before .before .before .before .before .before .before .before .before .before .before .before .before .before .all-positions2 .last .1 .0) (c .before .before .before .before .before .before .before .before .before .before .before .before .before .before .before .before .all-positions2 .kept .1 .0))
+
+slice-aggregate-carve-buckets-3 : tie.Need-slice-aggregate-carve-buckets-3
+slice-aggregate-carve-buckets-3 c = sym (array-back (c .before .before .before .before .before .before .before .before .before .before .before .before .before .before .before .before .before .before .before .before .before .before .before .before) (c .before .before .before .before .before .before .before .before .before .before .before .deal .last .1 .1 .1 .1 .1 .1 .1 .0) (c .before .before .before .before .before .before .before .before .before .before .before .deal .kept .1 .1 .1 .1 .1 .1 .1 .0))
 
 carve-buckets-requires : tie.Need-carve-buckets-requires
-carve-buckets-requires c κs = search needs
-
-same-length-3 : tie.Need-same-length-3
-same-length-3 c = search needs
-
-same-length-4 : tie.Need-same-length-4
-same-length-4 c = search needs
+carve-buckets-requires c κs =
+    let s = c .before .before .before .before .before .before .before .before .before .before .before .before .before .before .before .before .before .before .before .before .before .before .before .before in
+    let dealt = c .before .before .before .before .before .before .before .before .before .before .before .deal in
+    let a = dealt .kept .1 .1 .1 .1 .0 in
+    let ids = array-back s (c .before .before .before .before .before .before .before .before .before .before .before .before .before .before .before .before .before .before .all-positions2 .last .1 .0) (c .before .before .before .before .before .before .before .before .before .before .before .before .before .before .before .before .before .before .all-positions2 .kept .1 .0) in
+    let cards = array-back s (dealt .last .1 .1 .1 .1 .1 .1 .1 .0) (dealt .kept .1 .1 .1 .1 .1 .1 .1 .0) in
+    record {
+      some = s .pre .1;
+      below = omega arith;
+      levels = omega arith;
+      few = omega (arith, a, s .pre .0, s .pre .2);
+      marked = dealt .kept .1 .1 .1 .1 .1 .0 ∙ s .pre .3 ∙ sym (s .pre .2) ∙ sym a;
+      scratch = record { ids-size = omega (arith, ids); room-size = omega (arith, dealt .kept .1 .1 .1 .1 .1 .1 .0); cards-size = omega (arith, cards) };
+    }
 
 returns-2 : tie.Need-returns-2
 returns-2 c =
-    let d = c .before .before .before .before .before .before .before .before .before .before .before .before .before .before in
-    let s = c .before .before .before .before .before .before .before .before .before .before .before .before .before .before .before .before .before .before .before .before .before .before in
+    let d = c .before .before .before .before .before .before .before .before .before .before .before .before .before .before .before .before .before .before .before .before .before .before .before .before .before .before in
+    let s = c .before .before .before .before .before .before .before .before .before .before .before .before .before .before .before .before .before .before .before .before .before .before .before .before .before .before .before .before .before .before .before .before in
     let x = s .args in
-    let dealt = c .before .before .before .before .before .before .before .before .before .before .before .deal in
-    let carved = c .before .before .before .before .carve-buckets in
-    let nodes : List ℕ = carved .last .1 .1 .1 .1 .1 .1 .0 in
-    let marks : List ℕ = carved .last .1 .1 .1 .1 .1 .1 .1 .0 in
-    let two : 2 ≤ x .n = omega (arith, s .pre .1, c .before .before .before .before .before .before .before .before .before .before .before .before .before .before .before .before .before .before .if1 .left) in
-    let fits = fitting-top (x .n) _ (x .nodes .now) (x .marks .now) (s .pre .0) two (s .pre .2) (s .pre .3) (part-is d) in
+    let dealt = c .before .before .before .before .before .before .before .before .before .before .before .before .before .before .before .before .before .before .before .deal in
+    let carved = c .before .before .before .before .before .before .before .carve-buckets in
+    let nodes : List ℕ = carved .last .1 .1 .1 .1 .0 in
+    let marks : List ℕ = carved .last .1 .1 .1 .1 .1 .0 in
+    let two : 2 ≤ x .n = omega (arith, s .pre .1, c .before .before .before .before .before .before .before .before .before .before .before .before .before .before .before .before .before .before .before .before .before .before .before .before .before .before .before .before .if1 .left) in
+    let fits = fitting-top (x .n) _ (x .nodes .now) (x .marks .now) _ (s .pre .0) two (s .pre .2) (s .pre .3) (part-is d) (first-words s) in
     let same : length marks ≡ length nodes =
-    carved .kept .1 .1 .1 .1 .1 .1 .1 .0 ∙ dealt .kept .1 .1 .1 .1 .1 .1 .1 .0 ∙ s .pre .3
-    ∙ sym (carved .kept .1 .1 .1 .1 .1 .1 .0 ∙ dealt .kept .1 .1 .1 .1 .1 .1 .0 ∙ s .pre .2) in
-    let held = carved .ensures (bucketsOf (x .min-leaf) (x .leader-fraction) (vectorsIn (x .dimension) (x .vectors .now)) 0 _) (dealt .ensures fits) in
+    carved .kept .1 .1 .1 .1 .1 .0 ∙ dealt .kept .1 .1 .1 .1 .1 .0 ∙ s .pre .3
+    ∙ sym (carved .kept .1 .1 .1 .1 .0 ∙ dealt .kept .1 .1 .1 .1 .0 ∙ s .pre .2) in
+    let held = carved .ensures (bucketsOf (x .p .«min_leaf») (x .p .«leader_fraction») (vectorsIn (x .p .dimension) (x .vectors .now)) 0 _) (dealt .ensures .dealt fits) in
     record {
       within = omega arith;
       leaves = λ many.
-          let down = top-dealt (x .max-leaf) (x .min-leaf) (x .leader-fraction) (vectorsIn (x .dimension) (x .vectors .now)) (x .n) many (c .before .before .before .before .before .before .before .before .before .before .before .before .before .before .before .before .before .before .if1 .left) _ (part-is d) in
+          let down = top-dealt (x .max-leaf) (x .p .«min_leaf») (x .p .«leader_fraction») (vectorsIn (x .p .dimension) (x .vectors .now)) (x .n) many (c .before .before .before .before .before .before .before .before .before .before .before .before .before .before .before .before .before .before .before .before .before .before .before .before .before .before .before .before .if1 .left) _ (part-is d) in
           (take-all (length nodes) nodes (omega arith) ∙ held .0 ∙ sym (ap flatten down), take-all (length nodes) marks (omega arith) ∙ held .1 ∙ sym (ap marksOf down));
     }
 
@@ -114,20 +118,26 @@ pub carve-all-spec : {M : Type 1} → statement M
 carve-all-spec =
     tie.close
     (tie.spec
-    all-positions-requires
-    slice-relend-prefix-mark
+    (λ c κs. search needs)
+    (λ c. search needs)
     slice-aggregate-mark
-    mark-requires
-    same-length
-    same-length-2
+    (λ c κs. search needs)
+    (λ c. search needs)
+    (λ c. search needs)
     returns
-    array-borrow-prefix-ids
+    (λ c. search needs)
     slice-aggregate-all-positions
-    all-positions-requires-2
+    (λ c κs. search needs)
     array-share-prefix-ids
     slice-aggregate-deal
-    deal-requires
+    (λ c. search needs)
+    (λ c. search needs)
+    slice-aggregate-deal-3
+    (λ c κs. search needs)
+    slice-aggregate-carve-buckets
+    (λ c. search needs)
+    slice-aggregate-carve-buckets-3
     carve-buckets-requires
-    same-length-3
-    same-length-4
+    (λ c. search needs)
+    (λ c. search needs)
     returns-2)

@@ -1,8 +1,8 @@
--- The copy at the front of an array is the segment, which fits over its own place since each node goes to one leader. No loop. Assumes nothing.
+-- The copy at the front of `ids` is the segment, which fits over its own place since each node goes to one leader. No loop. Assumes nothing.
 use mathlib.Core.Path.{_≡_, sym, ap, _∙_, subst}
 use mathlib.Core.List.{List, _++_}
 use Prim.Native.Nat.{ℕ, _≤_}
-use lib.ListN.{length, take, drop, replicate, length-append}
+use lib.ListN.{length, take, drop}
 use lib.Seq.{length-take-le, take-at}
 use Rattle.vectors.specs.Vectors.{vectorsIn}
 use Rattle.partition.specs.Partition.{bucketsOf}
@@ -14,63 +14,58 @@ use borrow.Author.Needs.{needs}
 use Rattle.carving.proofs.deal_over.Statement.{statement}
 use Rattle.carving.proofs.deal_over.Tie as tie
 
--- where the copy is read: it is the segment
-part-is : (c : tie.After-ids3)
-    → take (length (c .before .before .before .before .before .before .before .before .args .nodes .now)) (c .before .before .copy-words .last .0 ++ drop (length (c .before .before .before .before .before .before .before .before .args .nodes .now)) (replicate 2048 0)) ≡ c .before .before .before .before .before .before .before .before .args .nodes .now
-part-is c =
-    let s = c .before .before .before .before .before .before .before .before in
-    let copy = c .before .before .copy-words in
-    let n : ℕ = length (s .args .nodes .now) in
-    let room : length (take {A = ℕ} n (replicate 2048 0)) ≡ n = length-take-le {A = ℕ} n (replicate 2048 0) (s .pre .3) in
-    take-at (copy .last .0) _ n (copy .kept .0 ∙ room) ∙ copied-whole (take {A = ℕ} n (replicate 2048 0)) (s .args .nodes .now) (copy .last .0) room (copy .ensures)
+abbrev size : tie.Start → ℕ
+size s = length (s .args .nodes .now)
 
-array-borrow-prefix-ids : tie.Need-array-borrow-prefix-ids
-array-borrow-prefix-ids c = let s = c .before .before .before in omega (arith, s .pre .3)
+ids-fit : (s : tie.Start) → length (take (size s) (s .args .ids .now)) ≡ size s
+ids-fit s = length-take-le (size s) (s .args .ids .now) (omega (arith, s .pre .few, s .pre .scratch .ids-size))
+
+cards-fit : (s : tie.Start) → length (take (size s) (s .args .cards .now)) ≡ size s
+cards-fit s = length-take-le (size s) (s .args .cards .now) (omega (arith, s .pre .few, s .pre .scratch .cards-size))
+
+abbrev start : tie.After-copy-words → tie.Start
+start c = c .before .before .before .before .before .before .before .before .before
+
+-- where the copy is read: it is the segment
+part-is : (c : tie.After-copy-words) → take (size (start c)) (c .copy-words .last .0 ++ drop (size (start c)) (start c .args .ids .now)) ≡ start c .args .nodes .now
+part-is c =
+    let s = start c in
+    let copy = c .copy-words in
+    take-at (copy .last .0) _ (size s) (copy .kept .0 ∙ ids-fit s) ∙ copied-whole (take (size s) (s .args .ids .now)) (s .args .nodes .now) (copy .last .0) (ids-fit s) (copy .ensures)
 
 slice-aggregate-copy-words : tie.Need-slice-aggregate-copy-words
-slice-aggregate-copy-words c = let s = c .before .before .before .before in sym (length-take-le _ _ (s .pre .3))
-
-copy-words-requires : tie.Need-copy-words-requires
-copy-words-requires c κs = search needs
-
-array-share-prefix-ids : tie.Need-array-share-prefix-ids
-array-share-prefix-ids c =
-    let n : ℕ = length (c .before .before .before .before .before .before .before .args .nodes .now) in
-    let copy : List ℕ = c .before .copy-words .last .0 in
-    let size : length copy ≡ n = c .before .copy-words .kept .0 ∙ length-take-le _ _ (c .before .before .before .before .before .before .before .pre .3) in
-    let room : n ≤ length (copy ++ drop n (replicate 2048 0)) = omega (arith, length-append copy (drop n (replicate 2048 0)), size) in
-    room
+slice-aggregate-copy-words c = sym (ids-fit (c .before .before .before .before .before .before .before))
 
 slice-aggregate-deal : tie.Need-slice-aggregate-deal
-slice-aggregate-deal c = sym (ap length (part-is c))
+slice-aggregate-deal c = sym (ap length (part-is (c .before .before .before)))
 
-deal-requires : tie.Need-deal-requires
-deal-requires c κs = search needs
-
-same-length : tie.Need-same-length
-same-length c = search needs
-
-same-length-2 : tie.Need-same-length-2
-same-length-2 c = search needs
+slice-aggregate-deal-2 : tie.Need-slice-aggregate-deal-2
+slice-aggregate-deal-2 c = sym (cards-fit (c .before .before .before .before .before .before .before .before .before .before .before .before .before .before .before .before))
 
 returns : tie.Need-returns
 returns c =
-    let d = c .before .before .before .before .before .before .before in
-    let s = c .before .before .before .before .before .before .before .before .before .before .before .before .before .before .before in
+    let d = c .before .before .before .before .before .before .before .before .before .before .before .before .before .before .before .before in
+    let s = start d in
     let x = s .args in
-    subst (λ (l : List ℕ). Holding (bucketsOf (x .min-leaf) (x .leader-fraction) (vectorsIn (x .dimension) (x .vectors .now)) (x .level) l) (c .before .before .before .before .deal .last .1 .1 .1 .1 .1 .1 .0) (c .before .before .before .before .deal .last .1 .1 .1 .1 .1 .1 .1 .0)) (part-is d)
-    (c .before .before .before .before .deal .ensures (fitting-down (x .level) _ (x .nodes .now) (x .marks .now) (s .pre) (part-is d)))
+    let dealt = c .before .before .before .before .before .before .before .before .deal in
+    subst (λ (l : List ℕ). Holding (bucketsOf (x .p .«min_leaf») (x .p .«leader_fraction») (vectorsIn (x .p .dimension) (x .vectors .now)) (x .level) l) (dealt .last .1 .1 .1 .1 .0) (dealt .last .1 .1 .1 .1 .1 .0)) (part-is d)
+    (dealt .ensures .dealt (fitting-down (x .level) _ (x .nodes .now) (x .marks .now) (length (x .ids .now)) (length (x .room .now)) (length (x .cards .now)) (s .pre) (part-is d) _ (cards-fit s)))
 
 pub deal-over-spec : {M : Type 1} → statement M
 deal-over-spec =
     tie.close
     (tie.spec
-    array-borrow-prefix-ids
+    (λ c. search needs)
     slice-aggregate-copy-words
-    copy-words-requires
-    array-share-prefix-ids
+    (λ c κs. search needs)
+    (λ c. search needs)
     slice-aggregate-deal
-    deal-requires
-    same-length
-    same-length-2
+    (λ c. search needs)
+    slice-aggregate-deal-2
+    (λ c κs. search needs)
+    (λ c. search needs)
+    (λ c. search needs)
+    (λ c. search needs)
+    (λ c. search needs)
+    (λ c. search needs)
     returns)

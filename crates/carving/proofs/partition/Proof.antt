@@ -1,12 +1,13 @@
--- The words in front hold the leaves' nodes, those behind are lent for their sizes; both together are what is laid out (`laid`). No loop. Assumes nothing.
-use mathlib.Core.Path.{sym, ap, _∙_, subst}
+-- The words in front hold the leaves' nodes, those behind are lent for their sizes; both together are what is laid out (`laid`). Each test that refuses
+-- contradicts a field of `Asked`. No loop. Assumes nothing.
+use mathlib.Core.Path.{refl, sym, ap, _∙_, subst}
 use mathlib.Core.List.{List, _++_}
 use Prim.Native.Nat.{ℕ, _*_, _≤_}
 use lib.ListN.{length, drop, replicate, length-append, length-drop}
 use lib.Seq.{length-take-le, take-append-le}
 use Rattle.vectors.specs.Vectors.{vectorsIn}
 use Rattle.partition.specs.Partition.{leavesOf}
-use Rattle.carving.specs.Carving.{nonEmpty, Laid}
+use Rattle.carving.specs.Carving.{nonEmpty, Laid, Asked}
 use Rattle.carving.proofs.Carving.{Front, front-back, lent-rest, both-back, laid}
 use native.Mathlib.Omega.{arith}
 use borrow.Author.Needs.{needs}
@@ -33,16 +34,16 @@ abbrev roomy : tie.After-carve-all → tie.Else3
 roomy c = c .before .before .before
 
 abbrev nodes : tie.After-carve-all → List ℕ
-nodes c = c .carve-all .last .1 .1 .1 .1 .1 .1 .0
+nodes c = c .carve-all .last .1 .1 .1 .1 .0
 
 abbrev marks : tie.After-carve-all → List ℕ
-marks c = c .carve-all .last .1 .1 .1 .1 .1 .1 .1 .0
+marks c = c .carve-all .last .1 .1 .1 .1 .1 .0
 
 nodes-front : (c : tie.After-carve-all) → Front (words (roomy c)) (nodes c) (2 * n (roomy c))
-nodes-front c = front-back _ _ _ (room (roomy c)) (c .carve-all .kept .1 .1 .1 .1 .1 .1 .0)
+nodes-front c = front-back _ _ _ (room (roomy c)) (c .carve-all .kept .1 .1 .1 .1 .0)
 
 marks-front : (c : tie.After-carve-all) → Front (replicate 2048 0) (marks c) (2 * n (roomy c))
-marks-front c = front-back _ _ _ (array-room (roomy c)) (c .carve-all .kept .1 .1 .1 .1 .1 .1 .1 .0)
+marks-front c = front-back _ _ _ (array-room (roomy c)) (c .carve-all .kept .1 .1 .1 .1 .1 .0)
 
 total-within : (c : tie.After-carve-all) → c .carve-all .result ≤ length (marks c)
 total-within c = omega (arith, c .carve-all .ensures .within, nodes-front c .is, marks-front c .is)
@@ -50,14 +51,17 @@ total-within c = omega (arith, c .carve-all .ensures .within, nodes-front c .is,
 total-fits : (c : tie.After-carve-all) → c .carve-all .result ≤ length (marks c ++ drop (2 * n (roomy c)) (replicate 2048 0))
 total-fits c = omega (arith, total-within c, length-append (marks c) (drop (2 * n (roomy c)) (replicate 2048 0)))
 
+asked : (c : tie.Else3) → Asked (c .before .before .before .before .before .args .max-leaf-size) (n c) (words c)
+asked c = record { most = few c; some = omega (arith, c .before .if2 .left); room = omega (arith, c .if3 .left) }
+
 returns : tie.Need-returns
-returns c a = absurd (omega (arith, a .most, c .if1 .taken))
+returns c = record { made = λ _ a. absurd (omega (arith, a .most, c .if1 .taken)); refused = λ _. (refl, refl) }
 
 returns-2 : tie.Need-returns-2
-returns-2 c a = absurd (omega (arith, a .some, c .if2 .taken))
+returns-2 c = record { made = λ _ a. absurd (omega (arith, a .some, c .if2 .taken)); refused = λ _. (refl, refl) }
 
 returns-3 : tie.Need-returns-3
-returns-3 c a = absurd (omega (arith, a .room, c .if3 .taken))
+returns-3 c = record { made = λ _ a. absurd (omega (arith, a .room, c .if3 .taken)); refused = λ _. (refl, refl) }
 
 slice-aggregate-carve-all : tie.Need-slice-aggregate-carve-all
 slice-aggregate-carve-all c = sym (length-take-le _ _ (room (c .before)))
@@ -88,18 +92,22 @@ sizes-of-requires c κs =
     (omega (arith, part, few (roomy at)), omega (arith, part, rest, roomy at .if3 .left))
 
 returns-4 : tie.Need-returns-4
-returns-4 c a =
+returns-4 c =
     let at = c .before .before .before .before .before .before .before .before in
     let x = c .before .before .before .before .before .before .before .before .before .before .before .before .before .before .before .before .args in
     let size : ℕ = 2 * x .n in
     let all = at .carve-all in
     let made = c .before .before .sizes-of in
     let sizes : List ℕ = made .last .1 .0 in
-    let held = all .ensures .leaves (a .vectors) in
     let front = take-append-le (all .result) (marks at) (drop size (replicate 2048 0)) (total-within at) in
-    subst (λ (w : List ℕ). Laid (nonEmpty (leavesOf (x .max-leaf-size) (x .min-leaf-size) (x .leader-fraction) (vectorsIn (x .dimension) (x .vectors .now)))) (made .result) size w)
-    (sym (both-back (x .words .now) (nodes at) size (nodes-front at) sizes))
-    (laid _ (nodes at) sizes (x .n) (all .result) (made .result) (nodes-front at .is) (all .ensures .within) (held .0) (made .ensures .0 _ (front ∙ held .1)))
+    record {
+      made = λ many _.
+          let held = all .ensures .leaves many in
+          subst (λ (w : List ℕ). Laid (nonEmpty (leavesOf (x .max-leaf-size) (x .min-leaf-size) (x .leader-fraction) (vectorsIn (x .dimension) (x .vectors .now)))) (made .result) size w)
+          (sym (both-back (x .words .now) (nodes at) size (nodes-front at) sizes))
+          (laid _ (nodes at) sizes (x .n) (all .result) (made .result) (nodes-front at .is) (all .ensures .within) (held .0) (made .ensures .0 _ (front ∙ held .1)));
+      refused = λ f. absurd (f (asked (roomy at)));
+    }
 
 pub partition-spec : {M : Type 1} → statement M
 partition-spec =

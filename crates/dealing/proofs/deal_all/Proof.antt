@@ -1,10 +1,11 @@
--- Leaders and cards stand at the front of two arrays; what they deal is the definition's (`deal-is`), and as many entries as there is room for
--- (`deal-entries`). No loop. Assumes nothing.
+-- The leaders stand at the front of the room, the cards in a slice of their own; what they deal is the definition's (`deal-is`), and as many entries as
+-- there is room for (`deal-entries`). No loop. Assumes nothing.
 use mathlib.Core.Path.{_≡_, sym, ap, _∙_}
 use mathlib.Core.List.{List, _++_, map, flatten}
 use Prim.Native.Nat.{ℕ, _*_, _≤_}
-use lib.ListN.{length, getD, take, drop, replicate, length-take, length-append}
+use lib.ListN.{length, getD, take, drop, length-take, length-drop, length-append}
 use lib.Seq.{length-take-le, take-at}
+use lib.Ieee.{Float}
 use Rattle.vectors.specs.Vectors.{vectorsIn}
 use Rattle.leaders.specs.Leaders.{drawn, drawStart, upTo}
 use Rattle.partition.specs.Partition.{nearestLeaders, gathered, bucketsOf}
@@ -17,246 +18,149 @@ use borrow.Author.Needs.{needs}
 use Rattle.dealing.proofs.deal_all.Statement.{statement}
 use Rattle.dealing.proofs.deal_all.Tie as tie
 
--- AT 101:39
--- ---- where the cards are read: the leaders drawn, the cards found, and what they deal
+-- the segment is small, and has as many words of room
+few : (c : tie.Start) → (length (c .args .ids .now) ≤ 2048) × (length (c .args .ids .now) ≤ length (c .args .nodes .now))
+few c = let x = c .args in few-ids (x .level) (x .ids .now) (x .nodes .now) (x .marks .now) (length (x .room .now)) (length (x .cards .now)) (c .pre .1)
 
-abbrev leaders-found : tie.After-cards3 → List ℕ
-leaders-found c = c .before .before .before .before .before .before .before .before .draw .last .1 .1 .1 .0
+-- ---- the leaders
 
-abbrev cards-found : tie.After-cards3 → List ℕ
-cards-found c = c .before .before .assign .last .1 .1 .1 .1 .1 .0
+within : (c : tie.After-leader-count) → (c .leader-count .result ≤ length (c .before .before .before .before .before .before .before .args .ids .now)) × (c .leader-count .result ≤ length (c .before .before .before .before .before .before .before .args .room .now))
+within c = let f = few (c .before .before .before .before .before .before .before) in let k = c .leader-count .ensures in (omega arith, omega (arith, c .before .before .before .before .before .before .before .pre .1 .room-size))
 
--- a slice's part at the front of a longer array
-abbrev front : ℕ → List ℕ → List ℕ
-front k xs = take k (xs ++ drop k (replicate 2048 0))
+abbrev start : tie.After-draw → tie.Start
+start c = c .before .before .before .before .before .before .before .before .before .before
 
-leaders-size : (c : tie.After-cards3) → length (leaders-found c) ≡ c .before .before .before .before .before .before .before .before .before .before .before .leader-count .result
-leaders-size c =
-    let s = c .before .before .before .before .before .before .before .before .before .before .before .before .before .before .before .before in
-    let x = s .args in
-    let count = c .before .before .before .before .before .before .before .before .before .before .before .leader-count in
-    let few = few-ids (x .level) (x .ids .now) (x .nodes .now) (x .marks .now) (s .pre .1) in
-    let k = count .ensures in
-    let within : count .result ≤ 2048 = omega arith in
-    c .before .before .before .before .before .before .before .before .draw .kept .1 .1 .1 .0 ∙ length-take-le _ _ within
+abbrev count : tie.After-draw → ℕ
+count c = c .before .before .before .leader-count .result
 
-cards-size : (c : tie.After-cards3) → length (cards-found c) ≡ length (c .before .before .before .before .before .before .before .before .before .before .before .before .before .before .before .before .args .ids .now)
-cards-size c =
-    let s = c .before .before .before .before .before .before .before .before .before .before .before .before .before .before .before .before in
-    let x = s .args in
-    c .before .before .assign .kept .1 .1 .1 .1 .1 .0 ∙ length-take-le _ _ (few-ids (x .level) (x .ids .now) (x .nodes .now) (x .marks .now) (s .pre .1) .0)
+abbrev leaders : tie.After-draw → List ℕ
+leaders c = c .draw .last .1 .1 .1 .0
 
-cards-part : (c : tie.After-cards3) → front (length (c .before .before .before .before .before .before .before .before .before .before .before .before .before .before .before .before .args .ids .now)) (cards-found c) ≡ cards-found c
-cards-part c = take-at (cards-found c) _ _ (cards-size c)
+-- the room with them at its front
+abbrev room : tie.After-draw → List ℕ
+room c = leaders c ++ drop (count c) (start c .args .room .now)
 
-leaders-part : (c : tie.After-cards3) → front (c .before .before .before .before .before .before .before .before .before .before .before .leader-count .result) (leaders-found c) ≡ leaders-found c
-leaders-part c = take-at (leaders-found c) _ _ (leaders-size c)
+leaders-size : (c : tie.After-draw) → length (leaders c) ≡ count c
+leaders-size c = c .draw .kept .1 .1 .1 .0 ∙ length-take-le _ _ (within (c .before .before .before) .1)
 
-leaders-are : (c : tie.After-cards3)
-    → leaders-found c ≡ map (λ (p : ℕ). getD (c .before .before .before .before .before .before .before .before .before .before .before .before .before .before .before .before .args .ids .now) p 0) (drawn (c .before .before .before .before .before .before .before .before .before .before .before .leader-count .result) (drawStart (c .before .before .before .before .before .before .before .before .before .before .before .before .before .before .before .before .args .level)) (upTo (length (c .before .before .before .before .before .before .before .before .before .before .before .before .before .before .before .before .args .ids .now))))
+leaders-part : (c : tie.After-draw) → take (count c) (room c) ≡ leaders c
+leaders-part c = take-at (leaders c) _ _ (leaders-size c)
+
+leaders-are : (c : tie.After-draw)
+    → leaders c ≡ map (λ (p : ℕ). getD (start c .args .ids .now) p 0) (drawn (count c) (drawStart (start c .args .level)) (upTo (length (start c .args .ids .now))))
 leaders-are c =
-    let s = c .before .before .before .before .before .before .before .before .before .before .before .before .before .before .before .before in
-    let x = s .args in
-    let count = c .before .before .before .before .before .before .before .before .before .before .before .leader-count in
-    let few = few-ids (x .level) (x .ids .now) (x .nodes .now) (x .marks .now) (s .pre .1) in
-    let k = count .ensures in
-    let within : count .result ≤ 2048 = omega arith in
-    c .before .before .before .before .before .before .before .before .draw .ensures
-    ∙ ap (λ (m : ℕ). map (λ (p : ℕ). getD (x .ids .now) p 0) (drawn m (drawStart (x .level)) (upTo (length (x .ids .now))))) (length-take-le _ _ within)
+    let x = start c .args in
+    c .draw .ensures
+    ∙ ap (λ (m : ℕ). map (λ (p : ℕ). getD (x .ids .now) p 0) (drawn m (drawStart (x .level)) (upTo (length (x .ids .now))))) (length-take-le _ _ (within (c .before .before .before) .1))
 
-cards-are : (c : tie.After-cards3)
-    → front (length (c .before .before .before .before .before .before .before .before .before .before .before .before .before .before .before .before .args .ids .now)) (cards-found c)
-    ≡ map (λ (id : ℕ). cardOf (nearestLeaders (vectorsIn (c .before .before .before .before .before .before .before .before .before .before .before .before .before .before .before .before .args .dimension) (c .before .before .before .before .before .before .before .before .before .before .before .before .before .before .before .before .args .vectors .now)) (c .before .before .before .before .before .before .before .before .before .before .before .before .before .before .before .before .args .fan) (leaders-found c) id)) (c .before .before .before .before .before .before .before .before .before .before .before .before .before .before .before .before .args .ids .now)
-cards-are c =
-    let x = c .before .before .before .before .before .before .before .before .before .before .before .before .before .before .before .before .args in
-    cards-part c ∙ c .before .before .assign .ensures
-    ∙ ap (λ (l : List ℕ). map (λ (id : ℕ). cardOf (nearestLeaders (vectorsIn (x .dimension) (x .vectors .now)) (x .fan) l id)) (x .ids .now)) (leaders-part c)
+room-size : (c : tie.After-draw) → length (room c) ≡ length (start c .args .room .now)
+room-size c = let k = within (c .before .before .before) .1 in omega (arith, length-append (leaders c) (drop (count c) (start c .args .room .now)), length-drop (count c) (start c .args .room .now), leaders-size c)
 
-buckets-are : (c : tie.After-cards3)
-    → gathered (c .before .before .before .before .before .before .before .before .before .before .before .before .before .before .before .before .args .min-leaf) (bucketsBy (c .before .before .before .before .before .before .before .before .before .before .before .leader-count .result) (c .before .before .before .before .before .before .before .before .before .before .before .before .before .before .before .before .args .ids .now) (front (length (c .before .before .before .before .before .before .before .before .before .before .before .before .before .before .before .before .args .ids .now)) (cards-found c)))
-    ≡ bucketsOf (c .before .before .before .before .before .before .before .before .before .before .before .before .before .before .before .before .args .min-leaf) (c .before .before .before .before .before .before .before .before .before .before .before .before .before .before .before .before .args .leader-fraction) (vectorsIn (c .before .before .before .before .before .before .before .before .before .before .before .before .before .before .before .before .args .dimension) (c .before .before .before .before .before .before .before .before .before .before .before .before .before .before .before .before .args .vectors .now)) (c .before .before .before .before .before .before .before .before .before .before .before .before .before .before .before .before .args .level) (c .before .before .before .before .before .before .before .before .before .before .before .before .before .before .before .before .args .ids .now)
-buckets-are c =
-    let s = c .before .before .before .before .before .before .before .before .before .before .before .before .before .before .before .before in
-    let x = s .args in
-    let count = c .before .before .before .before .before .before .before .before .before .before .before .leader-count in
-    deal-is (x .min-leaf) (x .leader-fraction) (vectorsIn (x .dimension) (x .vectors .now)) (x .level) (x .fan) (count .result) (x .ids .now) (leaders-found c) _
-    (s .pre .0) (omega (arith, s .pre .0, s .pre .1 .deals)) (s .pre .1 .two) (few-ids (x .level) (x .ids .now) (x .nodes .now) (x .marks .now) (s .pre .1) .0) (count .ensures) (leaders-are c) (cards-are c)
+-- ---- the cards, and what they deal
 
-entries-are : (c : tie.After-cards3)
-    → entries (bucketsBy (c .before .before .before .before .before .before .before .before .before .before .before .leader-count .result) (c .before .before .before .before .before .before .before .before .before .before .before .before .before .before .before .before .args .ids .now) (front (length (c .before .before .before .before .before .before .before .before .before .before .before .before .before .before .before .before .args .ids .now)) (cards-found c))) ≡ c .before .before .before .before .before .before .before .before .before .before .before .before .before .before .before .before .args .fan * length (c .before .before .before .before .before .before .before .before .before .before .before .before .before .before .before .before .args .ids .now)
-entries-are c =
-    let s = c .before .before .before .before .before .before .before .before .before .before .before .before .before .before .before .before in
-    let x = s .args in
-    let count = c .before .before .before .before .before .before .before .before .before .before .before .leader-count in
-    deal-entries (x .min-leaf) (x .leader-fraction) (vectorsIn (x .dimension) (x .vectors .now)) (x .level) (x .fan) (count .result) (x .ids .now) (leaders-found c) _
-    (s .pre .0) (omega (arith, s .pre .0, s .pre .1 .deals)) (s .pre .1 .two) (few-ids (x .level) (x .ids .now) (x .nodes .now) (x .marks .now) (s .pre .1) .0) (count .ensures) (leaders-are c) (cards-are c)
+abbrev drawing : tie.After-assign → tie.After-draw
+drawing c = c .before .before .before .before .before .before .before
+
+abbrev begun : tie.After-assign → tie.Start
+begun c = start (drawing c)
+
+abbrev cards : tie.After-assign → List ℕ
+cards c = c .assign .last .1 .1 .1 .1 .1 .0
+
+abbrev vectors : tie.After-assign → List (List Float)
+vectors c = vectorsIn (begun c .args .p .dimension) (begun c .args .vectors .now)
+
+cards-are : (c : tie.After-assign) → cards c ≡ map (λ (id : ℕ). cardOf (nearestLeaders (vectors c) (begun c .args .fan) (leaders (drawing c)) id)) (begun c .args .ids .now)
+cards-are c = c .assign .ensures ∙ ap (λ (l : List ℕ). map (λ (id : ℕ). cardOf (nearestLeaders (vectors c) (begun c .args .fan) l id)) (begun c .args .ids .now)) (leaders-part (drawing c))
+
+module _ (c : tie.After-assign) where
+  abbrev s : tie.Start
+  s = begun c
+
+  buckets-are : gathered (s .args .p .«min_leaf») (bucketsBy (count (drawing c)) (s .args .ids .now) (cards c))
+      ≡ bucketsOf (s .args .p .«min_leaf») (s .args .p .«leader_fraction») (vectors c) (s .args .level) (s .args .ids .now)
+  buckets-are =
+      deal-is (s .args .p .«min_leaf») (s .args .p .«leader_fraction») (vectors c) (s .args .level) (s .args .fan) (count (drawing c)) (s .args .ids .now) (leaders (drawing c)) (cards c)
+      (s .pre .0) (omega (arith, s .pre .0, s .pre .1 .deals)) (s .pre .1 .two) (few s .0) (drawing c .before .before .before .leader-count .ensures) (leaders-are (drawing c)) (cards-are c)
+
+  entries-are : entries (bucketsBy (count (drawing c)) (s .args .ids .now) (cards c)) ≡ s .args .fan * length (s .args .ids .now)
+  entries-are =
+      deal-entries (s .args .p .«min_leaf») (s .args .p .«leader_fraction») (vectors c) (s .args .level) (s .args .fan) (count (drawing c)) (s .args .ids .now) (leaders (drawing c)) (cards c)
+      (s .pre .0) (omega (arith, s .pre .0, s .pre .1 .deals)) (s .pre .1 .two) (few s .0) (drawing c .before .before .before .leader-count .ensures) (leaders-are (drawing c)) (cards-are c)
+
+-- ---- the needs
 
 cast-leader-count : tie.Need-cast-leader-count
-cast-leader-count c = let s = c .before .before .before .before in let x = s .args in omega (arith, few-ids (x .level) (x .ids .now) (x .nodes .now) (x .marks .now) (s .pre .1) .0)
+cast-leader-count c = let f = few (c .before .before .before .before .before .before) in omega arith
 
--- AT 101:9
-leader-count-requires : tie.Need-leader-count-requires
-leader-count-requires c κs = search needs
+slice-relend-prefix-draw : tie.Need-slice-relend-prefix-draw
+slice-relend-prefix-draw c = within (c .before) .1
 
--- AT 102:13
-cast-k : tie.Need-cast-k
-cast-k c = search needs
-
--- AT 105:29
-array-borrow-prefix-leaders : tie.Need-array-borrow-prefix-leaders
-array-borrow-prefix-leaders c =
-    let s = c .before .before .before .before .before .before in
-    let x = s .args in
-    let count = c .before .leader-count in
-    let few = few-ids (x .level) (x .ids .now) (x .nodes .now) (x .marks .now) (s .pre .1) in
-    let k = count .ensures in
-    omega arith
-
--- AT 105:29
 slice-aggregate-draw : tie.Need-slice-aggregate-draw
-slice-aggregate-draw c =
-    let s = c .before .before .before .before .before .before .before in
-    let x = s .args in
-    let count = c .before .before .leader-count in
-    let few = few-ids (x .level) (x .ids .now) (x .nodes .now) (x .marks .now) (s .pre .1) in
-    let k = count .ensures in
-    sym (length-take-le _ _ (omega arith))
+slice-aggregate-draw c = sym (length-take-le _ _ (within (c .before .before) .1))
 
--- AT 105:5
 draw-requires : tie.Need-draw-requires
 draw-requires c κs =
-    let s = c .before .before .before .before .before .before .before in
-    let x = s .args in
-    let count = c .before .before .leader-count in
-    let few = few-ids (x .level) (x .ids .now) (x .nodes .now) (x .marks .now) (s .pre .1) in
-    let k = count .ensures in
-    (few .0, few .1, simp length-take (omega arith))
+    let f = few (c .before .before .before .before .before .before .before .before .before) in
+    let w = within (c .before .before) in
+    (f .0, f .1, simp length-take (omega arith))
 
--- AT 106:32
-array-share-prefix-leaders : tie.Need-array-share-prefix-leaders
-array-share-prefix-leaders c =
-    let s = c .before .before .before .before .before .before .before .before .before .before .before in
-    let x = s .args in
-    let count = c .before .before .before .before .before .before .leader-count in
-    let few = few-ids (x .level) (x .ids .now) (x .nodes .now) (x .marks .now) (s .pre .1) in
-    let k = count .ensures in
-    let within : count .result ≤ 2048 = omega arith in
-    let drawn-ones : List ℕ = c .before .before .before .draw .last .1 .1 .1 .0 in
-    let size : length drawn-ones ≡ count .result = c .before .before .before .draw .kept .1 .1 .1 .0 ∙ length-take-le _ _ within in
-    let room : count .result ≤ length (drawn-ones ++ drop (count .result) (replicate 2048 0)) = omega (arith, length-append drawn-ones (drop (count .result) (replicate 2048 0)), size) in
-    room
+slice-reshare-prefix-assign : tie.Need-slice-reshare-prefix-assign
+slice-reshare-prefix-assign c = let w = within (c .before .before .before .before .before .before .before) .1 in omega (arith, room-size (c .before .before .before .before))
 
--- AT 106:32
 slice-aggregate-assign : tie.Need-slice-aggregate-assign
-slice-aggregate-assign c =
-    let s = c .before .before .before .before .before .before .before .before .before .before .before .before in
-    let x = s .args in
-    let count = c .before .before .before .before .before .before .before .leader-count in
-    let few = few-ids (x .level) (x .ids .now) (x .nodes .now) (x .marks .now) (s .pre .1) in
-    let k = count .ensures in
-    let within : count .result ≤ 2048 = omega arith in
-    let drawn-ones : List ℕ = c .before .before .before .before .draw .last .1 .1 .1 .0 in
-    let size : length drawn-ones ≡ count .result = c .before .before .before .before .draw .kept .1 .1 .1 .0 ∙ length-take-le _ _ within in
-    sym (ap length (take-at drawn-ones _ _ size) ∙ size)
+slice-aggregate-assign c = sym (ap length (leaders-part (c .before .before .before .before .before)) ∙ leaders-size (c .before .before .before .before .before))
 
--- AT 106:57
-array-borrow-prefix-cards : tie.Need-array-borrow-prefix-cards
-array-borrow-prefix-cards c =
-    let s = c .before .before .before .before .before .before .before .before .before .before .before .before in
-    let x = s .args in
-    let count = c .before .before .before .before .before .before .before .leader-count in
-    let few = few-ids (x .level) (x .ids .now) (x .nodes .now) (x .marks .now) (s .pre .1) in
-    let k = count .ensures in
-    omega arith
-
--- AT 106:57
-slice-aggregate-assign-2 : tie.Need-slice-aggregate-assign-2
-slice-aggregate-assign-2 c =
-    let s = c .before .before .before .before .before .before .before .before .before .before .before .before .before in
-    let x = s .args in
-    let count = c .before .before .before .before .before .before .before .before .leader-count in
-    let few = few-ids (x .level) (x .ids .now) (x .nodes .now) (x .marks .now) (s .pre .1) in
-    let k = count .ensures in
-    sym (length-take-le _ _ (omega arith))
-
--- AT 106:5
 assign-requires : tie.Need-assign-requires
 assign-requires c κs =
-    let s = c .before .before .before .before .before .before .before .before .before .before .before .before .before in
-    let x = s .args in
-    let count = c .before .before .before .before .before .before .before .before .leader-count in
-    let few = few-ids (x .level) (x .ids .now) (x .nodes .now) (x .marks .now) (s .pre .1) in
-    let k = count .ensures in
-    let within : count .result ≤ 2048 = omega arith in
-    let drawn-ones : List ℕ = c .before .before .before .before .before .draw .last .1 .1 .1 .0 in
-    let size : length drawn-ones ≡ count .result = c .before .before .before .before .before .draw .kept .1 .1 .1 .0 ∙ length-take-le _ _ within in
-    let part : length (front (count .result) drawn-ones) ≡ count .result = ap length (take-at drawn-ones _ _ size) ∙ size in
-    let most = fan-most (x .level) in
-    (omega (arith, part), omega (arith, s .pre .0, s .pre .1 .deals), omega (arith, s .pre .0), omega (arith, part, s .pre .0, s .pre .1 .two), length-take-le _ _ (few .0))
+    let d = c .before .before .before .before .before .before in
+    let s = start d in
+    let f = few s in
+    let k = d .before .before .before .leader-count .ensures in
+    let part : length (take (count d) (room d)) ≡ count d = ap length (leaders-part d) ∙ leaders-size d in
+    let most = fan-most (s .args .level) in
+    (omega (arith, part), omega (arith, s .pre .0, s .pre .1 .deals), omega (arith, s .pre .0), omega (arith, part, s .pre .0, s .pre .1 .two), s .pre .1 .cards-size)
 
--- AT 107:17
-array-share-prefix-cards : tie.Need-array-share-prefix-cards
-array-share-prefix-cards c =
-    let s = c .before .before .before .before .before .before .before .before .before .before .before .before .before .before .before in
-    let x = s .args in
-    let n : ℕ = length (x .ids .now) in
-    let found : List ℕ = c .before .assign .last .1 .1 .1 .1 .1 .0 in
-    let size : length found ≡ n = c .before .assign .kept .1 .1 .1 .1 .1 .0 ∙ length-take-le _ _ (few-ids (x .level) (x .ids .now) (x .nodes .now) (x .marks .now) (s .pre .1) .0) in
-    let room : n ≤ length (found ++ drop n (replicate 2048 0)) = omega (arith, length-append found (drop n (replicate 2048 0)), size) in
-    room
-
--- AT 107:17
-slice-aggregate-gather : tie.Need-slice-aggregate-gather
-slice-aggregate-gather c =
-    sym (ap length (take-at (cards-found c) _ _ (cards-size c)) ∙ cards-size c)
-
--- AT 107:5
 gather-requires : tie.Need-gather-requires
 gather-requires c κs =
-    let d = c .before .before in
-    let s = c .before .before .before .before .before .before .before .before .before .before .before .before .before .before .before .before .before .before in
-    let x = s .args in
-    let drawing = c .before .before .before .before .before .before .before .before .before .before .draw in
-    record {
-      cards-size = ap length (cards-part d) ∙ cards-size d;
-      marks-size = s .pre .1 .marks-size ∙ sym (drawing .kept .1 .1 .0);
-      all-entries = entries-are d ∙ ap (λ (f : ℕ). f * length (x .ids .now)) (s .pre .0) ∙ sym (s .pre .1 .nodes-size) ∙ sym (drawing .kept .1 .1 .0);
-      few = omega (arith, s .pre .1 .few, drawing .kept .1 .1 .0);
-    }
+    let a = c .before .before .before .before .before .before .before in
+    let s = start (drawing a) in
+    let left = drawing a .draw .kept .1 .1 .0 in (
+      record {
+        cards-size = a .assign .kept .1 .1 .1 .1 .1 .0 ∙ s .pre .1 .cards-size;
+        marks-size = s .pre .1 .marks-size ∙ sym left;
+        all-entries = entries-are a ∙ ap (λ (f : ℕ). f * length (s .args .ids .now)) (s .pre .0) ∙ sym (s .pre .1 .nodes-size) ∙ sym left;
+        few = omega (arith, s .pre .1 .few, left);
+      },
+      omega (arith, s .pre .1 .room-size, left, room-size (drawing a)),
+    )
 
--- AT 85:1
-same-length : tie.Need-same-length
-same-length c = search needs
+same-length-3 : tie.Need-same-length-3
+same-length-3 c = c .before .before .before .before .before .before .gather .kept .1 .1 .1 .1 .0 ∙ room-size (c .before .before .before .before .before .before .before .before .before .before .before .before .before .before .before .before .before .before .before .before .before)
 
--- AT 85:1
-same-length-2 : tie.Need-same-length-2
-same-length-2 c = search needs
-
--- AT 85:1
 returns : tie.Need-returns
 returns c =
-    let d = c .before .before .before .before .before .before .before in
-    let all = c .before .before .before .before .gather in
-    (all .ensures .0 ∙ ap flatten (buckets-are d), all .ensures .1 ∙ ap marksOf (buckets-are d))
+    let a = c .before .before .before .before .before .before .before .before .before .before .before .before .before .before in
+    let all = c .before .before .before .before .before .before .gather in
+    (all .ensures .0 ∙ ap flatten (buckets-are a), all .ensures .1 ∙ ap marksOf (buckets-are a))
 
 pub deal-all-spec : {M : Type 1} → statement M
 deal-all-spec =
     tie.close
     (tie.spec
     cast-leader-count
-    leader-count-requires
-    cast-k
-    array-borrow-prefix-leaders
+    (λ c κs. search needs)
+    (λ c. search needs)
+    slice-relend-prefix-draw
     slice-aggregate-draw
     draw-requires
-    array-share-prefix-leaders
+    slice-reshare-prefix-assign
     slice-aggregate-assign
-    array-borrow-prefix-cards
-    slice-aggregate-assign-2
     assign-requires
-    array-share-prefix-cards
-    slice-aggregate-gather
+    (λ c. search needs)
     gather-requires
-    same-length
-    same-length-2
+    (λ c. search needs)
+    (λ c. search needs)
+    same-length-3
+    (λ c. search needs)
     returns)

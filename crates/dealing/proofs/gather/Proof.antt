@@ -1,7 +1,8 @@
 -- After all leaders the nodes that are placed and those that have gathered are as many as there is room for; what has gathered goes behind the
 -- others (`gathered-nodes`, `gathered-marks`). No loop. Assumes nothing.
 use mathlib.Core.Path.{_≡_, sym, _∙_}
-use Prim.Native.Nat.{_≤_}
+use mathlib.Core.List.{List}
+use Prim.Native.Nat.{ℕ, _+_, _≤_}
 use lib.ListN.{length}
 use lib.Seq.{length-take-le}
 use Rattle.dealing.specs.Cards.{bucketsBy}
@@ -11,39 +12,35 @@ use borrow.Author.Needs.{needs}
 use Rattle.dealing.proofs.gather.Statement.{statement}
 use Rattle.dealing.proofs.gather.Tie as tie
 
-slice-aggregate-gather-all : tie.Need-slice-aggregate-gather-all
-slice-aggregate-gather-all c = search needs
+-- what has gathered after all leaders
+abbrev small : tie.After-gather-all → List ℕ
+small c = c .gather-all .last .1 .1 .1 .1 .0
+
+abbrev start : tie.After-gather-all → tie.Start
+start c = c .before .before .before .before .before .before .before .before .before
+
+-- placed and gathered, they are all entries
+all-held : (c : tie.After-gather-all) → c .gather-all .result .at + c .gather-all .result .held ≡ length (start c .args .nodes .now)
+all-held c =
+    let x = start c .args in
+    so-far-all (x .ids .now) (x .cards .now) (x .min-leaf) (x .leaders) _ _ _ _ _ (c .gather-all .ensures) ∙ start c .pre .0 .all-entries
+
+held-fits : (c : tie.After-gather-all) → c .gather-all .result .held ≤ length (small c)
+held-fits c = omega (arith, all-held c, start c .pre .1, c .gather-all .kept .1 .1 .1 .1 .0)
 
 gather-all-requires : tie.Need-gather-all-requires
 gather-all-requires c κs = search needs
 
-array-share-prefix-small : tie.Need-array-share-prefix-small
-array-share-prefix-small c =
-    let s = c .before .before .before .before .before .before .before .before .before .before .before .before .before in
-    let x = s .args in
-    let all = c .before .before .before .before .before .gather-all in
-    let size = so-far-all (x .ids .now) (x .cards .now) (x .min-leaf) (x .leaders) _ _ _ _ _ (all .ensures) in
-    omega (arith, size, s .pre .all-entries, s .pre .few)
+slice-reshare-prefix-finish : tie.Need-slice-reshare-prefix-finish
+slice-reshare-prefix-finish c = held-fits (c .before .before .before .before .before .before)
 
 slice-aggregate-finish : tie.Need-slice-aggregate-finish
-slice-aggregate-finish c =
-    let s = c .before .before .before .before .before .before .before .before .before .before .before .before .before .before in
-    let x = s .args in
-    let all = c .before .before .before .before .before .before .gather-all in
-    let size = so-far-all (x .ids .now) (x .cards .now) (x .min-leaf) (x .leaders) _ _ _ _ _ (all .ensures) in
-    let room : length (all .last .1 .1 .1 .1 .0) ≡ 2048 = all .kept .1 .1 .1 .1 .0 in
-    let fits : all .result .held ≤ length (all .last .1 .1 .1 .1 .0) = omega (arith, s .pre .all-entries, s .pre .few) in
-    sym (length-take-le _ _ fits)
+slice-aggregate-finish c = sym (length-take-le _ _ (held-fits (c .before .before .before .before .before .before .before)))
 
 finish-requires : tie.Need-finish-requires
 finish-requires c κs =
-    let s = c .before .before .before .before .before .before .before .before .before .before .before .before .before .before .before .before in
-    let x = s .args in
-    let all = c .before .before .before .before .before .before .before .before .gather-all in
-    let size = so-far-all (x .ids .now) (x .cards .now) (x .min-leaf) (x .leaders) _ _ _ _ _ (all .ensures) in
-    let room : length (all .last .1 .1 .1 .1 .0) ≡ 2048 = all .kept .1 .1 .1 .1 .0 in
-    let fits : all .result .held ≤ length (all .last .1 .1 .1 .1 .0) = omega (arith, s .pre .all-entries, s .pre .few) in
-    (omega (arith, length-take-le (all .result .held) (all .last .1 .1 .1 .1 .0) fits, s .pre .all-entries, all .kept .1 .1 .1 .1 .1 .0), all .kept .1 .1 .1 .1 .1 .1 .0 ∙ s .pre .marks-size ∙ sym (all .kept .1 .1 .1 .1 .1 .0))
+    let all = c .before .before .before .before .before .before .before .before .before in
+    (omega (arith, length-take-le (all .gather-all .result .held) (small all) (held-fits all), all-held all, all .gather-all .kept .1 .1 .1 .1 .1 .0), all .gather-all .kept .1 .1 .1 .1 .1 .1 .0 ∙ start all .pre .0 .marks-size ∙ sym (all .gather-all .kept .1 .1 .1 .1 .1 .0))
 
 same-length : tie.Need-same-length
 same-length c = search needs
@@ -51,28 +48,27 @@ same-length c = search needs
 same-length-2 : tie.Need-same-length-2
 same-length-2 c = search needs
 
+same-length-3 : tie.Need-same-length-3
+same-length-3 c = search needs
+
 returns : tie.Need-returns
 returns c =
-    let s = c .before .before .before .before .before .before .before .before .before .before .before .before .before .before .before .before .before .before .before .before .before in
-    let x = s .args in
-    let all = c .before .before .before .before .before .before .before .before .before .before .before .before .before .gather-all in
-    let end = c .before .before .before .before .finish in
-    let size = so-far-all (x .ids .now) (x .cards .now) (x .min-leaf) (x .leaders) _ _ _ _ _ (all .ensures) in
-    let room : length (all .last .1 .1 .1 .1 .0) ≡ 2048 = all .kept .1 .1 .1 .1 .0 in
-    let fits : all .result .held ≤ length (all .last .1 .1 .1 .1 .0) = omega (arith, s .pre .all-entries, s .pre .few) in (
-      end .ensures .0 ∙ gathered-nodes (x .min-leaf) (bucketsBy (x .leaders) (x .ids .now) (x .cards .now)) _ _ _ _ _ (all .ensures),
-      end .ensures .1 ∙ gathered-marks (x .min-leaf) (bucketsBy (x .leaders) (x .ids .now) (x .cards .now)) _ _ _ _ _ (all .ensures) _ (length-take-le (all .result .held) (all .last .1 .1 .1 .1 .0) fits),
+    let all = c .before .before .before .before .before .before .before .before .before .before .before .before .before .before in
+    let x = start all .args in
+    let end = c .before .before .before .before .finish in (
+      end .ensures .0 ∙ gathered-nodes (x .min-leaf) (bucketsBy (x .leaders) (x .ids .now) (x .cards .now)) _ _ _ _ _ (all .gather-all .ensures),
+      end .ensures .1 ∙ gathered-marks (x .min-leaf) (bucketsBy (x .leaders) (x .ids .now) (x .cards .now)) _ _ _ _ _ (all .gather-all .ensures) _ (length-take-le (all .gather-all .result .held) (small all) (held-fits all)),
     )
 
 pub gather-spec : {M : Type 1} → statement M
 gather-spec =
     tie.close
     (tie.spec
-    slice-aggregate-gather-all
     gather-all-requires
-    array-share-prefix-small
+    slice-reshare-prefix-finish
     slice-aggregate-finish
     finish-requires
     same-length
     same-length-2
+    same-length-3
     returns)
