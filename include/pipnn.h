@@ -50,9 +50,11 @@
  *
  * STACK
  *
- * Measured with 1,024 phones of 64 features: pipnn_build ran in a thread with a stack of 24 KB with the usual parameters, of
- * 64 KB with max_leaf_size 64, and of 320 KB where each phone is a leader (max_leaf_size 1, leader_fraction 1). A search or
- * a recognition has 17 KB of local arrays and ran in one of 24 KB, every other call in one of 16 KB.
+ * Every call fits a stack of 48 KB, whatever its buffers and parameters hold: pipnn_build needs most, the searches and
+ * pipnn_recognise 21 KB, every other call 7 KB. bindings/stack adds this up from the archive's machine code, along the
+ * longest chain of calls, with 4 KB for memset, memcpy and memmove of the C library. What a thread needs for itself comes on
+ * top: with a stack of 64 KB every call ran on the inputs that need most (bindings/c/stack.c), and the 128 KB of musl's
+ * threads are enough.
  *
  * HOW TO CHOOSE ef
  *

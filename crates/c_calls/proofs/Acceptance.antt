@@ -20,7 +20,8 @@ use Rattle.acceptance.proofs.Sound.{Kept}
 use Rattle.acceptance.proofs.Keeping.{call-kept}
 use Rattle.acceptance.proofs.Acceptance.{call-judged}
 use Rattle.drintelbok.specs.New.{newFrom}
-use Rattle.c_calls.specs.Calls.{CParams, paramsGiven, CCall, «pipnn_new», «pipnn_add», «pipnn_build», «pipnn_search_with_ef», «pipnn_search», «pipnn_recognise», cOutcome, cThen}
+use Rattle.c_calls.specs.Calls.{CParams, paramsGiven, CCall, cOutcome, cThen}
+use Rattle.c_calls.specs.Calls.{«pipnn_new», «pipnn_add», «pipnn_build», «pipnn_search_with_ef», «pipnn_search», «pipnn_recognise»}
 use Rattle.c_calls.specs.Promise.{searchForOne}
 use Rattle.c_calls.specs.Acceptance.{CAccepted, COpens, Recognises, CWelcome, CAccepts}
 use Rattle.c_calls.proofs.Recognised.{search-too, limit-too, from-search}
@@ -36,7 +37,8 @@ module _ (d : ℕ) (g : CParams) (t : Typed (paramsGiven g)) (c : ℕ) (past : P
   new-welcome : COpens d g c w f → CAccepted («pipnn_new» d g t c) w f
   unfolding cOutcome newFrom
   new-welcome o =
-      let passes : (dimensionWithin d && ltb 1 (g .finalPrune)) ≡ false = ap₂ _&&_ (o .opens .dimension-within) (le-ltb 1 (g .finalPrune) (omega (arith, o .flag))) in
+      let few : ltb 1 (g .finalPrune) ≡ false = le-ltb 1 (g .finalPrune) (omega (arith, o .flag)) in
+      let passes : (dimensionWithin d && ltb 1 (g .finalPrune)) ≡ false = ap₂ _&&_ (o .opens .dimension-within) few in
       ap (λ (a : Answer). a .0) (pick-false {X = Answer} (2, w, f) (newSpec d (paramsGiven g) c w f) passes) ∙ judged .welcome (o .opens)
 
   new-earned : CAccepted («pipnn_new» d g t c) w f → COpens d g c w f

@@ -12,7 +12,8 @@ use Rattle.promise.specs.Calls.{Call, new, add, build, searchWithEf, search, ou
 use Rattle.promise.proofs.Made.{Made, call-made}
 use Rattle.promise.proofs.Promise.{stands, call-told}
 use Rattle.drintelbok.specs.New.{newFrom}
-use Rattle.c_calls.specs.Calls.{paramsGiven, CCall, «pipnn_new», «pipnn_add», «pipnn_build», «pipnn_search_with_ef», «pipnn_search», «pipnn_recognise», cOutcome, cThen}
+use Rattle.c_calls.specs.Calls.{paramsGiven, CCall, cOutcome, cThen}
+use Rattle.c_calls.specs.Calls.{«pipnn_new», «pipnn_add», «pipnn_build», «pipnn_search_with_ef», «pipnn_search», «pipnn_recognise»}
 use Rattle.c_calls.specs.Promise.{CTold, CClaims}
 use Rattle.c_calls.proofs.Recognised.{recognised-told}
 

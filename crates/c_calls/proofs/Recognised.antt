@@ -81,7 +81,8 @@ module _ (ws fs : ℕ) (w : List ℕ) (f query : List Float) (ef : ℕ) (limit :
       let one = one-node (a .nodes) (a .exactly ∙ least) in
       by-node x a (one .0) (one .1) e
 
-  pub recognised-told : (past : Past) → Made past w f → OnceBuilt past (recognised ws fs w f query ef limit .number ≡ 0) (λ x. RecognisedBy x ws fs w f query ef limit)
+  pub recognised-told : (past : Past) → Made past w f
+      → OnceBuilt past (recognised ws fs w f query ef limit .number ≡ 0) (λ x. RecognisedBy x ws fs w f query ef limit)
   recognised-told nothing m = tt
   recognised-told (opened x) m = λ e. call-told (searchWithEf ws fs query 1 ef (0 ∷ []) (+zero ∷ [])) (opened x) w f m (search-too e)
   recognised-told (built x) m = recognised-by x m

@@ -10,7 +10,8 @@ use lib.Ieee.Scale.{finite}
 use Rattle.calls.specs.Search.{mostBeam}
 use Rattle.promise.specs.Calls.{Index, Past}
 use Rattle.acceptance.specs.Acceptance.{Exactly, Judged, Finite, Scratch, Opens, Adds, Builds, Asks, AsksWithEf}
-use Rattle.c_calls.specs.Calls.{CParams, paramsGiven, CCall, «pipnn_new», «pipnn_add», «pipnn_build», «pipnn_search_with_ef», «pipnn_search», «pipnn_recognise», cOutcome, cThen}
+use Rattle.c_calls.specs.Calls.{CParams, paramsGiven, CCall, cOutcome, cThen}
+use Rattle.c_calls.specs.Calls.{«pipnn_new», «pipnn_add», «pipnn_build», «pipnn_search_with_ef», «pipnn_search», «pipnn_recognise»}
 
 -- 0 is returned
 abbrev pub CAccepted : CCall → List ℕ → List Float → Type 0

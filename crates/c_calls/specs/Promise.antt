@@ -12,7 +12,8 @@ use Rattle.score.specs.Recognised.{recognisedAs}
 use Rattle.promise.specs.Calls.{searchWithEf, search, Index, Past, nothing, opened, built, docsOf}
 use Rattle.promise.specs.Promise.{size, listNow, farOf, Answered, Stands, Told}
 use Rattle.drintelbok.specs.Given.{recognisedWith}
-use Rattle.c_calls.specs.Calls.{CCall, «pipnn_new», «pipnn_add», «pipnn_build», «pipnn_search_with_ef», «pipnn_search», «pipnn_recognise», recognised, cOutcome, cThen}
+use Rattle.c_calls.specs.Calls.{CCall, recognised, cOutcome, cThen}
+use Rattle.c_calls.specs.Calls.{«pipnn_new», «pipnn_add», «pipnn_build», «pipnn_search_with_ef», «pipnn_search», «pipnn_recognise»}
 
 -- ---- what an accepted recognising reports
 

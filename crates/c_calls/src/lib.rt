@@ -2,8 +2,8 @@
 // code.
 //
 // A C call has the arguments of its function in `drintelbok`: the eight parameters are numbers, final_prune
-// too, and recognising is a call. What it leaves is the right side of that function's contract. A C call is one
-// of the promise's calls or changes nothing, so what those keep between two calls is kept here too.
+// too, and recognising is a call. What it leaves is the right side of that function's contract. A C call is
+// one of the promise's calls or changes nothing, so what those keep between two calls is kept here too.
 //
 // specs/Calls       a C call, what it leaves, and what is remembered of a list of them
 // specs/Promise     demand 3's claim: what stands between two calls, what a search and recognising report

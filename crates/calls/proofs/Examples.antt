@@ -12,9 +12,11 @@ use Rattle.basics.specs.Graph.{listOf}
 use Rattle.store.specs.View.{view, listIn}
 use Rattle.pipnn.specs.New.{newSpec}
 use Rattle.pipnn.specs.Add.{addSpec}
+use Rattle.calls.specs.Graph.{Graph, settingsOf, graphOf}
 use Rattle.calls.specs.Build.{buildSpec}
 use Rattle.calls.specs.Search.{refused, searchWithEfSpec, searchSpec}
 use Rattle.calls.specs.Example.{minusOne, opened, added, built, lists, asked, told}
+use Rattle.calls.proofs.Graph.{listFor}
 
 -- ---- build: entry 1, one bridge, from 1 to 2; its rows and bridge are written, words 0, 9 and 10, and nothing else
 
@@ -103,3 +105,22 @@ room-for-all : told (searchWithEfSpec 512 384 (built .1) (built .2) (+one ∷ +z
     ≡ (0, 3, 3, 10 ∷ 20 ∷ 30 ∷ [], 0x0000_0000 ∷ 0x3f80_0000 ∷ 0x4000_0000 ∷ [])
 unfolding searchWithEfSpec newSpec addSpec buildSpec ofBits toBits add sub mul div lt le eq isNan ofInt toUnsigned round
 room-for-all = refl
+
+-- ---- after repair a list can have more than 2·D entries
+
+-- two nodes with D = 0: both rows are empty, and the one bridge gives each node an entry
+abbrev flat : Graph
+flat = graphOf (settingsOf 1 (record {
+  «max_leaf_size» = 256;
+  «min_leaf_size» = 0;
+  «leader_fraction» = +zero;
+  «max_degree» = 0;
+  «num_hash_bits» = 0;
+  «final_prune» = false;
+  alpha = +one;
+  «ef_search» = 0;
+})) ((+one ∷ []) ∷ (minusOne ∷ []) ∷ [])
+
+above-twice-the-degree : map (listFor flat) (0 ∷ 1 ∷ []) ≡ (1 ∷ []) ∷ (0 ∷ []) ∷ []
+unfolding graphOf listOf add sub mul div lt le isNan toBits ofInt toUnsigned round
+above-twice-the-degree = refl

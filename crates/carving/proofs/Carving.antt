@@ -18,7 +18,7 @@ use Rattle.dealing.specs.Marks.{run, marksOf}
 use Rattle.dealing.specs.Deal.{Fitting, Holding}
 use Rattle.dealing.proofs.Marks.{marks-one, flatten-one, length-run}
 use Rattle.carving.specs.Carving.{nonEmpty, Laid}
-use Rattle.carving.specs.Steps.{firstSize, Dealing, CarvesSegment, CarvesBuckets}
+use Rattle.carving.specs.Steps.{firstSize, Dealing, CarvesSegment}
 use Rattle.carving.proofs.Leaves.{First, first-of, first-size, none-left, flatten-full}
 
 -- ---- the fanout
@@ -186,9 +186,6 @@ module _ (xs front : List ℕ) (size : ℕ) (f : Front xs front size) where
 
   once-length : length once ≡ length xs
   once-length = omega (arith, length-append front (drop size xs), length-drop size xs)
-
-  pub rest-starts : size ≤ length once
-  rest-starts = omega (arith, once-length)
 
   rest-is : drop size once ≡ drop size xs
   rest-is = drop-at front (drop size xs) size (f .is)

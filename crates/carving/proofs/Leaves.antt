@@ -68,17 +68,6 @@ next-size marks at size h e =
     let is : size ≡ firstSize (drop at marks) = e ∙ ap firstSize (take-all (length marks - at) (drop at marks) (omega arith)) in
     record { is = is; some = omega arith; within = omega arith }
 
--- the first of buckets that hold a node: its size, which fits both slices
-pub record FirstBucket (nodes marks : List ℕ) (size : ℕ) : Type 0 where
-  pub some : 1 ≤ size
-  pub in-nodes : size ≤ length nodes
-  pub in-marks : size ≤ length marks
-
-pub first-bucket : (nodes marks : List ℕ) (size : ℕ) → length marks ≡ length nodes → (length nodes ≡ 0 → ⊥) → size ≡ firstSize marks → FirstBucket nodes marks size
-first-bucket nodes marks size e f is =
-    let w = first-within marks (omega arith) in
-    record { some = omega arith; in-nodes = omega arith; in-marks = omega arith }
-
 -- ---- the marks of buckets
 
 zeroes-run : (m : ℕ) (xs : List ℕ) → zeroes (replicate m 0 ++ xs) ≡ m + zeroes xs

@@ -151,6 +151,32 @@ twice-entry : entryOf twiceSettings twiceVectors ≡ 5
 unfolding entryOf twiceSettings twiceVectors add sub mul div lt ofInt
 twice-entry = refl
 
+-- Two nodes, leaves of one: each goes to both leaders, the buckets gather, and after level 20 each node stands twice in one leaf. With no hash bits
+-- the earlier entry stays; with one, the residual of a node with itself, 0, sets its bit, so the other node has the lower hash.
+pairSettings : ℕ → Settings
+pairSettings bits = record {
+  dimension = 1;
+  maxLeafSize = 1;
+  minLeafSize = 3;
+  leaderFraction = threeQuarters;
+  maxDegree = 1;
+  numHashBits = bits;
+  finalPrune = true;
+  alpha = alpha;
+}
+
+pair-equal : rowsOf (pairSettings 0) ((+one ∷ []) ∷ (+one ∷ []) ∷ []) ≡ (1 ∷ []) ∷ (0 ∷ []) ∷ []
+unfolding rowsOf pairSettings add sub mul lt le isNan toBits ofInt toUnsigned
+pair-equal = refl
+
+pair-below : rowsOf (pairSettings 1) ((-half ∷ []) ∷ (+zero ∷ []) ∷ []) ≡ (0 ∷ []) ∷ (0 ∷ []) ∷ []
+unfolding rowsOf pairSettings add sub mul lt le isNan toBits ofInt toUnsigned
+pair-below = refl
+
+pair-exchanged : rowsOf (pairSettings 1) ((+zero ∷ []) ∷ (-half ∷ []) ∷ []) ≡ (1 ∷ []) ∷ (1 ∷ []) ∷ []
+unfolding rowsOf pairSettings add sub mul lt le isNan toBits ofInt toUnsigned
+pair-exchanged = refl
+
 -- ---- the final prune
 
 -- Rows of more than max_degree entries, which reverse edges never leave. Node 2, next on node 0's list, is crowded out by 1: that is nearer

@@ -7,14 +7,12 @@ use borrow.Author.Needs.{needs}
 use native.Mathlib.Omega.{arith}
 use lib.ListN.{length, take, drop, length-drop}
 use lib.Seq.{length-take-le}
-use lib.Ieee.{Float}
 use borrow.Rule.Slice.PartMut.{same-len-mid}
 use borrow.Fn.Kinds.{In}
 use borrow.Fn.PlainCycle.{Measures, is, falls, and}
 use Rattle.vectors.specs.Vectors.{vectorsIn}
 use Rattle.partition.specs.Partition.{bucketsOf}
 use Rattle.dealing.specs.Deal.{Holding}
-use Rattle.carving.specs.Steps.{Scratch}
 use Rattle.carving.proofs.Leaves.{NextSize, next-size}
 use Rattle.carving.proofs.Carving.{fan-some, leaf-small, leaf-deep, leaf-stays, dealt-down, Partly, partly-none, partly-more, partly-done}
 use Rattle.carving.proofs.carve_buckets.Reads as carve-buckets

@@ -17,11 +17,15 @@ use Rattle.carving.proofs.deal_over.Tie as tie
 abbrev size : tie.Start → ℕ
 size s = length (s .args .nodes .now)
 
+-- a slice of 2,048 words has room for it
+front-fits : (s : tie.Start) (xs : List ℕ) → 2048 ≤ length xs → length (take (size s) xs) ≡ size s
+front-fits s xs h = length-take-le (size s) xs (omega (arith, s .pre .few))
+
 ids-fit : (s : tie.Start) → length (take (size s) (s .args .ids .now)) ≡ size s
-ids-fit s = length-take-le (size s) (s .args .ids .now) (omega (arith, s .pre .few, s .pre .scratch .ids-size))
+ids-fit s = front-fits s (s .args .ids .now) (s .pre .scratch .ids-size)
 
 cards-fit : (s : tie.Start) → length (take (size s) (s .args .cards .now)) ≡ size s
-cards-fit s = length-take-le (size s) (s .args .cards .now) (omega (arith, s .pre .few, s .pre .scratch .cards-size))
+cards-fit s = front-fits s (s .args .cards .now) (s .pre .scratch .cards-size)
 
 abbrev start : tie.After-copy-words → tie.Start
 start c = c .before .before .before .before .before .before .before .before .before
