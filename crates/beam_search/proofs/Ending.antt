@@ -20,7 +20,7 @@ use Rattle.basics.proofs.Counting.{at-most}
 use Rattle.sorting.specs.Sorting.{sortBy, both}
 use Rattle.sorting.proofs.Laws.{length-sort, first-in}
 use Rattle.sorting.proofs.Pairs.{none-kept}
-use Rattle.tournament.specs.Tournament.{nothing, Tournament}
+use Rattle.tournament.specs.Tournament.{emptyRank, Tournament}
 use Rattle.walk.specs.Walk.{State, visit, expand}
 use Rattle.beam.specs.KeepClosest.{keyAt, insertIn, heldOf, cutoffOf}
 use Rattle.beam.specs.Beam.{toFrontier, walked, beamSearch, answerOf}
@@ -119,13 +119,13 @@ module _ (n b : ℕ) (words x y z : List ℕ) (long : 11 * n ≤ length words) (
       part₂ : length (part (6 * n) e w₂) ≡ e - 6 * n
       part₂ = length-take-le (e - 6 * n) (drop (6 * n) w₂) (omega (arith, length-drop (6 * n) w₂, upto))
 
-      pub prepared : Tournament (replicate (length (part (2 * n) (6 * n) w₁) / 4) nothing) y → Tournament (replicate (length (part (6 * n) e w₂) / 4) nothing) z → Prepared n b w₃
+      pub prepared : Tournament (replicate (length (part (2 * n) (6 * n) w₁) / 4) emptyRank) y → Tournament (replicate (length (part (6 * n) e w₂) / 4) emptyRank) z → Prepared n b w₃
       prepared ty tz = record {
         marks = λ v h. same-mark n v w₁ w₃ h same ∙ List·getD-append x (drop n words) 0 v (omega (arith, lx)) ∙ ap (λ (l : List ℕ). getD l v 0) xi
             ∙ getD-replicate (length (take n words)) v 0 0 (omega (arith, length-take-le n words (omega arith)));
-        front = subst (Tournament (replicate n nothing)) (sym front-is) (subst (λ (k : ℕ). Tournament (replicate k nothing) y) four₁ ty);
-        held = subst (λ (i : ℕ). Tournament (replicate (min b n) nothing) (part (6 * n) i w₃)) e-is
-            (subst (Tournament (replicate (min b n) nothing)) (sym (part-here (6 * n) e z w₂ from upto (lz ∙ part₂))) (subst (λ (k : ℕ). Tournament (replicate k nothing) z) four₂ tz));
+        front = subst (Tournament (replicate n emptyRank)) (sym front-is) (subst (λ (k : ℕ). Tournament (replicate k emptyRank) y) four₁ ty);
+        held = subst (λ (i : ℕ). Tournament (replicate (min b n) emptyRank) (part (6 * n) i w₃)) e-is
+            (subst (Tournament (replicate (min b n) emptyRank)) (sym (part-here (6 * n) e z w₂ from upto (lz ∙ part₂))) (subst (λ (k : ℕ). Tournament (replicate k emptyRank) z) four₂ tz));
       }
         where
           same : take (2 * n) w₃ ≡ take (2 * n) w₁

@@ -18,7 +18,7 @@ use Rattle.beam.specs.Beam.{toFrontier}
 use Rattle.queues.specs.Queues.{frontRank, Queue, Held, Known}
 use Rattle.scoring.specs.Scoring.{scoredAt}
 use Rattle.scoring.proofs.Laws.{scored-known, scored-keeps}
-use Rattle.gathering.specs.Gathering.{Fresh, visitOne, gatherAll, Gathered, GatheringAll}
+use Rattle.gathering.specs.Gathering.{Fresh, visitOne, gatherFresh, FreshIn, GatheringAll}
 use Rattle.beam_state.specs.State.{part, heldEnd, Answer, Standing, PushingAll, pushed}
 use Rattle.beam_state.specs.declared.Walk.{Walk}
 use Rattle.beam_state.proofs.Parts.{part-behind}
@@ -97,19 +97,19 @@ module _ (far : ℕ → Float) (n : ℕ) (s₀ : State) where
             seen-is = ap (λ (z : List ℕ). v ∷ z) (a .seen-is);
           })
 
-  expand-alike : (list : List ℕ) (s : State) (g : Fresh) → Alike far s s₀ g → Alike far (expand (toFrontier far) s (within n list)) s₀ (gatherAll n list g)
-  unfolding expand gatherAll within
+  expand-alike : (list : List ℕ) (s : State) (g : Fresh) → Alike far s s₀ g → Alike far (expand (toFrontier far) s (within n list)) s₀ (gatherFresh n list g)
+  unfolding expand gatherFresh within
   expand-alike [] s g a = a
   expand-alike (v ∷ list) s g a = either (expand-alike list (visit (toFrontier far) v s) (visitOne n v g)) (expand-alike list s g a) (ltb v n) refl
     where
-      either : (Alike far (visit (toFrontier far) v s) s₀ (visitOne n v g) → Alike far (expand (toFrontier far) (visit (toFrontier far) v s) (within n list)) s₀ (gatherAll n list (visitOne n v g)))
-          → Alike far (expand (toFrontier far) s (within n list)) s₀ (gatherAll n list g)
-          → (t : Bool) → ltb v n ≡ t → Alike far (expand (toFrontier far) s (within n (v ∷ list))) s₀ (gatherAll n (v ∷ list) g)
+      either : (Alike far (visit (toFrontier far) v s) s₀ (visitOne n v g) → Alike far (expand (toFrontier far) (visit (toFrontier far) v s) (within n list)) s₀ (gatherFresh n list (visitOne n v g)))
+          → Alike far (expand (toFrontier far) s (within n list)) s₀ (gatherFresh n list g)
+          → (t : Bool) → ltb v n ≡ t → Alike far (expand (toFrontier far) s (within n (v ∷ list))) s₀ (gatherFresh n (v ∷ list) g)
       either rec skip true e =
-          subst (λ (l : List ℕ). Alike far (expand (toFrontier far) s l) s₀ (gatherAll n list (visitOne n v g))) (sym (pick-true (v ∷ within n list) (within n list) e)) (rec (visit-alike v s g e a))
+          subst (λ (l : List ℕ). Alike far (expand (toFrontier far) s l) s₀ (gatherFresh n list (visitOne n v g))) (sym (pick-true (v ∷ within n list) (within n list) e)) (rec (visit-alike v s g e a))
       either rec skip false e =
-          subst (λ (l : List ℕ). Alike far (expand (toFrontier far) s l) s₀ (gatherAll n list (visitOne n v g))) (sym (pick-false (v ∷ within n list) (within n list) e))
-          (subst (λ (h : Fresh). Alike far (expand (toFrontier far) s (within n list)) s₀ (gatherAll n list h)) (sym (past v g e)) skip)
+          subst (λ (l : List ℕ). Alike far (expand (toFrontier far) s l) s₀ (gatherFresh n list (visitOne n v g))) (sym (pick-false (v ∷ within n list) (within n list) e))
+          (subst (λ (h : Fresh). Alike far (expand (toFrontier far) s (within n list)) s₀ (gatherFresh n list h)) (sym (past v g e)) skip)
         where
           past : (v : ℕ) (g : Fresh) → ltb v n ≡ false → visitOne n v g ≡ g
           past v g e = pick-false (pick (has v (g .seen)) g (record { seen = v ∷ g .seen; fresh = g .fresh ++ (v ∷ []) })) g e
@@ -154,9 +154,9 @@ gathered-in far n b count list words between words′ floats floats′ nodes nod
     none = record { seen = s .seen; fresh = [] }
 
     all : Fresh
-    all = gatherAll n list none
+    all = gatherFresh n list none
 
-    got : Gathered n (drop (n + n) words) between count all
+    got : FreshIn n (drop (n + n) words) between count all
     got = gather long (drop (n + n) words) none
         (record { marks = marks; buffer = refl; count-is = refl; behind = refl; once = t .once; inside = t .inside; fewer = omega arith })
 

@@ -7,7 +7,7 @@ use lib.ListN.{length, getD, take, drop, replicate}
 use lib.Ieee.{Float, inf}
 use Rattle.basics.specs.Choice.{pick}
 use Rattle.basics.specs.Nodes.{has, NoDup, Below}
-use Rattle.tournament.specs.Tournament.{nothing, Tournament}
+use Rattle.tournament.specs.Tournament.{emptyRank, Tournament}
 use Rattle.walk.specs.Walk.{State, expand, walk}
 use Rattle.beam.specs.Beam.{farFrom, toFrontier, tooFar, tooMany}
 use Rattle.queues.specs.Queues.{Known}
@@ -103,8 +103,8 @@ WalkingLinked bridges far n b list words words′ floats floats′ nodes nodes�
 -- nothing is marked, in the frontier or held
 pub record Prepared (n b : ℕ) (words : List ℕ) : Type 0 where
   pub marks : (v : ℕ) → v < n → getD words v 0 ≡ 0
-  pub front : Tournament (replicate n nothing) (part (2 * n) (6 * n) words)
-  pub held : Tournament (replicate (min b n) nothing) (part (6 * n) (heldEnd n b) words)
+  pub front : Tournament (replicate n emptyRank) (part (2 * n) (6 * n) words)
+  pub held : Tournament (replicate (min b n) emptyRank) (part (6 * n) (heldEnd n b) words)
 
 -- the entry node is scored
 abbrev pub Starting : List Float → List (List Float) → ℕ → ℕ → ℕ → List ℕ → List Float → List Float → List ℕ → List ℕ → Walk → Type 0

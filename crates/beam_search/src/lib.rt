@@ -20,7 +20,7 @@ ghost use lib.ListN.{length, take};
 ghost use Rattle.vectors.specs.Vectors.{vectorsIn};
 ghost use Rattle.beam.specs.Beam.{farFrom, stopFactor, stopMultiplier};
 ghost use Rattle.beam_search.specs.Steps.{Linking, TakingIn, Expanding, Stepping, Walking, WalkingLinked, Prepared, Starting, Telling};
-ghost use Rattle.beam_search.specs.Search.{listIn, Searching};
+ghost use Rattle.beam_search.specs.Search.{listInWords, Searching};
 use beam_state::Walk;
 use ids::Node;
 use queues::Popped;
@@ -108,7 +108,7 @@ fn expand(
     node: Node,
 ) -> Walk
     requires { ⌜ 11 * size ≤ length (now words) ⌝ }
-    ensures { λ r. ⌜ Expanding (now (bridges .entry)) (now (links .entry)) (farFrom (now (query .entry)) (vectorsIn dimension (now (vectors .entry)))) size places (listIn size degree (now (rows .entry)) (now (bridges .entry))) (node .0) (now (words .entry)) (now (words .exit)) (now (floats .entry)) (now (floats .exit)) (now (nodes .entry)) (now (nodes .exit)) walk r ⌝ }
+    ensures { λ r. ⌜ Expanding (now (bridges .entry)) (now (links .entry)) (farFrom (now (query .entry)) (vectorsIn dimension (now (vectors .entry)))) size places (listInWords size degree (now (rows .entry)) (now (bridges .entry))) (node .0) (now (words .entry)) (now (words .exit)) (now (floats .entry)) (now (floats .exit)) (now (nodes .entry)) (now (nodes .exit)) walk r ⌝ }
 {
     let count = gathering::gather(words, size, rows, degree, bridges, links, node);
     take_in(
@@ -156,7 +156,7 @@ fn step(
     walk: Walk,
 ) -> Went
     requires { ⌜ 11 * size ≤ length (now words) ⌝ }
-    ensures { λ r. ⌜ Stepping (now (bridges .entry)) (now (links .entry)) (farFrom (now (query .entry)) (vectorsIn dimension (now (vectors .entry)))) size places (listIn size degree (now (rows .entry)) (now (bridges .entry))) (now (words .entry)) (now (words .exit)) (now (floats .entry)) (now (floats .exit)) (now (nodes .entry)) (now (nodes .exit)) walk (r .walk) (r .done) ⌝ }
+    ensures { λ r. ⌜ Stepping (now (bridges .entry)) (now (links .entry)) (farFrom (now (query .entry)) (vectorsIn dimension (now (vectors .entry)))) size places (listInWords size degree (now (rows .entry)) (now (bridges .entry))) (now (words .entry)) (now (words .exit)) (now (floats .entry)) (now (floats .exit)) (now (nodes .entry)) (now (nodes .exit)) walk (r .walk) (r .done) ⌝ }
 {
     let front = 2 * size;
     let held = 6 * size;
@@ -204,7 +204,7 @@ fn walk_on(
     walk: Walk,
 ) -> Walk
     requires { ⌜ 11 * size ≤ length (now words) ⌝ }
-    ensures { λ r. ⌜ Walking (now (bridges .entry)) (now (links .entry)) (farFrom (now (query .entry)) (vectorsIn dimension (now (vectors .entry)))) size places (listIn size degree (now (rows .entry)) (now (bridges .entry))) (now (words .entry)) (now (words .exit)) (now (floats .entry)) (now (floats .exit)) (now (nodes .entry)) (now (nodes .exit)) walk r ⌝ }
+    ensures { λ r. ⌜ Walking (now (bridges .entry)) (now (links .entry)) (farFrom (now (query .entry)) (vectorsIn dimension (now (vectors .entry)))) size places (listInWords size degree (now (rows .entry)) (now (bridges .entry))) (now (words .entry)) (now (words .exit)) (now (floats .entry)) (now (floats .exit)) (now (nodes .entry)) (now (nodes .exit)) walk r ⌝ }
 {
     let mut now = walk;
     let mut left = size;
@@ -251,7 +251,7 @@ fn walk_linked(
 ) -> Walk
     requires { ⌜ 11 * size ≤ length (now words) ⌝ }
     requires { ⌜ (size ≤ 1024) × (length (now bridges) / 2 ≤ size) ⌝ }
-    ensures { λ r. ⌜ WalkingLinked (now (bridges .entry)) (farFrom (now (query .entry)) (vectorsIn dimension (now (vectors .entry)))) size places (listIn size degree (now (rows .entry)) (now (bridges .entry))) (now (words .entry)) (now (words .exit)) (now (floats .entry)) (now (floats .exit)) (now (nodes .entry)) (now (nodes .exit)) walk r ⌝ }
+    ensures { λ r. ⌜ WalkingLinked (now (bridges .entry)) (farFrom (now (query .entry)) (vectorsIn dimension (now (vectors .entry)))) size places (listInWords size degree (now (rows .entry)) (now (bridges .entry))) (now (words .entry)) (now (words .exit)) (now (floats .entry)) (now (floats .exit)) (now (nodes .entry)) (now (nodes .exit)) walk r ⌝ }
 {
     if bridges.len() < 2 {
         let none: usize = 0;
@@ -356,7 +356,7 @@ fn tell(distances: &mut [f32], nodes: &[u32], floats: &[f32], count: usize)
 // first, with their distances, as many as `nodes` has places for. Says how many there are, and how many nodes
 // were scored. `vectors` has the nodes' vectors, `rows` their rows as words hold them, of so many entries,
 // `bridges` the bridges, a pair of words each. `words` and `floats` are scratch, 64 and 16 for each node.
-// Nothing is found where scratch is too short, of more than 1,024 nodes, or of more bridges than nodes.
+// It is promised for scratch that is long enough, at most 1,024 nodes and no more bridges than nodes.
 pub fn beam_search(
     query: &[f32],
     vectors: &[f32],

@@ -19,7 +19,7 @@ use Rattle.vectors.specs.Vectors.{vectorsIn}
 use Rattle.leaf.specs.Leaf.{buildLeaf, buildLeaves}
 use Rattle.leaf.proofs.Laws.{build-append}
 use Rattle.lists.specs.Words.{Blocks}
-use Rattle.build_leaf.specs.Built.{Setting, Held, LeafBuilt, LeavesIn, LeavesBuilt, PlanesMade}
+use Rattle.build_leaf.specs.Built.{Setting, LeafHeld, LeafBuilt, LeavesIn, LeavesBuilt, PlanesMade}
 use Rattle.build_leaf.proofs.Rows.{places-length}
 
 -- ---- where leaves stand
@@ -110,7 +110,7 @@ module _ (vectors : List Float) (d D bits : ℕ) (planes : List Float) (nodes si
         ∙ ap (take m) (drop-at front (leaf ++ tail) at (sym a))
         ∙ take-at leaf tail m (sym (q ∙ size-is))
 
-    pub leaf-held : Held n (getD leaves k []) room
+    pub leaf-held : LeafHeld n (getD leaves k []) room
     leaf-held = record {
       below = λ x m. held .nodes-below x (in-drop at nodes (in-take (getD sizes k 0) (drop at nodes) (subst (In x) (sym (leaf-is (getD sizes k 0) refl)) m)));
       fits = omega (arith, held .leaf-most (getD leaves k []) (in-getD leaves k [] here), held .room-is);

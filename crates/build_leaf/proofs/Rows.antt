@@ -22,8 +22,8 @@ use Rattle.lists.specs.Words.{Blocks}
 use Rattle.lists.proofs.Blocks.{block-length, blocks-length, nth-block, put-block}
 use Rattle.hashprune.specs.Hashprune.{Inserted}
 use Rattle.leaf_distances.specs.Lanes.{Distances}
-use Rattle.leaf_candidates.specs.Candidates.{Fits, Ready, CandidatesAre, Candidates}
-use Rattle.build_leaf.specs.Built.{Sizes, Setting, RowPut, PlacePut, Held, PlacesPut, LeafBuilt}
+use Rattle.leaf_candidates.specs.Candidates.{LaneFits, LaneReady, CandidatesAre, Candidates}
+use Rattle.build_leaf.specs.Built.{Sizes, Setting, RowPut, PlacePut, LeafHeld, PlacesPut, LeafBuilt}
 
 -- where a row starts is a number that a word of the machine holds
 pub place-fits : (a b : ℕ) → a ≤ 4294967295 → b ≤ 65536 → a * b ≤ 4294967295 * 65536
@@ -119,7 +119,7 @@ module _ (vectors : List Float) (d D bits : ℕ) (planes : List Float) (leaf : L
       let vs : List (List Float) = vectorsIn d vectors in
       let before : List (List ℕ) = placesTo D bits d vs leaf rs i in
       let place : min (first + lane) (length leaf - 1) ≡ i = omega arith in
-      let sizes : Fits leaf floats lane i D 64 64 = record {
+      let sizes : LaneFits leaf floats lane i D 64 64 = record {
         place-is = h;
         lane-is = omega arith;
         degree-most = s .sizes .degree-most;
@@ -128,7 +128,7 @@ module _ (vectors : List Float) (d D bits : ℕ) (planes : List Float) (leaf : L
         room-is = omega arith;
         room′-is = omega arith;
       } in
-      let ready : Ready leaf floats lane i D 64 64 vs = record {
+      let ready : LaneReady leaf floats lane i D 64 64 vs = record {
         sizes = sizes;
         distances = lanes lane (omega arith) ∙ ap (λ (p : ℕ). map (between vs (getD leaf p 0)) leaf) place;
       } in
@@ -140,7 +140,7 @@ module _ (vectors : List Float) (d D bits : ℕ) (planes : List Float) (leaf : L
 -- the places before `first`
 abbrev pub LeafTo : List Float → ℕ → ℕ → ℕ → List Float → List ℕ → ℕ → ℕ → List ℕ → List ℕ → Type 0
 LeafTo vectors d D bits planes leaf room first rows rows′ =
-    (n : ℕ) (rs : List (List ℕ)) → Setting n D bits d vectors planes → length rs ≡ n → Held n leaf room
+    (n : ℕ) (rs : List (List ℕ)) → Setting n D bits d vectors planes → length rs ≡ n → LeafHeld n leaf room
     → Blocks D rs rows → Blocks D (placesTo D bits d (vectorsIn d vectors) leaf rs first) rows′
 
 module _ (vectors : List Float) (d D bits : ℕ) (planes : List Float) (leaf : List ℕ) (room : ℕ) (rows : List ℕ) where

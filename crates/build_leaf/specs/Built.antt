@@ -13,7 +13,7 @@ use Rattle.leaf.specs.Leaf.{hashpruneInsert, candidatesAt, placesTo, buildLeaf,
 use Rattle.lists.specs.Words.{Blocks}
 use Rattle.hashprune.specs.Hashprune.{PlanesFor}
 use Rattle.leaf_distances.specs.Lanes.{nodeAt}
-use Rattle.leaf_candidates.specs.Candidates.{Ready}
+use Rattle.leaf_candidates.specs.Candidates.{LaneReady}
 
 -- sizes that fit: n nodes, rows of degree D, hashes of so many bits, vectors of d components
 pub record Sizes (n D bits d : ℕ) (vectors : List Float) : Type 0 where
@@ -42,11 +42,11 @@ RowPut vectors d D bits planes node candidates far rows rows′ =
 -- one place of a leaf, whose distances stand in a lane
 abbrev pub PlacePut : List Float → ℕ → ℕ → ℕ → List Float → List ℕ → ℕ → ℕ → List Float → List ℕ → List ℕ → Type 0
 PlacePut vectors d D bits planes leaf i lane floats rows rows′ =
-    (n : ℕ) (rs : List (List ℕ)) → Setting n D bits d vectors planes → length rs ≡ n → Below n leaf → Ready leaf floats lane i D 64 64 (vectorsIn d vectors)
+    (n : ℕ) (rs : List (List ℕ)) → Setting n D bits d vectors planes → length rs ≡ n → Below n leaf → LaneReady leaf floats lane i D 64 64 (vectorsIn d vectors)
     → Blocks D rs rows → Blocks D (hashpruneInsert D bits d (vectorsIn d vectors) (getD leaf i 0) (candidatesAt D (vectorsIn d vectors) leaf i) rs) rows′
 
 -- a leaf that the floats have room for
-pub record Held (n : ℕ) (leaf : List ℕ) (room : ℕ) : Type 0 where
+pub record LeafHeld (n : ℕ) (leaf : List ℕ) (room : ℕ) : Type 0 where
   pub below : Below n leaf
   pub fits : 8 * length leaf ≤ room
   pub few : length leaf ≤ 2 * n
@@ -54,14 +54,14 @@ pub record Held (n : ℕ) (leaf : List ℕ) (room : ℕ) : Type 0 where
 -- its places from `first` on and before `end`, if those before `first` had their turns; the distances of place first + g stand in lane g
 abbrev pub PlacesPut : List Float → ℕ → ℕ → ℕ → List Float → List ℕ → ℕ → ℕ → List Float → List ℕ → List ℕ → Type 0
 PlacesPut vectors d D bits planes leaf first end floats rows rows′ =
-    (n : ℕ) (rs : List (List ℕ)) → Setting n D bits d vectors planes → length rs ≡ n → Held n leaf (length floats)
+    (n : ℕ) (rs : List (List ℕ)) → Setting n D bits d vectors planes → length rs ≡ n → LeafHeld n leaf (length floats)
     → ((g : ℕ) → g < 8 → laneOf floats g (length leaf) ≡ map (between (vectorsIn d vectors) (nodeAt leaf (first + g))) leaf)
     → Blocks D (placesTo D bits d (vectorsIn d vectors) leaf rs first) rows → Blocks D (placesTo D bits d (vectorsIn d vectors) leaf rs end) rows′
 
 -- a leaf
 abbrev pub LeafBuilt : List Float → ℕ → ℕ → ℕ → List Float → List ℕ → ℕ → List ℕ → List ℕ → Type 0
 LeafBuilt vectors d D bits planes leaf room rows rows′ =
-    (n : ℕ) (rs : List (List ℕ)) → Setting n D bits d vectors planes → length rs ≡ n → Held n leaf room
+    (n : ℕ) (rs : List (List ℕ)) → Setting n D bits d vectors planes → length rs ≡ n → LeafHeld n leaf room
     → Blocks D rs rows → Blocks D (buildLeaf D bits d (vectorsIn d vectors) leaf rs) rows′
 
 -- leaves whose nodes stand one after the other, each of at most 2·n places

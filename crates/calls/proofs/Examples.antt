@@ -15,7 +15,7 @@ use Rattle.pipnn.specs.Add.{addSpec}
 use Rattle.calls.specs.Graph.{Graph, settingsOf, graphOf}
 use Rattle.calls.specs.Build.{buildSpec}
 use Rattle.calls.specs.Search.{refused, searchWithEfSpec, searchSpec}
-use Rattle.calls.specs.Example.{minusOne, opened, added, built, lists, asked, told}
+use Rattle.calls.specs.Example.{minusOne, exampleOpened, added, exampleBuilt, lists, asked, told}
 use Rattle.calls.proofs.Graph.{listFor}
 
 -- ---- build: entry 1, one bridge, from 1 to 2; its rows and bridge are written, words 0, 9 and 10, and nothing else
@@ -26,7 +26,7 @@ workedWords =
     ∷ 10 ∷ 20 ∷ 30 ∷ 0 ∷ 0 ∷ 0 ∷ 0 ∷ 0
     ∷ 1 ∷ 1 ∷ 1 ∷ 0 ∷ 1 ∷ 1 ∷ (replicate 10 0 ++ (1 ∷ 2 ∷ replicate 14 0))
 
-pub worked-words : built .1 ≡ workedWords
+pub worked-words : exampleBuilt .1 ≡ workedWords
 unfolding newSpec addSpec buildSpec ofBits toBits add sub mul div lt le eq isNan ofInt toUnsigned round
 worked-words = refl
 
@@ -56,7 +56,7 @@ three-components = refl
 -- from the words that build leaves
 pub worked-lists : lists ≡ (1 ∷ []) ∷ (0 ∷ 2 ∷ []) ∷ (1 ∷ 1 ∷ []) ∷ []
 unfolding view listOf
-worked-lists = ap (λ (w : List ℕ). map (listIn (view w (built .2))) (0 ∷ 1 ∷ 2 ∷ [])) worked-words
+worked-lists = ap (λ (w : List ℕ). map (listIn (view w (exampleBuilt .2))) (0 ∷ 1 ∷ 2 ∷ [])) worked-words
 
 -- a query of twice that length is scaled
 scaled-find : told (asked 3 3 (fin false 1 (pos 1) ∷ +zero ∷ []))
@@ -65,7 +65,7 @@ unfolding searchWithEfSpec newSpec addSpec buildSpec ofBits toBits add sub mul d
 scaled-find = refl
 
 -- `search` is the same, with ef_search, 3
-worked-search : searchSpec 512 384 (built .1) (built .2) (+one ∷ +zero ∷ []) 3 (replicate 4 7) (replicate 4 minusOne) ≡ asked 3 3 (+one ∷ +zero ∷ [])
+worked-search : searchSpec 512 384 (exampleBuilt .1) (exampleBuilt .2) (+one ∷ +zero ∷ []) 3 (replicate 4 7) (replicate 4 minusOne) ≡ asked 3 3 (+one ∷ +zero ∷ [])
 unfolding searchSpec searchWithEfSpec newSpec addSpec buildSpec ofBits toBits add sub mul div lt le eq isNan ofInt toUnsigned round
 worked-search = refl
 
@@ -74,34 +74,34 @@ unfolding searchWithEfSpec newSpec addSpec ofBits toBits add sub mul div lt le e
 open-refused = refl
 
 -- a build of no nodes; and with scratch a word short, which comes first
-empty-refused : buildSpec 512 384 (opened .1) (opened .2) ≡ (9, opened .1, opened .2)
+empty-refused : buildSpec 512 384 (exampleOpened .1) (exampleOpened .2) ≡ (9, exampleOpened .1, exampleOpened .2)
 unfolding newSpec buildSpec ofBits toBits lt le eq isNan
 empty-refused = refl
 
-scratch-refused : buildSpec 511 384 (opened .1) (opened .2) ≡ (3, opened .1, opened .2)
+scratch-refused : buildSpec 511 384 (exampleOpened .1) (exampleOpened .2) ≡ (3, exampleOpened .1, exampleOpened .2)
 unfolding newSpec buildSpec ofBits toBits lt le eq isNan
 scratch-refused = refl
 
 -- ---- refusals of a search in their order: each of these calls has every fault from its own number on
 
-every-fault : searchWithEfSpec 512 384 (built .1) (built .2) (nan ∷ []) 1025 3 [] [] ≡ refused 6 [] []
+every-fault : searchWithEfSpec 512 384 (exampleBuilt .1) (exampleBuilt .2) (nan ∷ []) 1025 3 [] [] ≡ refused 6 [] []
 unfolding searchWithEfSpec newSpec addSpec buildSpec ofBits toBits add sub mul div lt le eq isNan ofInt toUnsigned round
 every-fault = refl
 
-not-finite : searchWithEfSpec 512 384 (built .1) (built .2) (nan ∷ +zero ∷ []) 1025 3 [] [] ≡ refused 7 [] []
+not-finite : searchWithEfSpec 512 384 (exampleBuilt .1) (exampleBuilt .2) (nan ∷ +zero ∷ []) 1025 3 [] [] ≡ refused 7 [] []
 unfolding searchWithEfSpec newSpec addSpec buildSpec ofBits toBits add sub mul div lt le eq isNan ofInt toUnsigned round
 not-finite = refl
 
-too-many-asked : searchWithEfSpec 512 384 (built .1) (built .2) (+one ∷ +zero ∷ []) 1025 3 [] [] ≡ refused 11 [] []
+too-many-asked : searchWithEfSpec 512 384 (exampleBuilt .1) (exampleBuilt .2) (+one ∷ +zero ∷ []) 1025 3 [] [] ≡ refused 11 [] []
 unfolding searchWithEfSpec newSpec addSpec buildSpec ofBits toBits add sub mul div lt le eq isNan ofInt toUnsigned round
 too-many-asked = refl
 
-no-room : searchWithEfSpec 512 384 (built .1) (built .2) (+one ∷ +zero ∷ []) 4 3 (7 ∷ 7 ∷ []) (replicate 3 minusOne) ≡ refused 12 (7 ∷ 7 ∷ []) (replicate 3 minusOne)
+no-room : searchWithEfSpec 512 384 (exampleBuilt .1) (exampleBuilt .2) (+one ∷ +zero ∷ []) 4 3 (7 ∷ 7 ∷ []) (replicate 3 minusOne) ≡ refused 12 (7 ∷ 7 ∷ []) (replicate 3 minusOne)
 unfolding searchWithEfSpec newSpec addSpec buildSpec ofBits toBits add sub mul div lt le eq isNan ofInt toUnsigned round
 no-room = refl
 
 -- room for min(k, n) is enough: k 4 among three nodes
-room-for-all : told (searchWithEfSpec 512 384 (built .1) (built .2) (+one ∷ +zero ∷ []) 4 3 (replicate 3 7) (replicate 3 minusOne))
+room-for-all : told (searchWithEfSpec 512 384 (exampleBuilt .1) (exampleBuilt .2) (+one ∷ +zero ∷ []) 4 3 (replicate 3 7) (replicate 3 minusOne))
     ≡ (0, 3, 3, 10 ∷ 20 ∷ 30 ∷ [], 0x0000_0000 ∷ 0x3f80_0000 ∷ 0x4000_0000 ∷ [])
 unfolding searchWithEfSpec newSpec addSpec buildSpec ofBits toBits add sub mul div lt le eq isNan ofInt toUnsigned round
 room-for-all = refl

@@ -18,24 +18,24 @@ abbrev pub minusOne : Float
 minusOne = fin true 1 (pos 0)
 
 -- after cap, on stores that held something else; after the three adds; after build, with as much scratch as it needs
-abbrev pub opened : Answer
-opened = newSpec 2 params 8 (replicate 56 7) (replicate 16 minusOne)
+abbrev pub exampleOpened : Answer
+exampleOpened = newSpec 2 params 8 (replicate 56 7) (replicate 16 minusOne)
 
 abbrev pub added : Answer
 added =
-    let one : Answer = addSpec (opened .1) (opened .2) 10 (+one ∷ +zero ∷ []) in
+    let one : Answer = addSpec (exampleOpened .1) (exampleOpened .2) 10 (+one ∷ +zero ∷ []) in
     let two : Answer = addSpec (one .1) (one .2) 20 (+zero ∷ +one ∷ []) in
     addSpec (two .1) (two .2) 30 (minusOne ∷ +zero ∷ [])
 
-abbrev pub built : Answer
-built = buildSpec 512 384 (added .1) (added .2)
+abbrev pub exampleBuilt : Answer
+exampleBuilt = buildSpec 512 384 (added .1) (added .2)
 
 abbrev pub lists : List (List ℕ)
-lists = map (listIn (view (built .1) (built .2))) (0 ∷ 1 ∷ 2 ∷ [])
+lists = map (listIn (view (exampleBuilt .1) (exampleBuilt .2))) (0 ∷ 1 ∷ 2 ∷ [])
 
 -- a find, into outputs of four places each
 abbrev pub asked : ℕ → ℕ → List Float → Reply
-asked k ef query = searchWithEfSpec 512 384 (built .1) (built .2) query k ef (replicate 4 7) (replicate 4 minusOne)
+asked k ef query = searchWithEfSpec 512 384 (exampleBuilt .1) (exampleBuilt .2) query k ef (replicate 4 7) (replicate 4 minusOne)
 
 -- what it tells: number, count, scored, the doc ids, the distances' bits
 abbrev pub Told : Type 0

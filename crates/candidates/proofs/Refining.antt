@@ -15,7 +15,7 @@ use Rattle.vectors.specs.Vectors.{vectorOf, between}
 use Rattle.graph_utils.specs.Repair.{listsOf, withLists, candidatesFor, nearestReached}
 use Rattle.marking.proofs.Refining.{Marked}
 use Rattle.candidates.specs.declared.Nearest.{Nearest}
-use Rattle.candidates.specs.Candidates.{nearest, farFrom, considered, consideredAll, around, aroundAll, startOf}
+use Rattle.candidates.specs.Candidates.{nearest, distanceFrom, considered, consideredAll, around, aroundAll, startOf}
 use Rattle.candidates.proofs.Steps.{both-lists}
 
 -- ---- the nearest
@@ -23,7 +23,7 @@ use Rattle.candidates.proofs.Steps.{both-lists}
 module _ (words : List ℕ) (n : ℕ) (reached : List ℕ) (marked : Marked n reached words) (vs : List (List Float)) (i : ℕ) where
   -- node k with its distance
   abbrev at : ℕ → Nearest
-  at k = nearest k (farFrom vs (vectorOf vs i) k)
+  at k = nearest k (distanceFrom vs (vectorOf vs i) k)
 
   choose : (h l : Bool) (c k : ℕ) → pick (false || not h) (at k) (pick l (at c) (at k)) ≡ at (pick (h && l) c k)
   unfolding pick
@@ -34,8 +34,8 @@ module _ (words : List ℕ) (n : ℕ) (reached : List ℕ) (marked : Marked n re
   one-refines : (c k : ℕ) → c < n → considered words n vs (vectorOf vs i) c (at k) ≡ at (pick (has c reached && lt (between vs i c) (between vs i k)) c k)
   unfolding considered between
   one-refines c k h =
-      ap₂ (λ (x : Bool) (y : Bool). pick (x || y) (at k) (pick (lt (farFrom vs (vectorOf vs i) c) (farFrom vs (vectorOf vs i) k)) (at c) (at k))) (lt-leb n c h) (marked .told c h)
-      ∙ choose (has c reached) (lt (farFrom vs (vectorOf vs i) c) (farFrom vs (vectorOf vs i) k)) c k
+      ap₂ (λ (x : Bool) (y : Bool). pick (x || y) (at k) (pick (lt (distanceFrom vs (vectorOf vs i) c) (distanceFrom vs (vectorOf vs i) k)) (at c) (at k))) (lt-leb n c h) (marked .told c h)
+      ∙ choose (has c reached) (lt (distanceFrom vs (vectorOf vs i) c) (distanceFrom vs (vectorOf vs i) k)) c k
 
   all-refines : (cs : List ℕ) (k : ℕ) → Below n cs → consideredAll words n vs (vectorOf vs i) cs (at k) ≡ at (nearestReached vs reached i k cs)
   unfolding consideredAll nearestReached
@@ -84,7 +84,7 @@ module _ (list list′ : ℕ → List ℕ) (n : ℕ) (alike : (u : ℕ) → u < 
   unfolding startOf candidatesFor
   start-refines words reached m vs entry i e h =
       let q : List Float = vectorOf vs i in
-      let first : Nearest = nearest entry (farFrom vs q entry) in
+      let first : Nearest = nearest entry (distanceFrom vs q entry) in
       let a : aroundAll false list′ (list′ i) ≡ listsOf list (list i) = ap (aroundAll false list′) (alike i h) ∙ around-lists (list i) (within i) in
       let b : aroundAll true list′ (list′ entry) ≡ withLists list (list entry) = ap (aroundAll true list′) (alike entry e) ∙ around-with (list entry) (within entry) in
       ap₂ (λ (x : List ℕ) (y : List ℕ). consideredAll words n vs q y (consideredAll words n vs q x first) .node .0) a b

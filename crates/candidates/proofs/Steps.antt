@@ -13,7 +13,7 @@ use Rattle.vectors.specs.Vectors.{vectorOf}
 use Rattle.chains.specs.Chains.{otherEndAt, nextLink, linkedEnds}
 use Rattle.chains.proofs.Reading.{linked-none, linked-step}
 use Rattle.candidates.specs.declared.Nearest.{Nearest}
-use Rattle.candidates.specs.Candidates.{nearest, farFrom, considered, consideredAll, around, aroundAll, startOf}
+use Rattle.candidates.specs.Candidates.{nearest, distanceFrom, considered, consideredAll, around, aroundAll, startOf}
 
 around-split : (own : Bool) (list : ℕ → List ℕ) (b a : List ℕ) → aroundAll own list (a ++ b) ≡ aroundAll own list a ++ aroundAll own list b
 unfolding aroundAll
@@ -28,19 +28,19 @@ module _ (words : List ℕ) (n : ℕ) (vs : List (List Float)) (query : List Flo
   unfolding considered
   not-reached c mark best m t = sym (pick-true best _ (ap (λ (x : ℕ). leb n c || eqb x 0) (sym m) ∙ t))
 
-  pub is-nearer : (c mark : ℕ) (best : Nearest) (d : Float) → mark ≡ getD words c 0 → (leb n c || eqb mark 0) ≡ false → d ≡ farFrom vs query c
+  pub is-nearer : (c mark : ℕ) (best : Nearest) (d : Float) → mark ≡ getD words c 0 → (leb n c || eqb mark 0) ≡ false → d ≡ distanceFrom vs query c
       → lt d (best .distance) ≡ true → nearest c d ≡ considered words n vs query c best
   unfolding considered
   is-nearer c mark best d m t e l =
       ap (nearest c) e
-      ∙ sym (pick-true (nearest c (farFrom vs query c)) best (ap (λ (x : Float). lt x (best .distance)) (sym e) ∙ l))
+      ∙ sym (pick-true (nearest c (distanceFrom vs query c)) best (ap (λ (x : Float). lt x (best .distance)) (sym e) ∙ l))
       ∙ sym (pick-false best _ (ap (λ (x : ℕ). leb n c || eqb x 0) (sym m) ∙ t))
 
-  pub not-nearer : (c mark : ℕ) (best : Nearest) (d : Float) → mark ≡ getD words c 0 → (leb n c || eqb mark 0) ≡ false → d ≡ farFrom vs query c
+  pub not-nearer : (c mark : ℕ) (best : Nearest) (d : Float) → mark ≡ getD words c 0 → (leb n c || eqb mark 0) ≡ false → d ≡ distanceFrom vs query c
       → lt d (best .distance) ≡ false → best ≡ considered words n vs query c best
   unfolding considered
   not-nearer c mark best d m t e l =
-      sym (pick-false (nearest c (farFrom vs query c)) best (ap (λ (x : Float). lt x (best .distance)) (sym e) ∙ l))
+      sym (pick-false (nearest c (distanceFrom vs query c)) best (ap (λ (x : Float). lt x (best .distance)) (sym e) ∙ l))
       ∙ sym (pick-false best _ (ap (λ (x : ℕ). leb n c || eqb x 0) (sym m) ∙ t))
 
   -- ---- a list of candidates
@@ -129,12 +129,12 @@ module _ (words : List ℕ) (n : ℕ) (vs : List (List Float)) (query : List Flo
 -- ---- the whole
 
 pub start-is : (words : List ℕ) (n : ℕ) (vs : List (List Float)) (list : ℕ → List ℕ) (entry i : ℕ) (query : List Float) (far : Float) (own last : Nearest)
-    → query ≡ vectorOf vs i → far ≡ farFrom vs query entry → own ≡ consideredAll words n vs query (aroundAll false list (list i)) (nearest entry far)
+    → query ≡ vectorOf vs i → far ≡ distanceFrom vs query entry → own ≡ consideredAll words n vs query (aroundAll false list (list i)) (nearest entry far)
     → last ≡ consideredAll words n vs query (aroundAll true list (list entry)) own → last .node .0 ≡ startOf words n vs list entry i
 unfolding startOf
 start-is words n vs list entry i query far own last q f o l =
     ap (λ (b : Nearest). b .node .0) (l ∙ ap (consideredAll words n vs query (aroundAll true list (list entry))) o)
-    ∙ ap (whole query) f ∙ ap (λ (x : List Float). whole x (farFrom vs x entry)) q
+    ∙ ap (whole query) f ∙ ap (λ (x : List Float). whole x (distanceFrom vs x entry)) q
   where
     whole : List Float → Float → ℕ
     whole x d = consideredAll words n vs x (aroundAll true list (list entry)) (consideredAll words n vs x (aroundAll false list (list i)) (nearest entry d)) .node .0

@@ -15,14 +15,14 @@ abbrev pub nearest : ℕ → Float → Nearest
 nearest c d = record { node = record { 0 = c }; distance = d }
 
 -- how far a node is from the query
-abbrev pub farFrom : List (List Float) → List Float → ℕ → Float
-farFrom vs query c = distanceOf binary32 query (vectorOf vs c)
+abbrev pub distanceFrom : List (List Float) → List Float → ℕ → Float
+distanceFrom vs query c = distanceOf binary32 query (vectorOf vs c)
 
 -- a reached node that is nearer than the nearest so far is the nearest
 unfoldable pub considered : List ℕ → ℕ → List (List Float) → List Float → ℕ → Nearest → Nearest
 unfolding pick distanceOf
 considered words n vs query c best =
-    pick (leb n c || eqb (getD words c 0) 0) best (pick (lt (farFrom vs query c) (best .distance)) (nearest c (farFrom vs query c)) best)
+    pick (leb n c || eqb (getD words c 0) 0) best (pick (lt (distanceFrom vs query c) (best .distance)) (nearest c (distanceFrom vs query c)) best)
 
 unfoldable pub consideredAll : List ℕ → ℕ → List (List Float) → List Float → List ℕ → Nearest → Nearest
 unfolding considered
@@ -43,6 +43,6 @@ aroundAll own list (u ∷ us) = around own list u ++ aroundAll own list us
 unfoldable pub startOf : List ℕ → ℕ → List (List Float) → (ℕ → List ℕ) → ℕ → ℕ → ℕ
 unfolding consideredAll aroundAll distanceOf
 startOf words n vs list entry i =
-    let first : Nearest = nearest entry (farFrom vs (vectorOf vs i) entry) in
+    let first : Nearest = nearest entry (distanceFrom vs (vectorOf vs i) entry) in
     let own : Nearest = consideredAll words n vs (vectorOf vs i) (aroundAll false list (list i)) first in
     consideredAll words n vs (vectorOf vs i) (aroundAll true list (list entry)) own .node .0

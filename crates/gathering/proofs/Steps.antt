@@ -25,23 +25,23 @@ use Rattle.lists.specs.Words.{bridgeList}
 use Rattle.chains.specs.Chains.{otherEndAt, firstLink, nextLink, linkedEnds, bridgesIn}
 use Rattle.chains.proofs.Reading.{first-place, next-place, linked-none, linked-step}
 use Rattle.chains.proofs.Laws.{chained-ends}
-use Rattle.gathering.specs.Gathering.{Fresh, visitOne, gatherAll, Gathered, Gathering, Linked}
+use Rattle.gathering.specs.Gathering.{Fresh, visitOne, gatherFresh, FreshIn, Gathering, Linked}
 
 pub at-most-one : (b : Bool) → boolByte b ≤ 1
 at-most-one true = omega arith
 at-most-one false = omega arith
 
 -- a list in two parts
-pub gather-append : (n : ℕ) (xs ys : List ℕ) (g : Fresh) → gatherAll n (xs ++ ys) g ≡ gatherAll n ys (gatherAll n xs g)
-unfolding gatherAll
+pub gather-append : (n : ℕ) (xs ys : List ℕ) (g : Fresh) → gatherFresh n (xs ++ ys) g ≡ gatherFresh n ys (gatherFresh n xs g)
+unfolding gatherFresh
 gather-append n [] ys g = refl
 gather-append n (x ∷ xs) ys g = gather-append n xs ys (visitOne n x g)
 
 pub gathering-then : {n a b r : ℕ} {v w x : List ℕ} (xs ys : List ℕ) → Gathering n a xs v w b → Gathering n b ys w x r → Gathering n a (xs ++ ys) v x r
-gathering-then {n} {r = r} {x = x} xs ys p q tail g h = subst (Gathered n tail x r) (sym (gather-append n xs ys g)) (q tail (gatherAll n xs g) (p tail g h))
+gathering-then {n} {r = r} {x = x} xs ys p q tail g h = subst (FreshIn n tail x r) (sym (gather-append n xs ys g)) (q tail (gatherFresh n xs g) (p tail g h))
 
 pub gathering-none : (n count : ℕ) (words : List ℕ) → Gathering n count [] words words count
-unfolding gatherAll
+unfolding gatherFresh
 gathering-none n count words tail g h = h
 
 -- ---- one node
@@ -55,9 +55,9 @@ unfolding has
 other-has w v s e = ap (λ (t : Bool). t || has w s) (ne-eqb w v e)
 
 module _ (n count v : ℕ) (words : List ℕ) where
-  same : ((g : Fresh) (tail : List ℕ) → Gathered n tail words count g → visitOne n v g ≡ g) → Gathering n count (v ∷ []) words words count
-  unfolding gatherAll
-  same e tail g h = subst (Gathered n tail words count) (sym (e g tail h)) h
+  same : ((g : Fresh) (tail : List ℕ) → FreshIn n tail words count g → visitOne n v g ≡ g) → Gathering n count (v ∷ []) words words count
+  unfolding gatherFresh
+  same e tail g h = subst (FreshIn n tail words count) (sym (e g tail h)) h
 
   pub visit-past : n ≤ v → Gathering n count (v ∷ []) words words count
   unfolding visitOne
@@ -84,13 +84,13 @@ module _ (n count v : ℕ) (words : List ℕ) where
       same (λ g tail h. pick-true (pick (has v (g .seen)) g (record { seen = v ∷ g .seen; fresh = g .fresh ++ (v ∷ []) })) g (lt-ltb v n l)
       ∙ pick-true g (record { seen = v ∷ g .seen; fresh = g .fresh ++ (v ∷ []) }) (no-mark (has v (g .seen)) (λ e. ne (h .marks v l ∙ e))))
 
-  unseen : (g : Fresh) (tail : List ℕ) → v < n → getD words v 0 ≡ 0 → Gathered n tail words count g → has v (g .seen) ≡ false
+  unseen : (g : Fresh) (tail : List ℕ) → v < n → getD words v 0 ≡ 0 → FreshIn n tail words count g → has v (g .seen) ≡ false
   unseen g tail l z h = no-mark′ (has v (g .seen)) (sym (h .marks v l) ∙ z)
 
-  out : (g : Fresh) (tail : List ℕ) → v < n → getD words v 0 ≡ 0 → Gathered n tail words count g → In v (g .seen) → ⊥
+  out : (g : Fresh) (tail : List ℕ) → v < n → getD words v 0 ≡ 0 → FreshIn n tail words count g → In v (g .seen) → ⊥
   out g tail l z h m = subst T (unseen g tail l z h) (in-has m)
 
-  below : (g : Fresh) (tail : List ℕ) → v < n → Gathered n tail words count g → Below n (v ∷ g .seen)
+  below : (g : Fresh) (tail : List ℕ) → v < n → FreshIn n tail words count g → Below n (v ∷ g .seen)
   below g tail l h x m = go (in-cons m)
     where
       go : (x ≡ v) ⊎ In x (g .seen) → x < n
@@ -98,7 +98,7 @@ module _ (n count v : ℕ) (words : List ℕ) where
       go (inr i) = h .inside x i
 
   -- there is room: one more is seen at most n
-  room : (g : Fresh) (tail : List ℕ) → v < n → getD words v 0 ≡ 0 → Gathered n tail words count g → count < n
+  room : (g : Fresh) (tail : List ℕ) → v < n → getD words v 0 ≡ 0 → FreshIn n tail words count g → count < n
   room g tail l z h =
       omega (arith, at-most n (v ∷ g .seen) (out g tail l z h, h .once) (below g tail l h), h .count-is, h .fewer)
 
@@ -124,7 +124,7 @@ module _ (n count v : ℕ) (words : List ℕ) where
     fewer = x .fewer;
   }
     where
-      x : Gathered n tail words count (gatherAll n (v ∷ []) g)
+      x : FreshIn n tail words count (gatherFresh n (v ∷ []) g)
       x = visit-again l ne tail g h
 
       mark : (w : ℕ) → w < n → getD (set words v 1) w 0 ≡ getD words w 0
@@ -134,9 +134,9 @@ module _ (n count v : ℕ) (words : List ℕ) where
       ]
 
   visit-new : n + n ≤ length words → v < n → getD words v 0 ≡ 0 → Gathering n count (v ∷ []) words (set (set words v 1) (n + count) v) (count + 1)
-  unfolding gatherAll visitOne
+  unfolding gatherFresh visitOne
   visit-new long l z tail g h =
-      subst (Gathered n tail (set (set words v 1) (n + count) v) (count + 1))
+      subst (FreshIn n tail (set (set words v 1) (n + count) v) (count + 1))
       (sym (pick-true (pick (has v (g .seen)) g new) g (lt-ltb v n l) ∙ pick-false g new (unseen g tail l z h)))
       (record {
         marks = marks′;

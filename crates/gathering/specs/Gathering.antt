@@ -20,13 +20,13 @@ unfoldable pub visitOne : ℕ → ℕ → Fresh → Fresh
 unfolding pick has
 visitOne n v g = pick (ltb v n) (pick (has v (g .seen)) g (record { seen = v ∷ g .seen; fresh = g .fresh ++ (v ∷ []) })) g
 
-unfoldable pub gatherAll : ℕ → List ℕ → Fresh → Fresh
+unfoldable pub gatherFresh : ℕ → List ℕ → Fresh → Fresh
 unfolding visitOne
-gatherAll n [] g = g
-gatherAll n (v ∷ vs) g = gatherAll n vs (visitOne n v g)
+gatherFresh n [] g = g
+gatherFresh n (v ∷ vs) g = gatherFresh n vs (visitOne n v g)
 
 -- Words that hold this: a mark for each node, then the fresh ones; what stands behind both is `tail`.
-pub record Gathered (n : ℕ) (tail words : List ℕ) (count : ℕ) (g : Fresh) : Type 0 where
+pub record FreshIn (n : ℕ) (tail words : List ℕ) (count : ℕ) (g : Fresh) : Type 0 where
   pub marks : (v : ℕ) → v < n → getD words v 0 ≡ pick (has v (g .seen)) 1 0
   pub buffer : take count (drop n words) ≡ g .fresh
   pub count-is : count ≡ length (g .fresh)
@@ -39,8 +39,8 @@ pub record Gathered (n : ℕ) (tail words : List ℕ) (count : ℕ) (g : Fresh) 
 abbrev pub Gathering : ℕ → ℕ → List ℕ → List ℕ → List ℕ → ℕ → Type 0
 Gathering n count list words words′ r =
     (tail : List ℕ) (g : Fresh)
-    → Gathered n tail words count g
-    → Gathered n tail words′ r (gatherAll n list g)
+    → FreshIn n tail words count g
+    → FreshIn n tail words′ r (gatherFresh n list g)
 
 -- from the first fresh node on
 abbrev pub GatheringAll : ℕ → List ℕ → List ℕ → List ℕ → ℕ → Type 0

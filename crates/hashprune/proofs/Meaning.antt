@@ -27,7 +27,7 @@ use Rattle.simhash.specs.Blocks.{blocksHash}
 use Rattle.simhash.proofs.Residual.{length-residual}
 use Rattle.simhash.proofs.Laws.{hash-is-simhash}
 use Rattle.store.specs.View.{entriesIn, rowBlock}
-use Rattle.hashprune.specs.Steps.{farAt, hashAt, firstPlaces, cellsOf, rankedPlace, rankedNode, selectedPairs, oldPairs, mergedPairs, turned}
+use Rattle.hashprune.specs.Steps.{farAt, hashAt, firstPlaces, cellsOf, rankedPlace, rankedNode, selectedPairs, oldPairs, mergedPairs, rowAfter}
 use Rattle.hashprune.specs.Hashprune.{Turn}
 use Rattle.hashprune.proofs.Cells.{cells-below, places-below}
 
@@ -220,7 +220,7 @@ module _ (vectors : List Float) (dimension bits : ℕ) (planes : List Float) (p 
       ∙ ap (take (length row - 1)) (sort-ranked (rank vs p) nodes)
       ∙ take-map (ranked (rank vs p)) (length row - 1) (sortBy (rank vs p) nodes)
 
-  pub turn-is : turned vectors dimension bits planes (vectorOf vs p) candidates far row
+  pub turn-is : rowAfter vectors dimension bits planes (vectorOf vs p) candidates far row
       ≡ rowBlock (length row - 1) (merged (length row - 1) vs p old (selected (length row - 1) bits dimension vs p candidates))
   unfolding merged
   turn-is =

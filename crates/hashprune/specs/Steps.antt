@@ -155,7 +155,7 @@ pub record Scratch (keys ids hashes places : List ℕ) : Type 0 where
   pub places-room : 64 ≤ length places
 
 -- the row after a turn, by what the steps say
-abbrev pub turned : List Float → ℕ → ℕ → List Float → List Float → List ℕ → List Float → List ℕ → List ℕ
-turned vectors dimension bits planes p candidates far row =
+abbrev pub rowAfter : List Float → ℕ → ℕ → List Float → List Float → List ℕ → List Float → List ℕ → List ℕ
+rowAfter vectors dimension bits planes p candidates far row =
     rowBlock (length row - 1)
     (mergedPairs (length row - 1) (oldPairs vectors dimension p row ++ take (length row - 1) (selectedPairs vectors dimension bits planes p candidates far)))

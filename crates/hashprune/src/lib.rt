@@ -25,7 +25,7 @@ ghost use Rattle.sorting.specs.Sorting.{pairs, keysOf, idsOf, sortedKeys, sorte
 ghost use Rattle.leaf.specs.Leaf.{putCell, dedup};
 ghost use Rattle.store.specs.View.{rowBlock};
 ghost use Rattle.hashprune.specs.Steps.{cellIn, cellsIn, Placed, insertedAt, farAt, Room, hashBy, cellsOf};
-ghost use Rattle.hashprune.specs.Steps.{CellRoom, PlaceRoom, RowRoom, SortRoom, SelectRoom, Selected, MergeRoom, TurnRoom, Scratch, turned};
+ghost use Rattle.hashprune.specs.Steps.{CellRoom, PlaceRoom, RowRoom, SortRoom, SelectRoom, Selected, MergeRoom, TurnRoom, Scratch, rowAfter};
 ghost use Rattle.hashprune.specs.Steps.{rankedPlace, selectedPairs, oldPairs, mergedPairs};
 ghost use Rattle.hashprune.specs.Hashprune.{Inserted};
 use ids::Node;
@@ -329,7 +329,7 @@ fn insert_with(
 )
     requires { ⌜ TurnRoom (now candidates) (now far) (now row) ⌝ }
     requires { ⌜ Scratch (now keys) (now ids) (now hashes) (now places) ⌝ }
-    ensures { λ _. ⌜ now (row .exit) ≡ turned (now (vectors .entry)) dimension bits (now (planes .entry)) (now (p .entry)) (now (candidates .entry)) (now (far .entry)) (now (row .entry)) ⌝ }
+    ensures { λ _. ⌜ now (row .exit) ≡ rowAfter (now (vectors .entry)) dimension bits (now (planes .entry)) (now (p .entry)) (now (candidates .entry)) (now (far .entry)) (now (row .entry)) ⌝ }
 {
     let old = rank_row(vectors, dimension, p, row, keys, ids);
     let new = select(
@@ -361,7 +361,7 @@ fn insert_fitting(
     row: &mut [u32],
 )
     requires { ⌜ TurnRoom (now candidates) (now far) (now row) ⌝ }
-    ensures { λ _. ⌜ now (row .exit) ≡ turned (now (vectors .entry)) dimension bits (now (planes .entry)) (now (p .entry)) (now (candidates .entry)) (now (far .entry)) (now (row .entry)) ⌝ }
+    ensures { λ _. ⌜ now (row .exit) ≡ rowAfter (now (vectors .entry)) dimension bits (now (planes .entry)) (now (p .entry)) (now (candidates .entry)) (now (far .entry)) (now (row .entry)) ⌝ }
 {
     let mut keys = [0u32; 96];
     let mut ids = [0u32; 96];

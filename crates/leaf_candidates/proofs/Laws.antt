@@ -18,7 +18,7 @@ use Rattle.sorting.proofs.Laws.{first-map, first-in}
 use Rattle.sorting.proofs.Pairs.{front-ids}
 use Rattle.vectors.specs.Vectors.{between, rank}
 use Rattle.leaf.specs.Leaf.{candidatesAt}
-use Rattle.leaf_candidates.specs.Candidates.{Fits, nodeIn, farIn, placesFrom, offer, otherPlaces, Nearest, Gathered, Ready, CandidatesAre, Candidates}
+use Rattle.leaf_candidates.specs.Candidates.{LaneFits, nodeIn, farInLane, placesFrom, offer, otherPlaces, Nearest, NodesAt, LaneReady, CandidatesAre, Candidates}
 
 map-same-in : {A : Type 0} (f g : ℕ → A) (l : List ℕ) → ((j : ℕ) → In j l → f j ≡ g j) → map f l ≡ map g l
 map-same-in f g [] h = refl
@@ -75,20 +75,20 @@ others-nodes leaf i h =
 
 module _ (floats : List Float) (lane size i r : ℕ) (keys places : List ℕ) (h : i < size) (n : Nearest floats lane size i r keys places) where
   -- the places that are held
-  pub held-places : take r places ≡ firstBy (λ (j : ℕ). keyOf binary32 (farIn floats lane j)) (both keys places) (otherPlaces size i)
+  pub held-places : take r places ≡ firstBy (λ (j : ℕ). keyOf binary32 (farInLane floats lane j)) (both keys places) (otherPlaces size i)
   held-places =
       sym (front-ids r keys places (n .few))
       ∙ ap (map idIn) (n .first ∙ first-map keyIn (offer floats lane) (both keys places) (otherPlaces size i))
-      ∙ map-map (offer floats lane) idIn (firstBy (λ (j : ℕ). keyOf binary32 (farIn floats lane j)) (both keys places) (otherPlaces size i))
+      ∙ map-map (offer floats lane) idIn (firstBy (λ (j : ℕ). keyOf binary32 (farInLane floats lane j)) (both keys places) (otherPlaces size i))
       ∙ map-id _
 
   pub held-below : Below size (take r places)
   held-below j m =
-      in-others size i h (first-in (λ (k : ℕ). keyOf binary32 (farIn floats lane k)) (both keys places) (otherPlaces size i) (subst (In j) held-places m))
+      in-others size i h (first-in (λ (k : ℕ). keyOf binary32 (farInLane floats lane k)) (both keys places) (otherPlaces size i) (subst (In j) held-places m))
 
-module _ (leaf : List ℕ) (floats : List Float) (lane i D room room′ : ℕ) (vs : List (List Float)) (ready : Ready leaf floats lane i D room room′ vs) where
+module _ (leaf : List ℕ) (floats : List Float) (lane i D room room′ : ℕ) (vs : List (List Float)) (ready : LaneReady leaf floats lane i D room room′ vs) where
   -- a place's distance
-  far-is : (j : ℕ) → j < length leaf → farIn floats lane j ≡ between vs (getD leaf i 0) (nodeIn leaf j)
+  far-is : (j : ℕ) → j < length leaf → farInLane floats lane j ≡ between vs (getD leaf i 0) (nodeIn leaf j)
   far-is j h =
       sym (lane-at floats lane (length leaf) j h)
       ∙ ap (λ (l : List Float). getD l j nan) (ready .distances)
@@ -96,7 +96,7 @@ module _ (leaf : List ℕ) (floats : List Float) (lane i D room room′ : ℕ) (
 
   pub candidates-are : (r : ℕ) (keys places candidates candidates′ : List ℕ) (far far′ : List Float)
       → both keys places ≡ 2 * min D (length leaf - 1) → r ≤ length places
-      → Nearest floats lane (length leaf) i r keys places → Gathered leaf floats lane (take r places) candidates far candidates′ far′
+      → Nearest floats lane (length leaf) i r keys places → NodesAt leaf floats lane (take r places) candidates far candidates′ far′
       → CandidatesAre leaf i D vs r candidates′ far′
   unfolding candidatesAt rank
   candidates-are r keys places candidates candidates′ far far′ many few n g =
@@ -122,8 +122,8 @@ module _ (leaf : List ℕ) (floats : List Float) (lane i D room room′ : ℕ) (
         nodes = ap (take r) (g .nodes) ∙ take-at (map (nodeIn leaf) (take r places)) _ r (length-map (take r places) (nodeIn leaf) ∙ long) ∙ nodes;
         fars =
             ap (take r) (g .fars)
-            ∙ take-at (map (farIn floats lane) (take r places)) _ r (length-map (take r places) (farIn floats lane) ∙ long)
-            ∙ map-same-in (farIn floats lane) (λ (j : ℕ). between vs node (nodeIn leaf j)) (take r places)
+            ∙ take-at (map (farInLane floats lane) (take r places)) _ r (length-map (take r places) (farInLane floats lane) ∙ long)
+            ∙ map-same-in (farInLane floats lane) (λ (j : ℕ). between vs node (nodeIn leaf j)) (take r places)
             (λ j k. far-is j (held-below floats lane size i r keys places (ready .sizes .place-is) n j k))
             ∙ sym (map-map (nodeIn leaf) (between vs node) (take r places))
             ∙ ap (map (between vs node)) nodes;
@@ -142,10 +142,10 @@ module _ (leaf : List ℕ) (floats : List Float) (lane i D r most : ℕ) (keys p
   front-below j m = held-below floats lane (length leaf) i r keys places h n j (subst (In j) front m)
 
   pub gathered-are : (room room′ : ℕ) (candidates candidates′ : List ℕ) (far far′ : List Float) → most ≡ 2 * min D (length leaf - 1) → most ≤ 64
-      → Fits leaf floats lane i D room room′ → Gathered leaf floats lane (take r (places ++ rest)) candidates far candidates′ far′ → Candidates leaf floats lane i D room room′ r candidates′ far′
+      → LaneFits leaf floats lane i D room room′ → NodesAt leaf floats lane (take r (places ++ rest)) candidates far candidates′ far′ → Candidates leaf floats lane i D room room′ r candidates′ far′
   gathered-are room room′ candidates candidates′ far far′ e few fits g = record {
     few = omega (arith, n .few);
     none = λ z. absurd (z fits);
     are = λ vs ready. candidates-are leaf floats lane i D room room′ vs ready r keys places candidates candidates′ far far′
-        (omega arith) (omega (arith, n .few)) n (subst (λ (l : List ℕ). Gathered leaf floats lane l candidates far candidates′ far′) front g);
+        (omega arith) (omega (arith, n .few)) n (subst (λ (l : List ℕ). NodesAt leaf floats lane l candidates far candidates′ far′) front g);
   }

@@ -15,8 +15,8 @@ use Rattle.leaf.specs.Leaf.{candidatesAt}
 abbrev pub nodeIn : List ℕ → ℕ → ℕ
 nodeIn leaf j = getD leaf j 0
 
-abbrev pub farIn : List Float → ℕ → ℕ → Float
-farIn floats lane j = getD floats (8 * j + lane) nan
+abbrev pub farInLane : List Float → ℕ → ℕ → Float
+farInLane floats lane j = getD floats (8 * j + lane) nan
 
 -- k places from place a on
 unfoldable pub placesFrom : ℕ → ℕ → List ℕ
@@ -25,7 +25,7 @@ placesFrom a (suc k) = placesFrom a k ++ ((a + k) ∷ [])
 
 -- a place as it is offered
 abbrev pub offer : List Float → ℕ → ℕ → ℕ × ℕ
-offer floats lane j = (keyOf binary32 (farIn floats lane j), j)
+offer floats lane j = (keyOf binary32 (farInLane floats lane j), j)
 
 -- all places but i
 abbrev pub otherPlaces : ℕ → ℕ → List ℕ
@@ -49,12 +49,12 @@ pub record Nearest (floats : List Float) (lane size i r : ℕ) (keys places : Li
   pub first : pairs (take r keys) (take r places) ≡ firstBy keyIn (both keys places) (map (offer floats lane) (otherPlaces size i))
 
 -- the nodes of some places, and their distances, at the front of two slices
-pub record Gathered (leaf : List ℕ) (floats : List Float) (lane : ℕ) (places candidates : List ℕ) (far : List Float) (candidates′ : List ℕ) (far′ : List Float) : Type 0 where
+pub record NodesAt (leaf : List ℕ) (floats : List Float) (lane : ℕ) (places candidates : List ℕ) (far : List Float) (candidates′ : List ℕ) (far′ : List Float) : Type 0 where
   pub nodes : candidates′ ≡ map (nodeIn leaf) places ++ drop (length places) candidates
-  pub fars : far′ ≡ map (farIn floats lane) places ++ drop (length places) far
+  pub fars : far′ ≡ map (farInLane floats lane) places ++ drop (length places) far
 
 -- sizes that fit: the place, the lane, and room for 64 candidates
-pub record Fits (leaf : List ℕ) (floats : List Float) (lane i D room room′ : ℕ) : Type 0 where
+pub record LaneFits (leaf : List ℕ) (floats : List Float) (lane i D room room′ : ℕ) : Type 0 where
   pub place-is : i < length leaf
   pub lane-is : lane < 8
   pub degree-most : D ≤ 32
@@ -64,8 +64,8 @@ pub record Fits (leaf : List ℕ) (floats : List Float) (lane i D room room′ :
   pub room′-is : 64 ≤ room′
 
 -- what has to be there: sizes that fit, and place i's distances in its lane
-pub record Ready (leaf : List ℕ) (floats : List Float) (lane i D room room′ : ℕ) (vs : List (List Float)) : Type 0 where
-  pub sizes : Fits leaf floats lane i D room room′
+pub record LaneReady (leaf : List ℕ) (floats : List Float) (lane i D room room′ : ℕ) (vs : List (List Float)) : Type 0 where
+  pub sizes : LaneFits leaf floats lane i D room room′
   pub distances : laneOf floats lane (length leaf) ≡ map (between vs (getD leaf i 0)) leaf
 
 -- the r candidates and their distances, at the front of two slices
@@ -76,5 +76,5 @@ pub record CandidatesAre (leaf : List ℕ) (i D : ℕ) (vs : List (List Float)) 
 pub record Candidates (leaf : List ℕ) (floats : List Float) (lane i D room room′ r : ℕ) (candidates : List ℕ) (far : List Float) : Type 0 where
   pub few : r ≤ 64
   -- none where the sizes do not fit
-  pub none : (Fits leaf floats lane i D room room′ → ⊥) → r ≡ 0
-  pub are : (vs : List (List Float)) → Ready leaf floats lane i D room room′ vs → CandidatesAre leaf i D vs r candidates far
+  pub none : (LaneFits leaf floats lane i D room room′ → ⊥) → r ≡ 0
+  pub are : (vs : List (List Float)) → LaneReady leaf floats lane i D room room′ vs → CandidatesAre leaf i D vs r candidates far

@@ -10,7 +10,7 @@
 ghost use Prim.Native.Nat.{_+_, _-_, _*_, _≤_, _<_};
 ghost use lib.ListN.{length};
 ghost use Rattle.basics.specs.Nodes.{Below};
-ghost use Rattle.leaf_candidates.specs.Candidates.{Offered, Nearest, Gathered, Candidates, Sized, Fits};
+ghost use Rattle.leaf_candidates.specs.Candidates.{Offered, Nearest, NodesAt, Candidates, Sized, LaneFits};
 
 // The candidates of place i, whose distances stand in a lane, and how far they are. Says how many: 64 at
 // most, and none where the sizes do not fit.
@@ -58,7 +58,7 @@ fn candidates_within(
     candidates: &mut [u32],
     far: &mut [f32],
 ) -> usize
-    requires { ⌜ Fits (now leaf) (now floats) lane i degree (length (now candidates)) (length (now far)) ⌝ }
+    requires { ⌜ LaneFits (now leaf) (now floats) lane i degree (length (now candidates)) (length (now far)) ⌝ }
     ensures { λ r. ⌜ Candidates (now (leaf .entry)) (now (floats .entry)) lane i degree (length (now (candidates .entry))) (length (now (far .entry))) r (now (candidates .exit)) (now (far .exit)) ⌝ }
 {
     let mut keys = [0u32; 64];
@@ -126,7 +126,7 @@ fn gather(
 )
     requires { ⌜ Sized lane (length (now leaf)) (now floats) × Below (length (now leaf)) (now places)
         × (length (now places) ≤ length (now candidates)) × (length (now places) ≤ length (now far)) ⌝ }
-    ensures { λ _. ⌜ Gathered (now (leaf .entry)) (now (floats .entry)) lane (now (places .entry)) (now (candidates .entry)) (now (far .entry)) (now (candidates .exit)) (now (far .exit)) ⌝ }
+    ensures { λ _. ⌜ NodesAt (now (leaf .entry)) (now (floats .entry)) lane (now (places .entry)) (now (candidates .entry)) (now (far .entry)) (now (candidates .exit)) (now (far .exit)) ⌝ }
 {
     let mut c: usize = 0;
     while c < places.len() {

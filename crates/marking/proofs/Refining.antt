@@ -18,7 +18,7 @@ use Rattle.basics.specs.Nodes.{has, NoDup, Below}
 use Rattle.basics.proofs.Counting.{hasn't, at-most}
 use Rattle.walk.specs.Walk.{State, visit, expand, walk}
 use Rattle.graph_utils.specs.Repair.{stack, markReachable}
-use Rattle.marking.specs.Marking.{Marks, marks, visited, visitedAll, walked, marked}
+use Rattle.marking.specs.Marking.{Marks, marks, visited, visitedAll, markedFrom, marked}
 
 -- ---- the words of a list of reached nodes, and of a frontier
 
@@ -151,8 +151,8 @@ expand-held n (v ∷ l) b s m h =
 
 module _ (n : ℕ) (list list′ : ℕ → List ℕ) (alike : (u : ℕ) → u < n → list′ u ≡ list u) (within : (u v : ℕ) → In v (list u) → v < n) where
   walk-held : (more : ℕ) (seen words : List ℕ) (top : ℕ) → Held n (record { seen = seen; front = stackOf n words top }) (marks words top)
-      → Marked n (walk list stack (λ _ _. false) (λ _. false) more seen (stackOf n words top)) (walked n list′ more words top)
-  unfolding walk walked stackOf
+      → Marked n (walk list stack (λ _ _. false) (λ _. false) more seen (stackOf n words top)) (markedFrom n list′ more words top)
+  unfolding walk markedFrom stackOf
   walk-held zero seen words top h = h .seen-is
   walk-held (suc more) seen words zero h = h .seen-is
   walk-held (suc more) seen words (suc top) h =
@@ -174,7 +174,7 @@ module _ (n : ℕ) (list list′ : ℕ → List ℕ) (alike : (u : ℕ) → u < 
         inside = subst (Below n) front (next .inside);
         few = next .few;
       } in
-      subst (λ (l : List ℕ). Marked n (walk list stack (λ _ _. false) (λ _. false) more (s .seen) l) (walked n list′ more (m .words) (m .top))) (sym front)
+      subst (λ (l : List ℕ). Marked n (walk list stack (λ _ _. false) (λ _. false) more (s .seen) l) (markedFrom n list′ more (m .words) (m .top))) (sym front)
       (walk-held more (s .seen) (m .words) (m .top) next′)
 
   walk-none : (more : ℕ) (seen : List ℕ) → seen ≡ walk list stack (λ _ _. false) (λ _. false) more seen []
@@ -207,6 +207,6 @@ module _ (n : ℕ) (list list′ : ℕ → List ℕ) (alike : (u : ℕ) → u < 
         inside = subst (Below n) (first .front-is) (first .inside);
         few = first .few;
       } in
-      subst (λ (r : List ℕ). Marked n r (walked n list′ n (w .words) (w .top))) (mark-is reached s)
-      (subst (λ (l : List ℕ). Marked n (walk list stack (λ _ _. false) (λ _. false) n (v .seen) l) (walked n list′ n (w .words) (w .top))) (sym (first .front-is))
+      subst (λ (r : List ℕ). Marked n r (markedFrom n list′ n (w .words) (w .top))) (mark-is reached s)
+      (subst (λ (l : List ℕ). Marked n (walk list stack (λ _ _. false) (λ _. false) n (v .seen) l) (markedFrom n list′ n (w .words) (w .top))) (sym (first .front-is))
       (walk-held n (v .seen) (w .words) (w .top) next))

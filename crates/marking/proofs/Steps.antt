@@ -13,7 +13,7 @@ use Rattle.basics.proofs.Tests.{both-true}
 use Rattle.basics.specs.Choice.{pick-true, pick-false}
 use Rattle.chains.specs.Chains.{otherEndAt, nextLink, linkedEnds}
 use Rattle.chains.proofs.Reading.{linked-none, linked-step}
-use Rattle.marking.specs.Marking.{Marks, marks, visited, visitedAll, walked}
+use Rattle.marking.specs.Marking.{Marks, marks, visited, visitedAll, markedFrom}
 
 -- ---- one node
 
@@ -65,8 +65,8 @@ visit-both n [] b s = refl
 visit-both n (v ∷ a) b s = visit-both n a b (visited n v s)
 
 pub walk-step : (n : ℕ) (list : ℕ → List ℕ) (more top u : ℕ) (words words′ : List ℕ) (top′ : ℕ) → 0 < more → 0 < top → u ≡ getD words (n + (top - 1)) 0
-    → marks words′ top′ ≡ visitedAll n (list u) (marks words (top - 1)) → walked n list (more - 1) words′ top′ ≡ walked n list more words top
-unfolding walked
+    → marks words′ top′ ≡ visitedAll n (list u) (marks words (top - 1)) → markedFrom n list (more - 1) words′ top′ ≡ markedFrom n list more words top
+unfolding markedFrom
 walk-step n list zero top u words words′ top′ h k m e = absurd (omega arith)
 walk-step n list (suc more) zero u words words′ top′ h k m e = absurd (omega arith)
 walk-step n list (suc more) (suc top) u words words′ top′ h k m e =
@@ -75,15 +75,15 @@ walk-step n list (suc more) (suc top) u words words′ top′ h k m e =
     let s : marks words′ top′ ≡ visitedAll n (list (getD words (n + top) 0)) (marks words top) =
     e ∙ ap (λ (x : ℕ). visitedAll n (list x) (marks words (suc top - 1))) m
     ∙ ap (λ (x : ℕ). visitedAll n (list (getD words (n + x) 0)) (marks words x)) t in
-    ap (λ (k : ℕ). walked n list k words′ top′) one ∙ ap (λ (r : Marks). walked n list more (r .words) (r .top)) s
+    ap (λ (k : ℕ). markedFrom n list k words′ top′) one ∙ ap (λ (r : Marks). markedFrom n list more (r .words) (r .top)) s
 
-pub walk-end-fuel : (n : ℕ) (list : ℕ → List ℕ) (more top : ℕ) (words : List ℕ) → more ≡ 0 → words ≡ walked n list more words top
-unfolding walked
+pub walk-end-fuel : (n : ℕ) (list : ℕ → List ℕ) (more top : ℕ) (words : List ℕ) → more ≡ 0 → words ≡ markedFrom n list more words top
+unfolding markedFrom
 walk-end-fuel n list zero top words e = refl
 walk-end-fuel n list (suc more) top words e = absurd (omega arith)
 
-pub walk-end : (n : ℕ) (list : ℕ → List ℕ) (more top : ℕ) (words : List ℕ) → top ≡ 0 → words ≡ walked n list more words top
-unfolding walked
+pub walk-end : (n : ℕ) (list : ℕ → List ℕ) (more top : ℕ) (words : List ℕ) → top ≡ 0 → words ≡ markedFrom n list more words top
+unfolding markedFrom
 walk-end n list zero top words e = refl
 walk-end n list (suc more) zero words e = refl
 walk-end n list (suc more) (suc top) words e = absurd (omega arith)

@@ -33,17 +33,17 @@ visitedAll n [] s = s
 visitedAll n (v ∷ vs) s = visitedAll n vs (visited n v s)
 
 -- the lists of the stack's nodes are looked at, the latest first, so many at most
-unfoldable pub walked : ℕ → (ℕ → List ℕ) → ℕ → List ℕ → ℕ → List ℕ
+unfoldable pub markedFrom : ℕ → (ℕ → List ℕ) → ℕ → List ℕ → ℕ → List ℕ
 unfolding visitedAll
-walked n list zero words top = words
-walked n list (suc more) words zero = words
-walked n list (suc more) words (suc top) =
+markedFrom n list zero words top = words
+markedFrom n list (suc more) words zero = words
+markedFrom n list (suc more) words (suc top) =
     let s : Marks = visitedAll n (list (getD words (n + top) 0)) (marks words top) in
-    walked n list more (s .words) (s .top)
+    markedFrom n list more (s .words) (s .top)
 
 -- `mark_reachable`, from a node on
 unfoldable pub marked : ℕ → (ℕ → List ℕ) → ℕ → List ℕ → List ℕ
-unfolding visited walked
+unfolding visited markedFrom
 marked n list start words =
     let s : Marks = visited n start (marks words 0) in
-    walked n list n (s .words) (s .top)
+    markedFrom n list n (s .words) (s .top)

@@ -15,7 +15,7 @@ use lib.Seq.{getD-set-same, getD-set-other, getD-append-seam}
 use lib.Ieee.{Float, binary32, fits}
 use Rattle.basics.specs.Choice.{pick, pick-true, pick-false}
 use Rattle.order.proofs.Laws.{key-below}
-use Rattle.tournament.specs.Tournament.{rankOf, rankAt, nothing, Tournament, Putting, firstOf}
+use Rattle.tournament.specs.Tournament.{rankOf, rankAt, emptyRank, Tournament, Putting, firstOf}
 use Rattle.tournament.specs.declared.Pair.{Pair}
 use Rattle.tournament.proofs.Laws.{Winner, first-least, first-wins}
 use Rattle.beam.specs.KeepClosest.{keyAt, sooner, insertIn, hold}
@@ -90,16 +90,16 @@ module _ (far : ℕ → Float) where
 
 -- ---- none
 
-pub none-held : (far : ℕ → Float) (size : ℕ) (tree : List ℕ) → size ≤ 1024 → Tournament (replicate size nothing) tree → Held far size [] tree
+pub none-held : (far : ℕ → Float) (size : ℕ) (tree : List ℕ) → size ≤ 1024 → Tournament (replicate size emptyRank) tree → Held far size [] tree
 unfolding pick times
 none-held far size tree few t = record {
   keys = [];
-  leaves = replicate size nothing;
+  leaves = replicate size emptyRank;
   tournament = t;
-  many = length-replicate size nothing;
+  many = length-replicate size emptyRank;
   few = few;
   within = omega arith;
-  stands = λ i h. getD-replicate size i nothing nothing h ∙ sym (pick-false _ _ (le-ltb i 0 (omega arith)));
+  stands = λ i h. getD-replicate size i emptyRank emptyRank h ∙ sym (pick-false _ _ (le-ltb i 0 (omega arith)));
   as-many = refl;
   same = λ x. refl;
   falling = tt;
@@ -115,7 +115,7 @@ module _ {far : ℕ → Float} {size : ℕ} {tree : List ℕ} where
     | yes p ↦
         let won : Winner (h .leaves) (rankAt tree 1) = first-wins (h .leaves) tree (h .tournament) (omega (arith, h .many)) in
         let no : ltb (won .place) (length (h .keys)) ≡ false = le-ltb (won .place) (length (h .keys)) (omega (arith, h .as-many)) in
-        let all : rankAt tree 1 ≡ nothing = sym (won .wins) ∙ h .stands (won .place) (omega (arith, won .inside, h .many)) ∙ pick-false _ _ no in
+        let all : rankAt tree 1 ≡ emptyRank = sym (won .wins) ∙ h .stands (won .place) (omega (arith, won .inside, h .many)) ∙ pick-false _ _ no in
         let s = size-is h in
         ap (λ (p : Pair). p .id) (pick-false _ _ (le-ltb (length tree) 4 (omega arith))) ∙ omega arith
     | no p ↦
@@ -157,7 +157,7 @@ first-held {far} {size} {tree} f32s j k u l h = record {
     shape : firstOf tree ≡ record { key = getD tree 3 0; id = getD tree 2 0 }
     shape = pick-false _ _ (le-ltb (length tree) 4 (omega (arith, size-is h, room)))
 
-    at-key : (i : ℕ) → i < length (h .keys) → getD (h .leaves) i nothing ≡ heldRank (getD (h .keys) i 0) i
+    at-key : (i : ℕ) → i < length (h .keys) → getD (h .leaves) i emptyRank ≡ heldRank (getD (h .keys) i 0) i
     at-key i p = h .stands i (let w = h .within in omega arith) ∙ pick-true _ _ (lt-ltb i (length (h .keys)) p)
 
     worst : Place (keyAt far u) (h .keys)
@@ -169,7 +169,7 @@ first-held {far} {size} {tree} f32s j k u l h = record {
     top : rankAt tree 1 ≤ heldRank (keyAt far u) (worst .at)
     top =
         let a = first-least (h .leaves) tree (h .tournament) (worst .at) (let w = h .within in let i = worst .inside in let m = h .many in omega arith) in
-        let e : getD (h .leaves) (worst .at) nothing ≡ heldRank (keyAt far u) (worst .at) = at-key (worst .at) (worst .inside) ∙ ap (λ (x : ℕ). heldRank x (worst .at)) (worst .is) in
+        let e : getD (h .leaves) (worst .at) emptyRank ≡ heldRank (keyAt far u) (worst .at) = at-key (worst .at) (worst .inside) ∙ ap (λ (x : ℕ). heldRank x (worst .at)) (worst .is) in
         omega arith
 
     won-in : won .place < length (h .keys)
@@ -177,7 +177,7 @@ first-held {far} {size} {tree} f32s j k u l h = record {
       | yes p ↦ p
       | no p ↦
           let out : ltb (won .place) (length (h .keys)) ≡ false = le-ltb (won .place) (length (h .keys)) (omega arith) in
-          let e : rankAt tree 1 ≡ nothing = sym (won .wins) ∙ h .stands (won .place) (let i = won .inside in let m = h .many in omega arith) ∙ pick-false _ _ out in
+          let e : rankAt tree 1 ≡ emptyRank = sym (won .wins) ∙ h .stands (won .place) (let i = won .inside in let m = h .many in omega arith) ∙ pick-false _ _ out in
           absurd (omega (arith, top, inside (worst .at) (worst .inside)))
     ]
 
@@ -212,19 +212,19 @@ module _ {far : ℕ → Float} {size : ℕ} {tree tree′ : List ℕ} where
       long : length keys′ ≡ suc (length (h .keys))
       long = let e = length-append (h .keys) (keyAt far v ∷ []) in omega arith
 
-      stands′ : (i : ℕ) → i < size → getD (set (h .leaves) (length held) (heldRank (keyAt far v) (length held))) i nothing ≡ pick (ltb i (length keys′)) (heldRank (getD keys′ i 0) i) nothing
+      stands′ : (i : ℕ) → i < size → getD (set (h .leaves) (length held) (heldRank (keyAt far v) (length held))) i emptyRank ≡ pick (ltb i (length keys′)) (heldRank (getD keys′ i 0) i) emptyRank
       stands′ i p = elim (ℕ-discrete i (length held)) [
         | yes e ↦
             let last : getD keys′ i 0 ≡ keyAt far v = ap (λ (k : ℕ). getD keys′ k 0) (e ∙ sym (h .as-many)) ∙ getD-append-seam (h .keys) (keyAt far v) [] 0 in
-            ap (λ (k : ℕ). getD (set (h .leaves) (length held) (heldRank (keyAt far v) (length held))) k nothing) e
-            ∙ getD-set-same (h .leaves) (length held) _ nothing (omega (arith, h .many))
+            ap (λ (k : ℕ). getD (set (h .leaves) (length held) (heldRank (keyAt far v) (length held))) k emptyRank) e
+            ∙ getD-set-same (h .leaves) (length held) _ emptyRank (omega (arith, h .many))
             ∙ ap (heldRank (keyAt far v)) (sym e)
             ∙ ap (λ (k : ℕ). heldRank k i) (sym last)
             ∙ sym (pick-true _ _ (lt-ltb i (length keys′) (omega (arith, long, h .as-many))))
-        | no e ↦ getD-set-other (h .leaves) (length held) i _ nothing e ∙ h .stands i p ∙ others i e
+        | no e ↦ getD-set-other (h .leaves) (length held) i _ emptyRank e ∙ h .stands i p ∙ others i e
       ]
         where
-          others : (i : ℕ) → (i ≡ length held → ⊥) → pick (ltb i (length (h .keys))) (heldRank (getD (h .keys) i 0) i) nothing ≡ pick (ltb i (length keys′)) (heldRank (getD keys′ i 0) i) nothing
+          others : (i : ℕ) → (i ≡ length held → ⊥) → pick (ltb i (length (h .keys))) (heldRank (getD (h .keys) i 0) i) emptyRank ≡ pick (ltb i (length keys′)) (heldRank (getD keys′ i 0) i) emptyRank
           others i e = elim (decLt i (length (h .keys))) [
             | yes l ↦ pick-true _ _ (lt-ltb i (length (h .keys)) l)
                 ∙ ap (λ (k : ℕ). heldRank k i) (sym (List·getD-append (h .keys) (keyAt far v ∷ []) 0 i l))
@@ -264,17 +264,17 @@ module _ {far : ℕ → Float} {size : ℕ} {tree tree′ : List ℕ} where
       long : length keys′ ≡ length (h .keys)
       long = length-set (h .keys) place (keyAt far v)
 
-      stands′ : (i : ℕ) → i < size → getD (set (h .leaves) place (heldRank (keyAt far v) place)) i nothing ≡ pick (ltb i (length keys′)) (heldRank (getD keys′ i 0) i) nothing
+      stands′ : (i : ℕ) → i < size → getD (set (h .leaves) place (heldRank (keyAt far v) place)) i emptyRank ≡ pick (ltb i (length keys′)) (heldRank (getD keys′ i 0) i) emptyRank
       stands′ i p = elim (ℕ-discrete i place) [
         | yes e ↦
             let mine : getD keys′ i 0 ≡ keyAt far v = ap (λ (k : ℕ). getD keys′ k 0) e ∙ getD-set-same (h .keys) place (keyAt far v) 0 inside in
-            ap (λ (k : ℕ). getD (set (h .leaves) place (heldRank (keyAt far v) place)) k nothing) e
-            ∙ getD-set-same (h .leaves) place _ nothing (let w = h .within in omega (arith, h .many))
+            ap (λ (k : ℕ). getD (set (h .leaves) place (heldRank (keyAt far v) place)) k emptyRank) e
+            ∙ getD-set-same (h .leaves) place _ emptyRank (let w = h .within in omega (arith, h .many))
             ∙ ap (heldRank (keyAt far v)) (sym e)
             ∙ ap (λ (k : ℕ). heldRank k i) (sym mine)
             ∙ sym (pick-true _ _ (lt-ltb i (length keys′) (omega (arith, long))))
-        | no e ↦ getD-set-other (h .leaves) place i _ nothing e
+        | no e ↦ getD-set-other (h .leaves) place i _ emptyRank e
             ∙ h .stands i p
-            ∙ ap (λ (k : ℕ). pick (ltb i k) (heldRank (getD (h .keys) i 0) i) nothing) (sym long)
-            ∙ ap (λ (k : ℕ). pick (ltb i (length keys′)) (heldRank k i) nothing) (sym (getD-set-other (h .keys) place i (keyAt far v) 0 e))
+            ∙ ap (λ (k : ℕ). pick (ltb i k) (heldRank (getD (h .keys) i 0) i) emptyRank) (sym long)
+            ∙ ap (λ (k : ℕ). pick (ltb i (length keys′)) (heldRank k i) emptyRank) (sym (getD-set-other (h .keys) place i (keyAt far v) 0 e))
       ]

@@ -15,7 +15,7 @@ use lib.Seq.{getD-set-same, getD-set-other}
 use Rattle.basics.specs.Choice.{pick, pick-ind, pick-true, pick-false}
 use Rattle.basics.specs.Nodes.{has}
 use Rattle.basics.proofs.Counting.{has-in, in-has}
-use Rattle.tournament.specs.Tournament.{rankAt, nothing, Tournament, Putting}
+use Rattle.tournament.specs.Tournament.{rankAt, emptyRank, Tournament, Putting}
 use Rattle.tournament.proofs.Laws.{Winner, first-least, first-wins}
 use Rattle.beam.specs.KeepClosest.{insertIn}
 use Rattle.queues.specs.Queues.{Ordered, Queue}
@@ -94,21 +94,21 @@ module _ (rank : ℕ → ℕ) where
 -- ---- queues
 
 module _ (rank : ℕ → ℕ) (n : ℕ) where
-  pub empty-queue : (tree : List ℕ) → Tournament (replicate n nothing) tree → Queue rank n [] tree
+  pub empty-queue : (tree : List ℕ) → Tournament (replicate n emptyRank) tree → Queue rank n [] tree
   unfolding has pick
   empty-queue tree t = record {
-    leaves = replicate n nothing;
+    leaves = replicate n emptyRank;
     tournament = t;
-    many = length-replicate n nothing;
-    stands = λ v h. getD-replicate n v nothing nothing h;
+    many = length-replicate n emptyRank;
+    stands = λ v h. getD-replicate n v emptyRank emptyRank h;
     ordered = tt;
     inside = λ x m. absurd (in-nil m);
   }
 
   -- which nodes there are after a put
-  put-stands : (leaves l : List ℕ) (v r : ℕ) → length leaves ≡ n → v < n → ((w : ℕ) → w < n → getD leaves w nothing ≡ pick (has w l) (rank w) nothing)
-      → (w : ℕ) → w < n → (w ≡ v → ⊥) → getD (set leaves v r) w nothing ≡ pick (has w l) (rank w) nothing
-  put-stands leaves l v r e h s w k ne = getD-set-other leaves v w r nothing ne ∙ s w k
+  put-stands : (leaves l : List ℕ) (v r : ℕ) → length leaves ≡ n → v < n → ((w : ℕ) → w < n → getD leaves w emptyRank ≡ pick (has w l) (rank w) emptyRank)
+      → (w : ℕ) → w < n → (w ≡ v → ⊥) → getD (set leaves v r) w emptyRank ≡ pick (has w l) (rank w) emptyRank
+  put-stands leaves l v r e h s w k ne = getD-set-other leaves v w r emptyRank ne ∙ s w k
 
   pub put-in : (precedes : ℕ → ℕ → Bool) (v : ℕ) (l tree tree′ : List ℕ) → v < n → ((w : ℕ) → w < n → precedes v w ≡ ltb (rank v) (rank w))
       → ((w : ℕ) → w < n → rank v ≡ rank w → v ≡ w) → (In v l → ⊥) → Putting v (rank v) tree tree′ → Queue rank n l tree → Queue rank n (insertIn precedes v l) tree′
@@ -126,20 +126,20 @@ module _ (rank : ℕ → ℕ) (n : ℕ) where
       go x (inl e) = omega arith
       go x (inr i) = q .inside x i
 
-      stands′ : (w : ℕ) → w < n → getD (set (q .leaves) v (rank v)) w nothing ≡ pick (has w (insertIn precedes v l)) (rank w) nothing
+      stands′ : (w : ℕ) → w < n → getD (set (q .leaves) v (rank v)) w emptyRank ≡ pick (has w (insertIn precedes v l)) (rank w) emptyRank
       stands′ w k = elim (ℕ-discrete w v) [
-        | yes e ↦ ap (λ (x : ℕ). getD (set (q .leaves) v (rank v)) x nothing) e ∙ getD-set-same (q .leaves) v (rank v) nothing (omega (arith, q .many)) ∙ ap rank (sym e)
-            ∙ sym (pick-true (rank w) nothing (has-insert precedes w v l ∙ ap (λ (t : Bool). t || has w l) (eq-eqb w v e)))
+        | yes e ↦ ap (λ (x : ℕ). getD (set (q .leaves) v (rank v)) x emptyRank) e ∙ getD-set-same (q .leaves) v (rank v) emptyRank (omega (arith, q .many)) ∙ ap rank (sym e)
+            ∙ sym (pick-true (rank w) emptyRank (has-insert precedes w v l ∙ ap (λ (t : Bool). t || has w l) (eq-eqb w v e)))
         | no e ↦ put-stands (q .leaves) l v (rank v) (q .many) h (q .stands) w k e
-            ∙ ap (λ (t : Bool). pick t (rank w) nothing) (sym (has-insert precedes w v l ∙ ap (λ (t : Bool). t || has w l) (ne-eqb w v e)))
+            ∙ ap (λ (t : Bool). pick t (rank w) emptyRank) (sym (has-insert precedes w v l ∙ ap (λ (t : Bool). t || has w l) (ne-eqb w v e)))
       ]
 
-  pub take-out : (u : ℕ) (l tree tree′ : List ℕ) → Putting u nothing tree tree′ → Queue rank n (u ∷ l) tree → Queue rank n l tree′
+  pub take-out : (u : ℕ) (l tree tree′ : List ℕ) → Putting u emptyRank tree tree′ → Queue rank n (u ∷ l) tree → Queue rank n l tree′
   unfolding has
   take-out u l tree tree′ put q = record {
-    leaves = set (q .leaves) u nothing;
+    leaves = set (q .leaves) u emptyRank;
     tournament = put (q .leaves) (q .tournament) (omega (arith, q .many, low));
-    many = length-set (q .leaves) u nothing ∙ q .many;
+    many = length-set (q .leaves) u emptyRank ∙ q .many;
     stands = stands′;
     ordered = q .ordered .1;
     inside = λ x m. q .inside x (there m);
@@ -151,16 +151,16 @@ module _ (rank : ℕ → ℕ) (n : ℕ) where
       gone : In u l → ⊥
       gone m = let r = q .ordered .0 u m in omega arith
 
-      stands′ : (w : ℕ) → w < n → getD (set (q .leaves) u nothing) w nothing ≡ pick (has w l) (rank w) nothing
+      stands′ : (w : ℕ) → w < n → getD (set (q .leaves) u emptyRank) w emptyRank ≡ pick (has w l) (rank w) emptyRank
       stands′ w k = elim (ℕ-discrete w u) [
-        | yes e ↦ ap (λ (x : ℕ). getD (set (q .leaves) u nothing) x nothing) e ∙ getD-set-same (q .leaves) u nothing nothing (omega (arith, q .many, low))
-            ∙ sym (pick-false (rank w) nothing (has-no w l (λ m. gone (subst (λ (x : ℕ). In x l) e m))))
-        | no e ↦ put-stands (q .leaves) (u ∷ l) u nothing (q .many) low (q .stands) w k e
-            ∙ ap (λ (t : Bool). pick (t || has w l) (rank w) nothing) (ne-eqb w u e)
+        | yes e ↦ ap (λ (x : ℕ). getD (set (q .leaves) u emptyRank) x emptyRank) e ∙ getD-set-same (q .leaves) u emptyRank emptyRank (omega (arith, q .many, low))
+            ∙ sym (pick-false (rank w) emptyRank (has-no w l (λ m. gone (subst (λ (x : ℕ). In x l) e m))))
+        | no e ↦ put-stands (q .leaves) (u ∷ l) u emptyRank (q .many) low (q .stands) w k e
+            ∙ ap (λ (t : Bool). pick (t || has w l) (rank w) emptyRank) (ne-eqb w u e)
       ]
 
   -- the pair that the tree has first
-  pub first-node : (u : ℕ) (l tree : List ℕ) → ((v : ℕ) → v < n → rank v < nothing) → Queue rank n (u ∷ l) tree → rankAt tree 1 ≡ rank u
+  pub first-node : (u : ℕ) (l tree : List ℕ) → ((v : ℕ) → v < n → rank v < emptyRank) → Queue rank n (u ∷ l) tree → rankAt tree 1 ≡ rank u
   first-node u l tree below q = go (in-or w)
     where
       low : u < n
@@ -175,8 +175,8 @@ module _ (rank : ℕ → ℕ) (n : ℕ) where
       inside : w < n
       inside = omega (arith, won .inside, q .many)
 
-      u-stands : getD (q .leaves) u nothing ≡ rank u
-      u-stands = q .stands u low ∙ pick-true (rank u) nothing (has-yes u (u ∷ l) (here refl))
+      u-stands : getD (q .leaves) u emptyRank ≡ rank u
+      u-stands = q .stands u low ∙ pick-true (rank u) emptyRank (has-yes u (u ∷ l) (here refl))
 
       least : rankAt tree 1 ≤ rank u
       least = let h = first-least (q .leaves) tree (q .tournament) u (omega (arith, q .many, low)) in omega (arith, u-stands)
@@ -186,7 +186,7 @@ module _ (rank : ℕ → ℕ) (n : ℕ) where
 
       -- the winner is in the queue, and no node behind the first has so low a rank
       held : In w (u ∷ l) → rankAt tree 1 ≡ rank w
-      held m = sym (won .wins) ∙ q .stands w inside ∙ pick-true (rank w) nothing (has-yes w (u ∷ l) m)
+      held m = sym (won .wins) ∙ q .stands w inside ∙ pick-true (rank w) emptyRank (has-yes w (u ∷ l) m)
 
       go : In w (u ∷ l) ⊎ (In w (u ∷ l) → ⊥) → rankAt tree 1 ≡ rank u
       go (inl m) = at (in-cons m)
@@ -195,10 +195,10 @@ module _ (rank : ℕ → ℕ) (n : ℕ) where
           at (inl e) = held m ∙ ap rank e
           at (inr i) = absurd (let a = q .ordered .0 w i in let b = held m in omega (arith, least))
       go (inr m) =
-          let e : rankAt tree 1 ≡ nothing = sym (won .wins) ∙ q .stands w inside ∙ pick-false (rank w) nothing (has-no w (u ∷ l) m) in
+          let e : rankAt tree 1 ≡ emptyRank = sym (won .wins) ∙ q .stands w inside ∙ pick-false (rank w) emptyRank (has-no w (u ∷ l) m) in
           absurd (let a = below u low in omega (arith, least))
 
-  pub none-first : (tree : List ℕ) → 0 < n → Queue rank n [] tree → rankAt tree 1 ≡ nothing
+  pub none-first : (tree : List ℕ) → 0 < n → Queue rank n [] tree → rankAt tree 1 ≡ emptyRank
   unfolding has pick
   none-first tree h q =
       let won : Winner (q .leaves) (rankAt tree 1) = first-wins (q .leaves) tree (q .tournament) (omega (arith, q .many)) in

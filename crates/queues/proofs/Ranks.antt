@@ -8,7 +8,7 @@ use borrow.Author.Tests.{eq-eqb, ne-eqb, lt-ltb, le-ltb}
 use lib.Dec.{T, eqb, ltb}
 use lib.Ieee.{Float, binary32, fits}
 use Rattle.order.proofs.Laws.{key-below}
-use Rattle.tournament.specs.Tournament.{rankOf, nothing}
+use Rattle.tournament.specs.Tournament.{rankOf, emptyRank}
 use Rattle.beam.specs.KeepClosest.{keyAt, sooner}
 use Rattle.queues.specs.Queues.{frontRank}
 
@@ -36,7 +36,7 @@ module _ (far : ℕ → Float) (f32s : (v : ℕ) → T (fits binary32 (far v))) 
   unfolding sooner
   front-order v w h k = by-rank (keyAt far v) (keyAt far w) v w h k
 
-  pub front-below : (v : ℕ) → v < 4294967295 → frontRank far v < nothing
+  pub front-below : (v : ℕ) → v < 4294967295 → frontRank far v < emptyRank
   front-below v h = omega (arith, small v)
 
   pub front-one : (v w : ℕ) → v < 4294967296 → w < 4294967296 → frontRank far v ≡ frontRank far w → v ≡ w

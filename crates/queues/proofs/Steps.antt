@@ -11,7 +11,7 @@ use lib.ListN.{length, getD}
 use lib.Ieee.{Float, binary32, inf}
 use Rattle.basics.specs.Choice.{pick-true, pick-false}
 use Rattle.order.specs.Order.{keyOf}
-use Rattle.tournament.specs.Tournament.{rankOf, nothing, Putting, firstOf}
+use Rattle.tournament.specs.Tournament.{rankOf, emptyRank, Putting, firstOf}
 use Rattle.tournament.specs.declared.Pair.{Pair}
 use Rattle.tournament.proofs.Laws.{rank-id}
 use Rattle.beam.specs.KeepClosest.{keyAt, sooner}
@@ -25,7 +25,7 @@ use Rattle.queues.proofs.Ranks.{front-order, front-below, front-one}
 -- ---- the id that stands first
 
 module _ (a b : ℕ → ℕ) (n : ℕ) (tree : List ℕ) where
-  pub first-id : (u : ℕ) (l : List ℕ) → ((v : ℕ) → v < n → rankOf (a v) (b v) < nothing) → b u < 4294967296 → getD tree 2 0 < 4294967296
+  pub first-id : (u : ℕ) (l : List ℕ) → ((v : ℕ) → v < n → rankOf (a v) (b v) < emptyRank) → b u < 4294967296 → getD tree 2 0 < 4294967296
       → Queue (λ v. rankOf (a v) (b v)) n (u ∷ l) tree → firstOf tree .id ≡ b u
   unfolding firstOf
   first-id u l below h k q =
@@ -39,7 +39,7 @@ module _ (a b : ℕ → ℕ) (n : ℕ) (tree : List ℕ) where
   none-id j k q = elim (decLt 0 n) [
     | yes h ↦
         let size : length tree / 4 ≡ n = queue-size (λ v. rankOf (a v) (b v)) n [] tree q in
-        let all : rankOf (getD tree 3 0) (getD tree 2 0) ≡ nothing = none-first (λ v. rankOf (a v) (b v)) n tree h q in
+        let all : rankOf (getD tree 3 0) (getD tree 2 0) ≡ emptyRank = none-first (λ v. rankOf (a v) (b v)) n tree h q in
         ap (λ (p : Pair). p .id) (pick-false _ _ (le-ltb (length tree) 4 (omega arith))) ∙ omega arith
     | no h ↦
         let size : length tree / 4 ≡ n = queue-size (λ v. rankOf (a v) (b v)) n [] tree q in
@@ -77,10 +77,10 @@ module _ (floats : List Float) (tree tree′ : List ℕ) (id : ℕ) (first : id 
       let same : id ≡ u = front-id far n u l known q in
       absurd (omega arith)
 
-  pub pop-at : (id ≡ 0xffff_ffff → ⊥) → (d : Float) → d ≡ getD floats id (inf false) → Putting id nothing tree tree′ → Popping floats tree tree′ (At d (node id))
+  pub pop-at : (id ≡ 0xffff_ffff → ⊥) → (d : Float) → d ≡ getD floats id (inf false) → Putting id emptyRank tree tree′ → Popping floats tree tree′ (At d (node id))
   pop-at ne d e put far n [] known q = absurd (ne (first ∙ none-id (keyAt far) (λ v. v) n tree j k q))
   pop-at ne d e put far n (u ∷ l) known q =
       let same : id ≡ u = front-id far n u l known q in (
         ap₂ At (e ∙ ap (λ (v : ℕ). getD floats v (inf false)) same ∙ known .there u (here refl)) (ap node same),
-        take-out (frontRank far) n u l tree tree′ (subst (λ (v : ℕ). Putting v nothing tree tree′) same put) q,
+        take-out (frontRank far) n u l tree tree′ (subst (λ (v : ℕ). Putting v emptyRank tree tree′) same put) q,
       )

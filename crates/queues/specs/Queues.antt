@@ -11,7 +11,7 @@ use lib.ListN.{length, getD}
 use lib.Ieee.{Float, binary32, fits, inf}
 use Rattle.basics.specs.Choice.{pick}
 use Rattle.basics.specs.Nodes.{has, Below}
-use Rattle.tournament.specs.Tournament.{rankOf, nothing, Tournament}
+use Rattle.tournament.specs.Tournament.{rankOf, emptyRank, Tournament}
 use Rattle.beam.specs.KeepClosest.{keyAt, worstOf, keepClosest}
 use Rattle.beam.specs.Beam.{toFrontier}
 use Rattle.queues.specs.declared.Popped.{Popped}
@@ -40,7 +40,7 @@ pub record Queue (rank : ℕ → ℕ) (n : ℕ) (nodes tree : List ℕ) : Type 0
   pub leaves : List ℕ
   pub tournament : Tournament leaves tree
   pub many : length leaves ≡ n
-  pub stands : (v : ℕ) → v < n → getD leaves v nothing ≡ pick (has v nodes) (rank v) nothing
+  pub stands : (v : ℕ) → v < n → getD leaves v emptyRank ≡ pick (has v nodes) (rank v) emptyRank
   pub ordered : Ordered rank nodes
   pub inside : Below n nodes
 
@@ -91,7 +91,7 @@ pub record Held (far : ℕ → Float) (size : ℕ) (held tree : List ℕ) : Type
   pub many : length leaves ≡ size
   pub few : size ≤ 1024
   pub within : length keys ≤ size
-  pub stands : (i : ℕ) → i < size → getD leaves i nothing ≡ pick (ltb i (length keys)) (heldRank (getD keys i 0) i) nothing
+  pub stands : (i : ℕ) → i < size → getD leaves i emptyRank ≡ pick (ltb i (length keys)) (heldRank (getD keys i 0) i) emptyRank
   pub as-many : length keys ≡ length held
   pub same : (x : ℕ) → times x keys ≡ times x (map (keyAt far) held)
   pub falling : Falling far held

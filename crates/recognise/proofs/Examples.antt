@@ -7,22 +7,22 @@ use Rattle.basics.specs.Sum.{+zero, +one}
 use Rattle.pipnn.specs.New.{newSpec}
 use Rattle.pipnn.specs.Add.{addSpec}
 use Rattle.calls.specs.Build.{buildSpec}
-use Rattle.calls.specs.Example.{minusOne, added, built}
+use Rattle.calls.specs.Example.{minusOne, added, exampleBuilt}
 use Rattle.score.specs.Recognised.{knownAs, newAs, refusedAs}
 use Rattle.recognise.specs.Recognise.{recogniseSpec}
 
 -- at the limit itself
-itself : recogniseSpec 512 384 (built .1) (built .2) (+one ∷ +zero ∷ []) 3 +zero ≡ knownAs 10 100
+itself : recogniseSpec 512 384 (exampleBuilt .1) (exampleBuilt .2) (+one ∷ +zero ∷ []) 3 +zero ≡ knownAs 10 100
 unfolding recogniseSpec newSpec addSpec buildSpec ofBits toBits add sub mul div lt le eq isNan ofInt toUnsigned round
 itself = refl
 
 -- across from the second phone the two others are nearest, at distance 1
-nobody : recogniseSpec 512 384 (built .1) (built .2) (+zero ∷ minusOne ∷ []) 3 +zero ≡ newAs 0
+nobody : recogniseSpec 512 384 (exampleBuilt .1) (exampleBuilt .2) (+zero ∷ minusOne ∷ []) 3 +zero ≡ newAs 0
 unfolding recogniseSpec newSpec addSpec buildSpec ofBits toBits add sub mul div lt le eq isNan ofInt toUnsigned round
 nobody = refl
 
 -- 13 comes last: after 10, of an open store
-no-limit : recogniseSpec 512 384 (built .1) (built .2) (+one ∷ +zero ∷ []) 3 (inf false) ≡ refusedAs 13
+no-limit : recogniseSpec 512 384 (exampleBuilt .1) (exampleBuilt .2) (+one ∷ +zero ∷ []) 3 (inf false) ≡ refusedAs 13
 unfolding recogniseSpec newSpec addSpec buildSpec ofBits toBits add sub mul div lt le eq isNan ofInt toUnsigned round
 no-limit = refl
 

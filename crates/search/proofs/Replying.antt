@@ -32,8 +32,8 @@ use Rattle.beam.specs.KeepClosest.{keyAt}
 use Rattle.beam.specs.Beam.{farFrom, placesFor, beamSearch, answerOf}
 use Rattle.beam.proofs.Laws.{scored-nodes, scored-few, answer-few}
 use Rattle.beam_search.specs.declared.Walked.{Walked}
-use Rattle.beam_search.specs.Search.{within, nodesIn, Fits, Searched, Searching}
-use Rattle.beam_search.specs.Search.{listIn as listWithin}
+use Rattle.beam_search.specs.Search.{within, nodesIn, SearchFits, Searched, Searching}
+use Rattle.beam_search.specs.Search.{listInWords}
 use Rattle.calls.specs.Search.{Reply}
 use Rattle.search.specs.Docs.{docAt}
 use Rattle.search.specs.declared.Parts.{Parts}
@@ -104,7 +104,7 @@ module _ (w : List ℕ) (f scaled : List Float) (k ef : ℕ) (docs : List ℕ) (
       (omega (arith, stores .room .rows, length-drop (rowsAt (word w capacityAt)) w)) in
       ap (λ (m : ℕ). m / rowSize (word w degreeAt)) size ∙ mul-div-cancel n (omega arith)
 
-  lists-same : listWithin n (word w degreeAt) (rowPart w f (stores .room)) (bridgePart w f (stores .room)) ≡ listIn (view w f)
+  lists-same : listInWords n (word w degreeAt) (rowPart w f (stores .room)) (bridgePart w f (stores .room)) ≡ listIn (view w f)
   lists-same i u =
       (ap₂ (λ rows bridges. within n (listOf rows bridges u)) (rows-part w f (stores .room)) (bridges-part w f (stores .room))
       ∙ within-all n (listIn (view w f) u) (lists-inside w f (stores .rest) u))
@@ -124,7 +124,7 @@ module _ (w : List ℕ) (f scaled : List Float) (k ef : ℕ) (docs : List ℕ) (
       (omega (arith, words, stores .header .nodes), omega (arith, floats, stores .header .nodes))
 
   module _ (nodes nodes′ : List ℕ) (far-off far-off′ : List Float) (r : Walked) (nodes-many : length nodes ≡ min k n) (distances-many : length far-off ≡ min k n) where
-    fits : Fits n (word w entryAt) scaled (bridgePart w f (stores .room)) nodes far-off ws fs
+    fits : SearchFits n (word w entryAt) scaled (bridgePart w f (stores .room)) nodes far-off ws fs
     fits = record {
       entry-below = built .entry;
       few = few;
@@ -152,8 +152,8 @@ module _ (w : List ℕ) (f scaled : List Float) (k ef : ℕ) (docs : List ℕ) (
         let bridges : List ℕ = bridgePart w f (stores .room) in
         let D : ℕ = word w degreeAt in
         let at : ℕ → Float = farFrom scaled (vectorsIn (length scaled) (vectorPart w f (stores .room))) in
-        let counted : Left n (listWithin n D rows bridges) at (length nodes) =
-        subst (λ (m : ℕ). Fits m (word w entryAt) scaled bridges nodes far-off ws fs → Left m (listWithin m D rows bridges) at (length nodes)) rows-many walk fits in
+        let counted : Left n (listInWords n D rows bridges) at (length nodes) =
+        subst (λ (m : ℕ). SearchFits m (word w entryAt) scaled bridges nodes far-off ws fs → Left m (listInWords m D rows bridges) at (length nodes)) rows-many walk fits in
         let listed : Left n (listIn (view w f)) at (length nodes) = subst (λ (l : ℕ → List ℕ). Left n l at (length nodes)) lists-same counted in
         let measured : Left n (listIn (view w f)) far (length nodes) = subst (λ (g : ℕ → Float). Left n (listIn (view w f)) g (length nodes)) far-same listed in
         let limited : Left n (listIn (view w f)) far (min k n) = subst (λ (m : ℕ). Left n (listIn (view w f)) far m) nodes-many measured in

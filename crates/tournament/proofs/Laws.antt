@@ -5,13 +5,13 @@ use Prim.Native.Nat.{ℕ, zero, suc, _+_, _*_, _-_, _/_, _≤_, _<_, min}
 use native.Mathlib.Omega.{arith}
 use native.Mathlib.Decide.{ℕ-discrete, decLt}
 use lib.ListN.{length, getD}
-use Rattle.tournament.specs.Tournament.{rankOf, rankAt, nothing, Tournament}
+use Rattle.tournament.specs.Tournament.{rankOf, rankAt, emptyRank, Tournament}
 
 -- some place has this rank
 pub record Winner (leaves : List ℕ) (rank : ℕ) : Type 0 where
   pub place : ℕ
   pub inside : place < length leaves
-  pub wins : getD leaves place nothing ≡ rank
+  pub wins : getD leaves place emptyRank ≡ rank
 
 module _ (leaves tree : List ℕ) (t : Tournament leaves tree) where
   -- pair 1 comes after no pair
@@ -38,7 +38,7 @@ module _ (leaves tree : List ℕ) (t : Tournament leaves tree) where
       up x y z = omega arith
 
   -- no place's rank is below the first pair's
-  pub first-least : (i : ℕ) → i < length leaves → rankAt tree 1 ≤ getD leaves i nothing
+  pub first-least : (i : ℕ) → i < length leaves → rankAt tree 1 ≤ getD leaves i emptyRank
   first-least i h = let l = first-under (length leaves + i) (length leaves + i) (omega arith) (omega arith) (omega arith) in omega (arith, t .leaf i h)
 
   winner-of : (more p : ℕ) → 2 * length leaves ≤ p + more → 1 ≤ p → p < 2 * length leaves → Winner leaves (rankAt tree p)

@@ -12,8 +12,8 @@ abbrev pub rankOf : ℕ → ℕ → ℕ
 rankOf key id = key * 4294967296 + id
 
 -- the rank at an empty place: no rank is above it
-abbrev pub nothing : ℕ
-nothing = 18446744073709551615
+abbrev pub emptyRank : ℕ
+emptyRank = 18446744073709551615
 
 -- the rank of pair p, whose id stands before its key
 abbrev pub rankAt : List ℕ → ℕ → ℕ
@@ -22,7 +22,7 @@ rankAt tree p = rankOf (getD tree (2 * p + 1) 0) (getD tree (2 * p) 0)
 -- The words stand for so many places, with these ranks: below, pair by pair, the places; above, the lesser of each two.
 pub record Tournament (leaves tree : List ℕ) : Type 0 where
   pub size : length leaves ≡ length tree / 4
-  pub leaf : (i : ℕ) → i < length leaves → rankAt tree (length leaves + i) ≡ getD leaves i nothing
+  pub leaf : (i : ℕ) → i < length leaves → rankAt tree (length leaves + i) ≡ getD leaves i emptyRank
   pub inner : (p : ℕ) → 1 ≤ p → p < length leaves → rankAt tree p ≡ min (rankAt tree (2 * p)) (rankAt tree (2 * p + 1))
 
 -- a rank put at a place: of a tree that stands for some places, whichever they are
@@ -37,13 +37,13 @@ firstOf tree = pick (ltb (length tree) 4) (record { key = 0xffff_ffff; id = 0xff
 -- ---- inside this crate
 
 -- pair p gets a rank
-abbrev pub laid : List ℕ → ℕ → ℕ → List ℕ
-laid tree p rank = set (set tree (2 * p) (rank % 4294967296)) (2 * p + 1) (rank / 4294967296)
+abbrev pub withPair : List ℕ → ℕ → ℕ → List ℕ
+withPair tree p rank = set (set tree (2 * p) (rank % 4294967296)) (2 * p + 1) (rank / 4294967296)
 
 -- a tournament but for the pair above pair q
 pub record Open (leaves : List ℕ) (q : ℕ) (tree : List ℕ) : Type 0 where
   pub size : length leaves ≡ length tree / 4
-  pub leaf : (i : ℕ) → i < length leaves → rankAt tree (length leaves + i) ≡ getD leaves i nothing
+  pub leaf : (i : ℕ) → i < length leaves → rankAt tree (length leaves + i) ≡ getD leaves i emptyRank
   pub inner : (p : ℕ) → 1 ≤ p → p < length leaves → (p ≡ q / 2 → ⊥) → rankAt tree p ≡ min (rankAt tree (2 * p)) (rankAt tree (2 * p + 1))
 
 abbrev pub Climbing : ℕ → List ℕ → List ℕ → Type 0

@@ -13,7 +13,7 @@
 ghost use mathlib.Core.Path.{_≡_};
 ghost use Prim.Native.Nat.{_*_, _+_, _-_, _/_, _%_, _<_, min};
 ghost use lib.ListN.{length, replicate};
-ghost use Rattle.tournament.specs.Tournament.{rankOf, rankAt, laid, nothing, Tournament, firstOf, Putting, Climbing};
+ghost use Rattle.tournament.specs.Tournament.{rankOf, rankAt, withPair, emptyRank, Tournament, firstOf, Putting, Climbing};
 
 const NOTHING: u32 = 0xffff_ffff;
 
@@ -37,7 +37,7 @@ fn lesser(a: u64, b: u64) -> u64
 
 // Leaves every place empty.
 pub fn clear(tree: &mut [u32])
-    ensures { λ _. ⌜ Tournament (replicate (length (now (tree .entry)) / 4) nothing) (now (tree .exit)) ⌝ }
+    ensures { λ _. ⌜ Tournament (replicate (length (now (tree .entry)) / 4) emptyRank) (now (tree .exit)) ⌝ }
 {
     let mut i = 0;
     while i < tree.len() {
@@ -57,7 +57,7 @@ fn rank_at(tree: &[u32], p: usize) -> u64
 // Gives pair p a rank.
 fn lay(tree: &mut [u32], p: usize, rank: u64)
     requires { ⌜ 2 * p + 1 < length (now tree) ⌝ }
-    ensures { λ _. ⌜ now (tree .exit) ≡ laid (now (tree .entry)) p rank ⌝ }
+    ensures { λ _. ⌜ now (tree .exit) ≡ withPair (now (tree .entry)) p rank ⌝ }
 {
     tree[2 * p] = (rank % 4294967296) as u32;
     tree[2 * p + 1] = (rank / 4294967296) as u32;

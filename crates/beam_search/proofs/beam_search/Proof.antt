@@ -7,7 +7,7 @@ use lib.ListN.{length}
 use lib.Ieee.{Float}
 use Rattle.vectors.specs.Vectors.{vectorsIn}
 use Rattle.beam.specs.Beam.{farFrom, beamSearch, answerOf}
-use Rattle.beam_search.specs.Search.{listIn, nodesIn, Searched}
+use Rattle.beam_search.specs.Search.{listInWords, nodesIn, Searched}
 use Rattle.beam_search.specs.declared.Walked.{Walked}
 use Rattle.beam_search.proofs.Ending.{Room, has-room, no-room, searched}
 use native.Mathlib.Omega.{arith}
@@ -25,15 +25,15 @@ fitting c = let a = (c .before .before .before .before .before .before .before .
 -- the dimension as a u32 is the query's length
 at-dimension : (query vectors : List Float) (rows : List ℕ) (degree : ℕ) (bridges : List ℕ) (entry b : ℕ) (nodes nodes′ : List ℕ) (distances distances′ : List Float) (r : Walked) (d : ℕ) → d ≡ length query
     → Searched (farFrom query (vectorsIn d vectors))
-    (answerOf (farFrom query (vectorsIn d vectors)) (length nodes) (beamSearch (listIn (nodesIn degree rows) degree rows bridges) (nodesIn degree rows) entry (farFrom query (vectorsIn d vectors)) b))
-    (beamSearch (listIn (nodesIn degree rows) degree rows bridges) (nodesIn degree rows) entry (farFrom query (vectorsIn d vectors)) b) nodes nodes′ distances distances′ r
+    (answerOf (farFrom query (vectorsIn d vectors)) (length nodes) (beamSearch (listInWords (nodesIn degree rows) degree rows bridges) (nodesIn degree rows) entry (farFrom query (vectorsIn d vectors)) b))
+    (beamSearch (listInWords (nodesIn degree rows) degree rows bridges) (nodesIn degree rows) entry (farFrom query (vectorsIn d vectors)) b) nodes nodes′ distances distances′ r
     → Searched (farFrom query (vectorsIn (length query) vectors))
-    (answerOf (farFrom query (vectorsIn (length query) vectors)) (length nodes) (beamSearch (listIn (nodesIn degree rows) degree rows bridges) (nodesIn degree rows) entry (farFrom query (vectorsIn (length query) vectors)) b))
-    (beamSearch (listIn (nodesIn degree rows) degree rows bridges) (nodesIn degree rows) entry (farFrom query (vectorsIn (length query) vectors)) b) nodes nodes′ distances distances′ r
+    (answerOf (farFrom query (vectorsIn (length query) vectors)) (length nodes) (beamSearch (listInWords (nodesIn degree rows) degree rows bridges) (nodesIn degree rows) entry (farFrom query (vectorsIn (length query) vectors)) b))
+    (beamSearch (listInWords (nodesIn degree rows) degree rows bridges) (nodesIn degree rows) entry (farFrom query (vectorsIn (length query) vectors)) b) nodes nodes′ distances distances′ r
 at-dimension query vectors rows degree bridges entry b nodes nodes′ distances distances′ r d e =
     subst (λ (k : ℕ). Searched (farFrom query (vectorsIn k vectors))
-    (answerOf (farFrom query (vectorsIn k vectors)) (length nodes) (beamSearch (listIn (nodesIn degree rows) degree rows bridges) (nodesIn degree rows) entry (farFrom query (vectorsIn k vectors)) b))
-    (beamSearch (listIn (nodesIn degree rows) degree rows bridges) (nodesIn degree rows) entry (farFrom query (vectorsIn k vectors)) b) nodes nodes′ distances distances′ r) e
+    (answerOf (farFrom query (vectorsIn k vectors)) (length nodes) (beamSearch (listInWords (nodesIn degree rows) degree rows bridges) (nodesIn degree rows) entry (farFrom query (vectorsIn k vectors)) b))
+    (beamSearch (listInWords (nodesIn degree rows) degree rows bridges) (nodesIn degree rows) entry (farFrom query (vectorsIn k vectors)) b) nodes nodes′ distances distances′ r) e
 
 add-size : tie.Need-add-size
 add-size c = search needs
@@ -93,7 +93,7 @@ returns-2 c =
     let rested = w .ensures (fits .ends-below) (a .nodes .now) (a .entry .0 ∷ []) (a .entry .0 ∷ []) begun in
     at-dimension (a .query .now) (a .vectors .now) (a .rows .now) (a .degree) (a .bridges .now) (a .entry .0) (a .places) (a .nodes .now) (w .last .1 .1 .0) (a .distances .now) (told .last .0) _ (d .result)
     (omega (arith, d .ensures, room .components))
-    (searched (farFrom (a .query .now) (vectorsIn (d .result) (a .vectors .now))) n (a .places) (a .entry .0) (listIn n (a .degree) (a .rows .now) (a .bridges .now))
+    (searched (farFrom (a .query .now) (vectorsIn (d .result) (a .vectors .now))) n (a .places) (a .entry .0) (listInWords n (a .degree) (a .rows .now) (a .bridges .now))
     (w .last .0) (w .last .1 .0) (a .nodes .now) (w .last .1 .1 .0) (rested .front) (w .result) (a .distances .now) (told .last .0) (c .small2 .result)
     (rested .stands) (omega (arith, room .scratch, w .kept .0, s .kept .0)) (fits .few) (fits .told) (told .ensures) (c .small2 .ensures))
 

@@ -1,7 +1,7 @@
 -- `beam_search::step` meets its contract, by where it ends: an empty frontier, too far, or a list looked at. Assumes nothing.
 use Rattle.vectors.specs.Vectors.{vectorsIn}
 use Rattle.beam.specs.Beam.{farFrom}
-use Rattle.beam_search.specs.Search.{listIn}
+use Rattle.beam_search.specs.Search.{listInWords}
 use Rattle.beam_search.proofs.Walking.{step-empty, step-far, step-on}
 use Rattle.beam_search.proofs.Full.{within-below}
 use borrow.Author.Needs.{needs}
@@ -42,7 +42,7 @@ same-length-2 : tie.Need-same-length-2
 same-length-2 c = search needs
 
 returns : tie.Need-returns
-returns c = let a = (c .before .before .before .before .before .before .before .before .before .before .before .before .before .before .before) .args in step-empty (a .bridges .now) (a .links .now) (farFrom (a .query .now) (vectorsIn (a .dimension) (a .vectors .now))) (a .size) (a .places) (listIn (a .size) (a .degree) (a .rows .now) (a .bridges .now)) (a .words .now) (c .before .before .before .before .pop .last .0) (a .floats .now) (a .nodes .now) (a .walk) ((c .before .before .before .before .before .before .before .before .before .before .before .before .before .before .before) .pre) (c .before .before .before .before .pop .kept .0) (c .before .before .before .before .pop .result) (c .before .before .before .before .pop .ensures) (c .enum-told .given .1)
+returns c = let a = (c .before .before .before .before .before .before .before .before .before .before .before .before .before .before .before) .args in step-empty (a .bridges .now) (a .links .now) (farFrom (a .query .now) (vectorsIn (a .dimension) (a .vectors .now))) (a .size) (a .places) (listInWords (a .size) (a .degree) (a .rows .now) (a .bridges .now)) (a .words .now) (c .before .before .before .before .pop .last .0) (a .floats .now) (a .nodes .now) (a .walk) ((c .before .before .before .before .before .before .before .before .before .before .before .before .before .before .before) .pre) (c .before .before .before .before .pop .kept .0) (c .before .before .before .before .pop .result) (c .before .before .before .before .pop .ensures) (c .enum-told .given .1)
 
 too-far-requires : tie.Need-too-far-requires
 too-far-requires c κs = search needs
@@ -54,7 +54,7 @@ same-length-4 : tie.Need-same-length-4
 same-length-4 c = search needs
 
 returns-2 : tie.Need-returns-2
-returns-2 c = let a = (c .before .before .before .before .before .before .before .before .before .before .before .before .before .before .before .before .before .before) .args in step-far (a .bridges .now) (a .links .now) (farFrom (a .query .now) (vectorsIn (a .dimension) (a .vectors .now))) (a .size) (a .places) (listIn (a .size) (a .degree) (a .rows .now) (a .bridges .now)) (a .words .now) (c .before .before .before .before .before .before .before .pop .last .0) (a .floats .now) (a .nodes .now) (a .walk) ((c .before .before .before .before .before .before .before .before .before .before .before .before .before .before .before .before .before .before) .pre) (c .before .before .before .before .before .before .before .pop .kept .0) (c .before .before .before .before .before .before .before .pop .result) (c .before .before .before .before .before .before .before .pop .ensures) (c .before .before .before .popped .given .0 .0) (c .before .before .before .popped .given .0 .1 .0) (c .before .before .before .popped .given .1) (c .before .too-far .result) (c .before .too-far .ensures) (c .if1 .taken)
+returns-2 c = let a = (c .before .before .before .before .before .before .before .before .before .before .before .before .before .before .before .before .before .before) .args in step-far (a .bridges .now) (a .links .now) (farFrom (a .query .now) (vectorsIn (a .dimension) (a .vectors .now))) (a .size) (a .places) (listInWords (a .size) (a .degree) (a .rows .now) (a .bridges .now)) (a .words .now) (c .before .before .before .before .before .before .before .pop .last .0) (a .floats .now) (a .nodes .now) (a .walk) ((c .before .before .before .before .before .before .before .before .before .before .before .before .before .before .before .before .before .before) .pre) (c .before .before .before .before .before .before .before .pop .kept .0) (c .before .before .before .before .before .before .before .pop .result) (c .before .before .before .before .before .before .before .pop .ensures) (c .before .before .before .popped .given .0 .0) (c .before .before .before .popped .given .0 .1 .0) (c .before .before .before .popped .given .1) (c .before .too-far .result) (c .before .too-far .ensures) (c .if1 .taken)
 
 expand-requires : tie.Need-expand-requires
 expand-requires c κs = search needs
@@ -72,7 +72,7 @@ same-length-7 : tie.Need-same-length-7
 same-length-7 c = search needs
 
 returns-3 : tie.Need-returns-3
-returns-3 c = let a = (c .before .before .before .before .before .before .before .before .before .before .before .before .before .before .before .before .before .before .before .before .before .before .before .before .before .before .before .before .before) .args in step-on (a .bridges .now) (a .links .now) (farFrom (a .query .now) (vectorsIn (a .dimension) (a .vectors .now))) (a .size) (a .places) (listIn (a .size) (a .degree) (a .rows .now) (a .bridges .now)) (a .words .now) (c .before .before .before .before .before .before .before .before .before .before .before .before .before .before .before .before .before .before .pop .last .0) (a .floats .now) (a .nodes .now) (a .walk) ((c .before .before .before .before .before .before .before .before .before .before .before .before .before .before .before .before .before .before .before .before .before .before .before .before .before .before .before .before .before) .pre) (c .before .before .before .before .before .before .before .before .before .before .before .before .before .before .before .before .before .before .pop .kept .0) (c .before .before .before .before .before .before .before .before .before .before .before .before .before .before .before .before .before .before .pop .result) (c .before .before .before .before .before .before .before .before .before .before .before .before .before .before .before .before .before .before .pop .ensures) (c .before .before .before .before .before .before .before .before .before .before .before .before .before .before .popped .given .0 .0) (c .before .before .before .before .before .before .before .before .before .before .before .before .before .before .popped .given .0 .1 .0) (c .before .before .before .before .before .before .before .before .before .before .before .before .before .before .popped .given .1) (c .before .before .before .before .before .before .before .before .before .before .before .before .too-far .result) (c .before .before .before .before .before .before .before .before .before .before .before .before .too-far .ensures) (c .before .before .before .before .before .before .before .expand .last .0) (c .before .before .before .before .before .before .before .expand .last .1 .0) (c .before .before .before .before .before .before .before .expand .last .1 .1 .0) (c .before .before .before .before .before .before .before .expand .result) (c .ends-after .result) (c .before .before .before .before .before .before .before .before .before .before .before .if1 .left) (λ u y m. within-below (a .size) _ y m) (c .before .before .before .before .before .before .before .expand .ensures) (c .ends-after .ensures)
+returns-3 c = let a = (c .before .before .before .before .before .before .before .before .before .before .before .before .before .before .before .before .before .before .before .before .before .before .before .before .before .before .before .before .before) .args in step-on (a .bridges .now) (a .links .now) (farFrom (a .query .now) (vectorsIn (a .dimension) (a .vectors .now))) (a .size) (a .places) (listInWords (a .size) (a .degree) (a .rows .now) (a .bridges .now)) (a .words .now) (c .before .before .before .before .before .before .before .before .before .before .before .before .before .before .before .before .before .before .pop .last .0) (a .floats .now) (a .nodes .now) (a .walk) ((c .before .before .before .before .before .before .before .before .before .before .before .before .before .before .before .before .before .before .before .before .before .before .before .before .before .before .before .before .before) .pre) (c .before .before .before .before .before .before .before .before .before .before .before .before .before .before .before .before .before .before .pop .kept .0) (c .before .before .before .before .before .before .before .before .before .before .before .before .before .before .before .before .before .before .pop .result) (c .before .before .before .before .before .before .before .before .before .before .before .before .before .before .before .before .before .before .pop .ensures) (c .before .before .before .before .before .before .before .before .before .before .before .before .before .before .popped .given .0 .0) (c .before .before .before .before .before .before .before .before .before .before .before .before .before .before .popped .given .0 .1 .0) (c .before .before .before .before .before .before .before .before .before .before .before .before .before .before .popped .given .1) (c .before .before .before .before .before .before .before .before .before .before .before .before .too-far .result) (c .before .before .before .before .before .before .before .before .before .before .before .before .too-far .ensures) (c .before .before .before .before .before .before .before .expand .last .0) (c .before .before .before .before .before .before .before .expand .last .1 .0) (c .before .before .before .before .before .before .before .expand .last .1 .1 .0) (c .before .before .before .before .before .before .before .expand .result) (c .ends-after .result) (c .before .before .before .before .before .before .before .before .before .before .before .if1 .left) (λ u y m. within-below (a .size) _ y m) (c .before .before .before .before .before .before .before .expand .ensures) (c .ends-after .ensures)
 
 pub step-spec : {M : Type 1} → statement M
 step-spec =

@@ -2,7 +2,7 @@
 use mathlib.Core.Path.{_∙_}
 use Rattle.vectors.specs.Vectors.{vectorsIn}
 use Rattle.beam.specs.Beam.{farFrom}
-use Rattle.beam_search.specs.Search.{listIn}
+use Rattle.beam_search.specs.Search.{listInWords}
 use Rattle.beam_search.proofs.Walking.{Onward, onward-none, onward-more, onward-ends, onward-all}
 use borrow.Author.Needs.{needs}
 use native.Mathlib.Omega.{arith}
@@ -11,14 +11,14 @@ use Rattle.beam_search.proofs.walk_on.Tie as tie
 
 abbrev Inv-loop : tie.InvT-loop
 Inv-loop words₀ floats₀ nodes₀ query vectors dimension rows degree bridges links size places now₀ left₀ words floats nodes now left =
-    Onward bridges links (farFrom query (vectorsIn dimension vectors)) size places (listIn size degree rows bridges) words₀ floats₀ nodes₀ now₀ words floats nodes now left
+    Onward bridges links (farFrom query (vectorsIn dimension vectors)) size places (listInWords size degree rows bridges) words₀ floats₀ nodes₀ now₀ words floats nodes now left
 
 abbrev μ-loop : tie.MeasureT-loop
 μ-loop words₀ floats₀ nodes₀ query vectors dimension rows degree bridges links size places now₀ left₀ words floats nodes now left =
     left
 
 loop-holds : tie.Need-loop-holds Inv-loop μ-loop
-loop-holds c = let a = (c .before .before .before .before .before .before .before .before) .args in onward-none (a .bridges .now) (a .links .now) (farFrom (a .query .now) (vectorsIn (a .dimension) (a .vectors .now))) (a .size) (a .places) (listIn (a .size) (a .degree) (a .rows .now) (a .bridges .now)) (a .words .now) (a .floats .now) (a .nodes .now) (a .walk)
+loop-holds c = let a = (c .before .before .before .before .before .before .before .before) .args in onward-none (a .bridges .now) (a .links .now) (farFrom (a .query .now) (vectorsIn (a .dimension) (a .vectors .now))) (a .size) (a .places) (listInWords (a .size) (a .degree) (a .rows .now) (a .bridges .now)) (a .words .now) (a .floats .now) (a .nodes .now) (a .walk)
 
 sub-left : tie.Need-sub-left Inv-loop μ-loop
 sub-left c = search needs

@@ -4,7 +4,7 @@ use mathlib.Core.List.{List}
 use lib.ListN.{length, length-map}
 use lib.Ieee.{Float}
 use Rattle.vectors.specs.Vectors.{vectorsIn, between}
-use Rattle.hashprune.specs.Steps.{turned}
+use Rattle.hashprune.specs.Steps.{rowAfter}
 use Rattle.hashprune.proofs.Meaning.{turn-is}
 use native.Mathlib.Omega.{arith}
 use borrow.Author.Needs.{needs}
@@ -36,7 +36,7 @@ returns-5 : tie.Need-returns-5
 returns-5 c = λ old t.
     let a = c .before .before .before .before .before .before .before .before .before .before .before .before .before .before .args in
     c .before .before .insert-fitting .ensures
-    ∙ ap (λ (v : List Float). turned (a .vectors .now) (a .dimension) (a .bits) (a .planes .now) v (a .candidates .now) (a .far .now) (a .row .now)) (c .before .before .before .before .get-vector .ensures)
+    ∙ ap (λ (v : List Float). rowAfter (a .vectors .now) (a .dimension) (a .bits) (a .planes .now) v (a .candidates .now) (a .far .now) (a .row .now)) (c .before .before .before .before .get-vector .ensures)
     ∙ turn-is (a .vectors .now) (a .dimension) (a .bits) (a .planes .now) (a .p .0) (a .candidates .now) (a .far .now) (a .row .now) old t
 
 pub hashprune-insert-spec : {M : Type 1} → statement M

@@ -6,13 +6,13 @@ use mathlib.Core.Path.{_≡_, refl, _∙_}
 use Prim.Native.Nat.{_-_, _≤_, _<_}
 use lib.ListN.{length, getD, length-set}
 use Rattle.basics.proofs.Members.{in-getD}
-use Rattle.leaf_candidates.specs.Candidates.{nodeIn, farIn}
+use Rattle.leaf_candidates.specs.Candidates.{nodeIn, farInLane}
 use Rattle.leaf_candidates.proofs.Offers.{Copied, copied-none, copied-more, copied-all}
 use Rattle.leaf_candidates.proofs.gather.Statement.{statement}
 use Rattle.leaf_candidates.proofs.gather.Tie as tie
 
 abbrev Inv-loop : tie.InvT-loop
-Inv-loop leaf floats lane places candidates₀ far₀ c₀ candidates far c = (c ≤ length places) × (length candidates ≡ length candidates₀) × (length far ≡ length far₀) × Copied (nodeIn leaf) places candidates₀ c candidates × Copied (farIn floats lane) places far₀ c far
+Inv-loop leaf floats lane places candidates₀ far₀ c₀ candidates far c = (c ≤ length places) × (length candidates ≡ length candidates₀) × (length far ≡ length far₀) × Copied (nodeIn leaf) places candidates₀ c candidates × Copied (farInLane floats lane) places far₀ c far
 
 abbrev μ-loop : tie.MeasureT-loop
 μ-loop leaf floats lane places candidates₀ far₀ c₀ candidates far c = length places - c
@@ -28,7 +28,7 @@ loop-holds c =
       refl,
       refl,
       copied-none (nodeIn (x .leaf .now)) (x .places .now) (x .candidates .now) (c .pre .2),
-      copied-none (farIn (x .floats .now) (x .lane)) (x .places .now) (x .far .now) (c .pre .3),
+      copied-none (farInLane (x .floats .now) (x .lane)) (x .places .now) (x .far .now) (c .pre .3),
     )
 
 cast-place : tie.Need-cast-place Inv-loop μ-loop
@@ -61,7 +61,7 @@ loop-again c =
       length-set (l .candidates) (l .c) _ ∙ l .inv .1,
       length-set (l .far) (l .c) _ ∙ l .inv .2,
       copied-more (nodeIn (x .leaf .now)) (x .places .now) (x .candidates .now) (s .pre .2) (l .c) (l .candidates) _ (c .before .before .before .loop-test .taken) refl (l .inv .3),
-      copied-more (farIn (x .floats .now) (x .lane)) (x .places .now) (x .far .now) (s .pre .3) (l .c) (l .far) _ (c .before .before .before .loop-test .taken) refl (l .inv .4),
+      copied-more (farInLane (x .floats .now) (x .lane)) (x .places .now) (x .far .now) (s .pre .3) (l .c) (l .far) _ (c .before .before .before .loop-test .taken) refl (l .inv .4),
     )
 
 same-length : tie.Need-same-length Inv-loop μ-loop
@@ -77,7 +77,7 @@ returns c =
     let x = s .args in
     record {
       nodes = copied-all (nodeIn (x .leaf .now)) (x .places .now) (x .candidates .now) (s .pre .2) (l .c) (l .candidates) (c .loop-test .left) (l .inv .0) (l .inv .3);
-      fars = copied-all (farIn (x .floats .now) (x .lane)) (x .places .now) (x .far .now) (s .pre .3) (l .c) (l .far) (c .loop-test .left) (l .inv .0) (l .inv .4);
+      fars = copied-all (farInLane (x .floats .now) (x .lane)) (x .places .now) (x .far .now) (s .pre .3) (l .c) (l .far) (c .loop-test .left) (l .inv .0) (l .inv .4);
     }
 
 pub gather-spec : {M : Type 1} → statement M

@@ -8,7 +8,7 @@ use lib.ListN.{length}
 use lib.Dec.{ltb}
 use borrow.Author.Tests.{ltb-true, ltb-false}
 use Rattle.basics.proofs.Tests.{both-true, one-false}
-use Rattle.marking.specs.Marking.{Marks, marks, listWords, visited, walked, marked}
+use Rattle.marking.specs.Marking.{Marks, marks, listWords, visited, markedFrom, marked}
 use Rattle.marking.proofs.Steps.{walk-step, walk-end, walk-end-fuel}
 use borrow.Author.Needs.{needs}
 use native.Mathlib.Omega.{arith}
@@ -16,7 +16,7 @@ use Rattle.marking.proofs.mark_reachable.Statement.{statement}
 use Rattle.marking.proofs.mark_reachable.Tie as tie
 
 abbrev Inv-loop : tie.InvT-loop
-Inv-loop rows degree bridges links state₀ n top₀ more₀ state top more = (length state ≡ length state₀) × (top < 2 ^ 32) × (walked n (listWords degree n rows bridges links) more state top ≡ walked n (listWords degree n rows bridges links) n state₀ top₀)
+Inv-loop rows degree bridges links state₀ n top₀ more₀ state top more = (length state ≡ length state₀) × (top < 2 ^ 32) × (markedFrom n (listWords degree n rows bridges links) more state top ≡ markedFrom n (listWords degree n rows bridges links) n state₀ top₀)
 
 abbrev μ-loop : tie.MeasureT-loop
 μ-loop rows degree bridges links state₀ n top₀ more₀ state top more = more
@@ -29,13 +29,13 @@ inside : (c : tie.In-loop Inv-loop μ-loop) → (0 < c .before .loop .top) × (0
 inside c = let t = both-true (ltb 0 (c .before .loop .top)) (ltb 0 (c .before .loop .more)) (c .loop-test .taken) in (ltb-true _ _ (t .0), ltb-true _ _ (t .1))
 
 -- it ends where one of the two ends
-ended : (list : ℕ → List ℕ) (n more top : ℕ) (words : List ℕ) → (ltb 0 top ≡ false) ⊎ (ltb 0 more ≡ false) → words ≡ walked n list more words top
+ended : (list : ℕ → List ℕ) (n more top : ℕ) (words : List ℕ) → (ltb 0 top ≡ false) ⊎ (ltb 0 more ≡ false) → words ≡ markedFrom n list more words top
 ended list n more top words (inl e) = walk-end n list more top words (omega (arith, ltb-false 0 top e))
 ended list n more top words (inr e) = walk-end-fuel n list more top words (omega (arith, ltb-false 0 more e))
 
-start : (list : ℕ → List ℕ) (n s : ℕ) (words words′ : List ℕ) (top : ℕ) → marks words′ top ≡ visited n s (marks words 0) → walked n list n words′ top ≡ marked n list s words
+start : (list : ℕ → List ℕ) (n s : ℕ) (words words′ : List ℕ) (top : ℕ) → marks words′ top ≡ visited n s (marks words 0) → markedFrom n list n words′ top ≡ marked n list s words
 unfolding marked
-start list n s words words′ top e = ap (λ (r : Marks). walked n list n (r .words) (r .top)) e
+start list n s words words′ top e = ap (λ (r : Marks). markedFrom n list n (r .words) (r .top)) e
 
 loop-holds : tie.Need-loop-holds Inv-loop μ-loop
 loop-holds c = (refl, omega arith, refl)

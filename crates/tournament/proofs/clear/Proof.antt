@@ -4,7 +4,7 @@ use mathlib.Core.Path.{_≡_, refl, sym, ap, _∙_, subst}
 use Prim.Native.Nat.{ℕ, _-_, _/_, _≤_}
 use lib.ListN.{length, replicate}
 use Rattle.slices.proofs.Laws.{filled, filled-more, filled-length, filled-end}
-use Rattle.tournament.specs.Tournament.{nothing, Tournament}
+use Rattle.tournament.specs.Tournament.{emptyRank, Tournament}
 use Rattle.tournament.proofs.Settling.{all-empty}
 use native.Mathlib.Omega.{arith}
 use Rattle.tournament.proofs.clear.Statement.{statement}
@@ -46,7 +46,7 @@ returns : tie.Need-returns Inv-loop μ-loop
 returns c =
     let n = kept (c .before) in
     let t = c .before .before .args .tree .now in
-    subst (Tournament (replicate (length t / 4) nothing)) (sym (c .before .loop .inv .1 ∙ filled-end {A = ℕ} 0xffff_ffff t (c .before .loop .i) (omega arith))) (all-empty t)
+    subst (Tournament (replicate (length t / 4) emptyRank)) (sym (c .before .loop .inv .1 ∙ filled-end {A = ℕ} 0xffff_ffff t (c .before .loop .i) (omega arith))) (all-empty t)
 
 pub clear-spec : {M : Type 1} → statement M
 clear-spec =

@@ -3,7 +3,7 @@ use mathlib.Core.Path.{_∙_, ap, sym, subst}
 use mathlib.Core.List.{List}
 use Prim.Native.Nat.{ℕ, _+_, _/_}
 use lib.ListN.{length, set}
-use Rattle.tournament.specs.Tournament.{rankAt, laid, Open}
+use Rattle.tournament.specs.Tournament.{rankAt, withPair, Open}
 use Rattle.tournament.proofs.Settling.{open-put, laid-here, laid-length}
 use native.Mathlib.Omega.{arith}
 use borrow.Author.Needs.{needs}
@@ -41,7 +41,7 @@ returns-2 c =
     let t = a .tree .now in
     let k = c .before .before .before .before .before .before .before .before .rank .ensures in
     let l = c .before .before .before .before .before .before .lay .ensures in
-    λ leaves x h. c .before .before .climb .ensures _ (subst (Open (set leaves (a .place) _) (length t / 4 + a .place)) (sym (l ∙ ap (laid t (length t / 4 + a .place)) k)) (open-put leaves t (a .place) _ x h))
+    λ leaves x h. c .before .before .climb .ensures _ (subst (Open (set leaves (a .place) _) (length t / 4 + a .place)) (sym (l ∙ ap (withPair t (length t / 4 + a .place)) k)) (open-put leaves t (a .place) _ x h))
 
 pub put-spec : {M : Type 1} → statement M
 put-spec =
