@@ -167,7 +167,7 @@ def closing(text, at):
 
 
 def refusals(files):
-    """Of the definitions: each `check (..) N` and each `(Refused N)`."""
+    """Of the definitions: each `check (..) N` and each refusal with no values, `(N, [])`."""
     numbers = set()
     for name, text in files.items():
         if re.fullmatch(r"crates/\w+/specs/\w+\.antt", name):
@@ -176,7 +176,7 @@ def refusals(files):
                 if not number:
                     raise Unreadable(f"{name}: a check without a number: '{text[test.start():test.end() + 40]}'")
                 numbers.add(int(number[1]))
-            numbers |= {int(n) for n in re.findall(r"\(Refused (\d+)\)", text)}
+            numbers |= {int(n) for n in re.findall(r"\((\d+), \[\]\)", text)}
     return numbers
 
 
