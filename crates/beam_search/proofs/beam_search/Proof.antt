@@ -35,12 +35,6 @@ at-dimension query vectors rows degree bridges entry b nodes nodes′ distances 
     (answerOf (farFrom query (vectorsIn k vectors)) (length nodes) (beamSearch (listInWords (nodesIn degree rows) degree rows bridges) (nodesIn degree rows) entry (farFrom query (vectorsIn k vectors)) b))
     (beamSearch (listInWords (nodesIn degree rows) degree rows bridges) (nodesIn degree rows) entry (farFrom query (vectorsIn k vectors)) b) nodes nodes′ distances distances′ r) e
 
-add-size : tie.Need-add-size
-add-size c = search needs
-
-div-size : tie.Need-div-size
-div-size c = search needs
-
 returns : tie.Need-returns
 returns c =
     let a = (c .before .before .before .before .before .before .before .before .before) .args in
@@ -48,9 +42,6 @@ returns c =
     absurd
     (no-room (length (a .words .now)) (length (a .query .now)) (nodesIn (a .degree) (a .rows .now)) (length (a .bridges .now)) (c .if1 .taken)
     (record { scratch = omega (arith, fits .words-room); components = omega (arith, fits .dimension); nodes = fits .few; pairs = omega (arith, fits .bridges-few) }))
-
-small-requires : tie.Need-small-requires
-small-requires c κs = search needs
 
 start-requires : tie.Need-start-requires
 start-requires c κs = omega (arith, fitting (c .before .before .before .before) .scratch)
@@ -60,24 +51,6 @@ walk-linked-requires c κs =
     let room = fitting (c .before .before .before .before .before .before .before .before .before .before .before .before .before .before) in
     let k = c .before .before .before .before .before .before .before .before .before .start .kept .0 in
     (omega (arith, room .scratch, k), (room .nodes, room .pairs))
-
-tell-requires : tie.Need-tell-requires
-tell-requires c κs = search needs
-
-small-requires-2 : tie.Need-small-requires-2
-small-requires-2 c κs = search needs
-
-same-length : tie.Need-same-length
-same-length c = search needs
-
-same-length-2 : tie.Need-same-length-2
-same-length-2 c = search needs
-
-same-length-3 : tie.Need-same-length-3
-same-length-3 c = search needs
-
-same-length-4 : tie.Need-same-length-4
-same-length-4 c = search needs
 
 returns-2 : tie.Need-returns-2
 returns-2 c =
@@ -101,16 +74,13 @@ pub beam-search-spec : {M : Type 1} → statement M
 beam-search-spec =
     tie.close
     (tie.spec
-    add-size
-    div-size
+    -- size
+    (λ c. search needs) (λ c. search needs)
     returns
-    small-requires
+    -- small
+    (λ c κs. search needs)
     start-requires
     walk-linked-requires
-    tell-requires
-    small-requires-2
-    same-length
-    same-length-2
-    same-length-3
-    same-length-4
+    -- tell, small, lengths stay
+    (λ c κs. search needs) (λ c κs. search needs) (λ c. search needs) (λ c. search needs) (λ c. search needs) (λ c. search needs)
     returns-2)

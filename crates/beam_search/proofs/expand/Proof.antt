@@ -9,20 +9,8 @@ use borrow.Author.Needs.{needs}
 use Rattle.beam_search.proofs.expand.Statement.{statement}
 use Rattle.beam_search.proofs.expand.Tie as tie
 
-gather-requires : tie.Need-gather-requires
-gather-requires c κs = search needs
-
 take-in-requires : tie.Need-take-in-requires
 take-in-requires c κs = let k = c .before .before .before .before .before .gather .kept .0 in omega (arith, (c .before .before .before .before .before .before .before .before .before .before .before .before .before .before .before) .pre)
-
-same-length : tie.Need-same-length
-same-length c = search needs
-
-same-length-2 : tie.Need-same-length-2
-same-length-2 c = search needs
-
-same-length-3 : tie.Need-same-length-3
-same-length-3 c = search needs
 
 returns : tie.Need-returns
 returns c =
@@ -37,4 +25,10 @@ returns c =
 pub expand-spec : {M : Type 1} → statement M
 expand-spec =
     tie.close
-    (tie.spec gather-requires take-in-requires same-length same-length-2 same-length-3 returns)
+    (tie.spec
+    -- gather
+    (λ c κs. search needs)
+    take-in-requires
+    -- lengths stay
+    (λ c. search needs) (λ c. search needs) (λ c. search needs)
+    returns)

@@ -16,24 +16,6 @@ abbrev μ-loop : tie.MeasureT-loop
 loop-holds : tie.Need-loop-holds Inv-loop μ-loop
 loop-holds c = let a = (c .before .before) .args in chaining-none (a .n) (a .bridges .now) (a .links .now)
 
-cast-bridge : tie.Need-cast-bridge Inv-loop μ-loop
-cast-bridge c = search needs
-
-end-of-requires : tie.Need-end-of-requires Inv-loop μ-loop
-end-of-requires c κs = search needs
-
-end-of-requires-2 : tie.Need-end-of-requires-2 Inv-loop μ-loop
-end-of-requires-2 c κs = search needs
-
-chain-bridge-requires : tie.Need-chain-bridge-requires Inv-loop μ-loop
-chain-bridge-requires c κs = search needs
-
-add-j : tie.Need-add-j Inv-loop μ-loop
-add-j c = search needs
-
-loop-less : tie.Need-loop-less Inv-loop μ-loop
-loop-less c = search needs
-
 loop-again : tie.Need-loop-again Inv-loop μ-loop
 loop-again c =
     let at = c .before .before .before .before .before .before .before in
@@ -62,12 +44,8 @@ link-bridges-spec =
     Inv-loop
     μ-loop
     loop-holds
-    cast-bridge
-    end-of-requires
-    end-of-requires-2
-    chain-bridge-requires
-    add-j
-    loop-less
+    -- bridge, end_of, chain_bridge, j, the loop measure
+    (λ c. search needs) (λ c κs. search needs) (λ c κs. search needs) (λ c κs. search needs) (λ c. search needs) (λ c. search needs)
     loop-again
     same-length
     returns)

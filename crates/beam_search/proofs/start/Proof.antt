@@ -9,27 +9,12 @@ use borrow.Author.Needs.{needs}
 use Rattle.beam_search.proofs.start.Statement.{statement}
 use Rattle.beam_search.proofs.start.Tie as tie
 
-prepare-requires : tie.Need-prepare-requires
-prepare-requires c κs = search needs
-
 float-from-bits-t15 : tie.Need-float-from-bits-t15
 unfolding nanBits
 float-from-bits-t15 c = tt
 
-begin-requires : tie.Need-begin-requires
-begin-requires c κs = search needs
-
 take-in-requires : tie.Need-take-in-requires
 take-in-requires c κs = let k = c .before .before .before .before .before .begin .kept .0 in let j = c .before .before .before .before .before .before .before .before .before .prepare .kept .0 in omega (arith, (c .before .before .before .before .before .before .before .before .before .before .before .before .before .before .before .before) .pre)
-
-same-length : tie.Need-same-length
-same-length c = search needs
-
-same-length-2 : tie.Need-same-length-2
-same-length-2 c = search needs
-
-same-length-3 : tie.Need-same-length-3
-same-length-3 c = search needs
 
 returns : tie.Need-returns
 unfolding ofBits
@@ -45,11 +30,12 @@ pub start-spec : {M : Type 1} → statement M
 start-spec =
     tie.close
     (tie.spec
-    prepare-requires
+    -- prepare
+    (λ c κs. search needs)
     float-from-bits-t15
-    begin-requires
+    -- begin
+    (λ c κs. search needs)
     take-in-requires
-    same-length
-    same-length-2
-    same-length-3
+    -- lengths stay
+    (λ c. search needs) (λ c. search needs) (λ c. search needs)
     returns)

@@ -27,26 +27,8 @@ kept c =
     let m = room (c .before) in
     ap length (c .loop .inv .1) ∙ told-length (λ v. getD (a .floats .now) v (inf false)) (a .nodes .now) (a .distances .now) (c .loop .i) (omega (arith, c .loop .inv .0)) (omega (arith, c .loop .inv .0))
 
-lesser-requires : tie.Need-lesser-requires Inv-loop μ-loop
-lesser-requires c κs = search needs
-
-lesser-requires-2 : tie.Need-lesser-requires-2 Inv-loop μ-loop
-lesser-requires-2 c κs = search needs
-
 loop-holds : tie.Need-loop-holds Inv-loop μ-loop
 loop-holds c = (omega arith, refl)
-
-mul-distance-of : tie.Need-mul-t12 Inv-loop μ-loop
-mul-distance-of c = search needs
-
-shared-slice-read-distance-of : tie.Need-shared-slice-read-t14 Inv-loop μ-loop
-shared-slice-read-distance-of c = search needs
-
-distance-of-requires : tie.Need-distance-of-requires Inv-loop μ-loop
-distance-of-requires c κs = search needs
-
-mul-distances : tie.Need-mul-distances Inv-loop μ-loop
-mul-distances c = search needs
 
 slice-write-distances : tie.Need-slice-write-distances Inv-loop μ-loop
 slice-write-distances c = let k = kept (c .before .before .before) in let m = room (c .before .before .before .before) in omega arith
@@ -84,13 +66,11 @@ tell-spec =
     (tie.spec
     Inv-loop
     μ-loop
-    lesser-requires
-    lesser-requires-2
+    -- lesser
+    (λ c κs. search needs) (λ c κs. search needs)
     loop-holds
-    mul-distance-of
-    shared-slice-read-distance-of
-    distance-of-requires
-    mul-distances
+    -- distance_of, distances
+    (λ c. search needs) (λ c. search needs) (λ c κs. search needs) (λ c. search needs)
     slice-write-distances
     add-i
     loop-less

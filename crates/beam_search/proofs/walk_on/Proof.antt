@@ -20,9 +20,6 @@ abbrev μ-loop : tie.MeasureT-loop
 loop-holds : tie.Need-loop-holds Inv-loop μ-loop
 loop-holds c = let a = (c .before .before .before .before .before .before .before .before) .args in onward-none (a .bridges .now) (a .links .now) (farFrom (a .query .now) (vectorsIn (a .dimension) (a .vectors .now))) (a .size) (a .places) (listInWords (a .size) (a .degree) (a .rows .now) (a .bridges .now)) (a .words .now) (a .floats .now) (a .nodes .now) (a .walk)
 
-sub-left : tie.Need-sub-left Inv-loop μ-loop
-sub-left c = search needs
-
 step-requires : tie.Need-step-requires Inv-loop μ-loop
 step-requires c κs = let o = c .before .before .before .before .loop .inv .words-kept in omega (arith, (c .before .before .before .before .before .before .before .before .before .before .before .before .before) .pre)
 
@@ -37,9 +34,6 @@ same-length-3 c = c .before .before .before .before .before .before .before .bef
 
 returns : tie.Need-returns Inv-loop μ-loop
 returns c = let l = c .before .before .before .before .before .before .before .before .before .before .before .before .before .loop in let s = c .before .before .before .before .before .before .before .before .step in onward-ends (l .inv) (s .last .0) (s .last .1 .0) (s .last .1 .1 .0) (s .result .walk) (s .result .done) (c .before .before .before .before .before .before .before .before .before .before .before .before .loop-test .taken) (s .ensures) (c .if1 .taken)
-
-loop-less : tie.Need-loop-less Inv-loop μ-loop
-loop-less c = search needs
 
 loop-again : tie.Need-loop-again Inv-loop μ-loop
 loop-again c = let l = c .before .before .before .before .before .before .before .before .before .before .before .before .before .loop in let s = c .before .before .before .before .before .before .before .before .step in onward-more (l .inv) (s .last .0) (s .last .1 .0) (s .last .1 .1 .0) (s .result .walk) (s .result .done) (c .before .before .before .before .before .before .before .before .before .before .before .before .loop-test .taken) (s .ensures) (c .if1 .left) (s .kept .0) (s .kept .1 .0) (s .kept .1 .1 .0)
@@ -63,13 +57,15 @@ walk-on-spec =
     Inv-loop
     μ-loop
     loop-holds
-    sub-left
+    -- left
+    (λ c. search needs)
     step-requires
     same-length
     same-length-2
     same-length-3
     returns
-    loop-less
+    -- the loop measure
+    (λ c. search needs)
     loop-again
     same-length-4
     same-length-5

@@ -17,29 +17,14 @@ abbrev μ-loop : tie.MeasureT-loop
 returns : tie.Need-returns Inv-loop μ-loop
 returns c = (refl, λ long. absurd (omega (arith, c .if1 .taken)))
 
-lesser-requires : tie.Need-lesser-requires Inv-loop μ-loop
-lesser-requires c κs = search needs
-
 loop-holds : tie.Need-loop-holds Inv-loop μ-loop
 loop-holds c = let a = (c .before .before .before .before .before) .args in going-none (a .size) (a .places) (a .count) (c .lesser .result) (a .floats .now) (a .words .now) (a .nodes .now) (a .walk)
 
 add-node : tie.Need-add-t16 Inv-loop μ-loop
 add-node c = omega (arith, (c .before .before .before) .if1 .left, (c .before .before) .lesser .ensures, c .loop-test .taken)
 
-mul-node : tie.Need-mul-t17 Inv-loop μ-loop
-mul-node c = search needs
-
-slice-read-node : tie.Need-slice-read-t19 Inv-loop μ-loop
-slice-read-node c = search needs
-
 push-requires : tie.Need-push-requires Inv-loop μ-loop
 push-requires c κs = let g = c .before .before .before .before .loop .inv .words-kept in omega (arith, (c .before .before .before .before .before .before) .if1 .left)
-
-add-i : tie.Need-add-i Inv-loop μ-loop
-add-i c = search needs
-
-loop-less : tie.Need-loop-less Inv-loop μ-loop
-loop-less c = search needs
 
 loop-again : tie.Need-loop-again Inv-loop μ-loop
 loop-again c = let l = c .before .before .before .before .before .before .before .before .before .loop in let p = c .before .before .before .before .push in going-more (l .inv) (c .before .before .before .before .before .before .before .before .before .before .lesser .ensures) (c .before .before .before .before .before .before .before .before .loop-test .taken) (omega (arith, c .before .before .before .before .before .before .before .before .before .before .before .if1 .left)) (p .kept .0) (p .kept .1 .1 .0) (p .ensures .0) (p .ensures .1)
@@ -60,14 +45,15 @@ push-all-spec =
     Inv-loop
     μ-loop
     returns
-    lesser-requires
+    -- lesser
+    (λ c κs. search needs)
     loop-holds
     add-node
-    mul-node
-    slice-read-node
+    -- node
+    (λ c. search needs) (λ c. search needs)
     push-requires
-    add-i
-    loop-less
+    -- i, the loop measure
+    (λ c. search needs) (λ c. search needs)
     loop-again
     same-length
     same-length-2

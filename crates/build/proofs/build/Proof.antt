@@ -24,21 +24,9 @@ zero c = sym (c .before .build-refusal .ensures) ∙ c .if1 .left
 abbrev words : tie.Start → List ℕ
 words s = builtWords (graphFor (view (s .args .words .now) (s .args .floats .now))) (s .args .words .now)
 
-build-refusal-requires : tie.Need-build-refusal-requires
-build-refusal-requires c κs = search needs
-
-same-length : tie.Need-same-length
-same-length c = search needs
-
 returns : tie.Need-returns
 unfolding buildSpec
 returns c = left-alone (refusal (c .before .before .before .before .before .before .before)) _ _ _ _ _ (c .before .build-refusal .ensures) (c .if1 .taken)
-
-word-at-requires : tie.Need-word-at-requires
-word-at-requires c κs = search needs
-
-same-length-2 : tie.Need-same-length-2
-same-length-2 c = search needs
 
 returns-2 : tie.Need-returns-2
 unfolding buildSpec
@@ -49,15 +37,6 @@ returns-2 c =
 
 build-graph-requires : tie.Need-build-graph-requires
 build-graph-requires c κs = zero (c .before .before .before .before .before .before)
-
-same-length-3 : tie.Need-same-length-3
-same-length-3 c = search needs
-
-same-length-4 : tie.Need-same-length-4
-same-length-4 c = search needs
-
-same-length-5 : tie.Need-same-length-5
-same-length-5 c = search needs
 
 returns-3 : tie.Need-returns-3
 unfolding buildSpec
@@ -70,14 +49,13 @@ pub build-spec : {M : Type 1} → statement M
 build-spec =
     tie.close
     (tie.spec
-    build-refusal-requires
-    same-length
+    -- build_refusal, lengths stay
+    (λ c κs. search needs) (λ c. search needs)
     returns
-    word-at-requires
-    same-length-2
+    -- word_at, lengths stay
+    (λ c κs. search needs) (λ c. search needs)
     returns-2
     build-graph-requires
-    same-length-3
-    same-length-4
-    same-length-5
+    -- lengths stay
+    (λ c. search needs) (λ c. search needs) (λ c. search needs)
     returns-3)

@@ -72,40 +72,10 @@ vectors-are c = ap (λ (k : ℕ). take k (f c)) (end-is c)
 part-within : (c : tie.After-row-at) → c .row-at .result - c .before .rows-at .result ≤ length (drop (c .before .rows-at .result) (w c))
 part-within c = omega (arith, to-is c, from-is c, row-end _ _ _ _ (taken (start c)), length-drop (c .before .rows-at .result) (w c))
 
-word-at-requires : tie.Need-word-at-requires
-word-at-requires c κs = search needs
-
-word-at-requires-2 : tie.Need-word-at-requires-2
-word-at-requires-2 c κs = search needs
-
-word-at-requires-3 : tie.Need-word-at-requires-3
-word-at-requires-3 c κs = search needs
-
-params-of-requires : tie.Need-params-of-requires
-params-of-requires c κs = search needs
-
 cast-degree : tie.Need-cast-degree
 cast-degree c =
     let s = c .before .before .before .before .before .before .before .before .before .before .before .before .before in
     omega (arith, ap (λ (q : PipnnParams). q .«max_degree») (c .before .params-of .ensures), degree-small _ _ _ _ (taken s))
-
-floats-size-requires : tie.Need-floats-size-requires
-floats-size-requires c κs = search needs
-
-rows-at-requires : tie.Need-rows-at-requires
-rows-at-requires c κs = search needs
-
-row-at-requires : tie.Need-row-at-requires
-row-at-requires c κs = search needs
-
-mul-put-rows : tie.Need-mul-put-rows
-mul-put-rows c = search needs
-
-sub-put-rows : tie.Need-sub-put-rows
-sub-put-rows c = search needs
-
-part-put-rows-start : tie.Need-part-put-rows-start
-part-put-rows-start c = search needs
 
 part-put-rows-end : tie.Need-part-put-rows-end
 part-put-rows-end c = omega (arith, to-is c, row-end _ _ _ _ (taken (start c)))
@@ -122,9 +92,6 @@ put-rows-requires c κs =
 slice-aggregate-repair : tie.Need-slice-aggregate-repair
 slice-aggregate-repair c = sym (length-take-le _ _ (omega (arith, end-is (c .before .before .before .before .before .before .before .before .before .before .before .before .before), vectors-end _ _ _ _ (taken (start (c .before .before .before .before .before .before .before .before .before .before .before .before .before))))))
 
-slice-aggregate-repair-2 : tie.Need-slice-aggregate-repair-2
-slice-aggregate-repair-2 c = search needs
-
 repair-requires : tie.Need-repair-requires
 repair-requires c κs =
     let r = c .before .before .before .before .before .before .before .before .before .before .before .before .before .before .before .before in
@@ -133,15 +100,6 @@ repair-requires c κs =
     repair-fits-at _ _ _ _ _ _ _ _ _ _ _ _ _ _ (n-is r) (C-is r) (D-is r) (d-is r) (vectors-are r)
     (repair-fits _ _ _ _ (taken (start r)) _ _ _ _ (same-len-mid (r .before .rows-at .result) k (w r) (put .last .0) (put .kept .0)) (omega (arith, length-replicate {A = ℕ} 2048 0))
     (put .kept .1 .1 .1 .1 .1 .0) (put .kept .1 .1 .1 .1 .1 .1 .0))
-
-same-length : tie.Need-same-length
-same-length c = search needs
-
-same-length-2 : tie.Need-same-length-2
-same-length-2 c = search needs
-
-same-length-3 : tie.Need-same-length-3
-same-length-3 c = search needs
 
 returns : tie.Need-returns
 returns c =
@@ -155,24 +113,18 @@ pub build-graph-spec : {M : Type 1} → statement M
 build-graph-spec =
     tie.close
     (tie.spec
-    word-at-requires
-    word-at-requires-2
-    word-at-requires-3
-    params-of-requires
+    -- word_at, params_of
+    (λ c κs. search needs) (λ c κs. search needs) (λ c κs. search needs) (λ c κs. search needs)
     cast-degree
-    floats-size-requires
-    rows-at-requires
-    row-at-requires
-    mul-put-rows
-    sub-put-rows
-    part-put-rows-start
+    -- floats_size, rows_at, row_at, put_rows, part-put-rows-start
+    (λ c κs. search needs) (λ c κs. search needs) (λ c κs. search needs) (λ c. search needs) (λ c. search needs) (λ c. search needs)
     part-put-rows-end
     slice-aggregate-put-rows
     put-rows-requires
     slice-aggregate-repair
-    slice-aggregate-repair-2
+    -- repair
+    (λ c. search needs)
     repair-requires
-    same-length
-    same-length-2
-    same-length-3
+    -- lengths stay
+    (λ c. search needs) (λ c. search needs) (λ c. search needs)
     returns)

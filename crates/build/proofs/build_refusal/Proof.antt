@@ -28,17 +28,11 @@ own c =
     let s = c .before .before .before .before in
     sym (then-second (First s) (Own s) (opening-numbered (Scratch (s .args .scratch-words) (s .args .scratch-floats)) (s .args .words .now) (s .args .floats .now)) (sym (c .before .opening-refusal .ensures) ∙ c .if1 .left))
 
-opening-refusal-requires : tie.Need-opening-refusal-requires
-opening-refusal-requires c κs = search needs
-
 returns : tie.Need-returns
 unfolding buildChecks
 returns c =
     c .before .opening-refusal .ensures
     ∙ sym (then-first (First (c .before .before .before .before)) (Own (c .before .before .before .before)) (λ e. c .if1 .taken (c .before .opening-refusal .ensures ∙ e)))
-
-word-at-requires : tie.Need-word-at-requires
-word-at-requires c κs = search needs
 
 returns-2 : tie.Need-returns-2
 unfolding ownBuildChecks
@@ -53,4 +47,11 @@ returns-3 c =
 
 pub build-refusal-spec : {M : Type 1} → statement M
 build-refusal-spec =
-    tie.close (tie.spec opening-refusal-requires returns word-at-requires returns-2 returns-3)
+    tie.close (tie.spec
+    -- opening_refusal
+    (λ c κs. search needs)
+    returns
+    -- word_at
+    (λ c κs. search needs)
+    returns-2
+    returns-3)

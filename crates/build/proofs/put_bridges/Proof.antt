@@ -8,27 +8,6 @@ use borrow.Author.Needs.{needs}
 use Rattle.build.proofs.put_bridges.Statement.{statement}
 use Rattle.build.proofs.put_bridges.Tie as tie
 
-add-end : tie.Need-add-end
-add-end c = search needs
-
-mul-copy-words : tie.Need-mul-copy-words
-mul-copy-words c = search needs
-
-sub-copy-words : tie.Need-sub-copy-words
-sub-copy-words c = search needs
-
-part-copy-words-start : tie.Need-part-copy-words-start
-part-copy-words-start c = search needs
-
-part-copy-words-end : tie.Need-part-copy-words-end
-part-copy-words-end c = search needs
-
-copy-words-requires : tie.Need-copy-words-requires
-copy-words-requires c κs = search needs
-
-same-length : tie.Need-same-length
-same-length c = search needs
-
 returns : tie.Need-returns
 returns c =
     let a = c .before .before .before .before .before .before .args in
@@ -39,11 +18,6 @@ pub put-bridges-spec : {M : Type 1} → statement M
 put-bridges-spec =
     tie.close
     (tie.spec
-    add-end
-    mul-copy-words
-    sub-copy-words
-    part-copy-words-start
-    part-copy-words-end
-    copy-words-requires
-    same-length
+    -- end, copy_words, part-copy-words-start, part-copy-words-end, lengths stay
+    (λ c. search needs) (λ c. search needs) (λ c. search needs) (λ c. search needs) (λ c. search needs) (λ c κs. search needs) (λ c. search needs)
     returns)

@@ -9,12 +9,6 @@ use borrow.Author.Needs.{needs}
 use Rattle.build.proofs.put_leaves.Statement.{statement}
 use Rattle.build.proofs.put_leaves.Tie as tie
 
-leaf-entries-requires : tie.Need-leaf-entries-requires
-leaf-entries-requires c κs = search needs
-
-mul-sizes-at : tie.Need-mul-sizes-at
-mul-sizes-at c = search needs
-
 add-sizes-end : tie.Need-add-sizes-end
 add-sizes-end c = omega arith
 
@@ -24,26 +18,8 @@ slice-aggregate-build-leaves c =
     let few = entries-most (s .args .n) (s .args .max-leaf-size) in
     sym (length-take-le _ _ (omega (arith, c .before .leaf-entries .ensures, few, s .pre .words-room)))
 
-mul-build-leaves : tie.Need-mul-build-leaves
-mul-build-leaves c = search needs
-
-sub-build-leaves : tie.Need-sub-build-leaves
-sub-build-leaves c = search needs
-
-part-build-leaves-start : tie.Need-part-build-leaves-start
-part-build-leaves-start c = search needs
-
 part-build-leaves-end : tie.Need-part-build-leaves-end
 part-build-leaves-end c = let s = c .before .before .before .before .before .before in omega (arith, s .pre .counted, s .pre .words-room)
-
-build-leaves-requires : tie.Need-build-leaves-requires
-build-leaves-requires c κs = search needs
-
-same-length : tie.Need-same-length
-same-length c = search needs
-
-same-length-2 : tie.Need-same-length-2
-same-length-2 c = search needs
 
 returns : tie.Need-returns
 returns c =
@@ -59,15 +35,13 @@ pub put-leaves-spec : {M : Type 1} → statement M
 put-leaves-spec =
     tie.close
     (tie.spec
-    leaf-entries-requires
-    mul-sizes-at
+    -- leaf_entries, sizes_at
+    (λ c κs. search needs) (λ c. search needs)
     add-sizes-end
     slice-aggregate-build-leaves
-    mul-build-leaves
-    sub-build-leaves
-    part-build-leaves-start
+    -- build_leaves, part-build-leaves-start
+    (λ c. search needs) (λ c. search needs) (λ c. search needs)
     part-build-leaves-end
-    build-leaves-requires
-    same-length
-    same-length-2
+    -- build_leaves, lengths stay
+    (λ c κs. search needs) (λ c. search needs) (λ c. search needs)
     returns)

@@ -5,15 +5,6 @@ use borrow.Author.Needs.{needs}
 use Rattle.build.proofs.put_rows.Statement.{statement}
 use Rattle.build.proofs.put_rows.Tie as tie
 
-cast-degree : tie.Need-cast-degree
-cast-degree c = search needs
-
-clear-words-requires : tie.Need-clear-words-requires
-clear-words-requires c κs = search needs
-
-partition-requires : tie.Need-partition-requires
-partition-requires c κs = search needs
-
 put-leaves-requires : tie.Need-put-leaves-requires
 put-leaves-requires c κs =
     let s = c .before .before .before .before .before .before .before .before .before .before .before .before .before .before .before .before in
@@ -24,18 +15,6 @@ put-leaves-requires c κs =
       counted = carved-count (a .n) (a .dimension) (a .p) (a .vectors .now) (a .rows .now) (a .scratch-words .now) _ (carve .result) _ (s .pre) (carve .ensures);
       words-room = omega (arith, carve .kept .1 .1 .1 .1 .1 .1 .0, s .pre .words-room);
     }
-
-add-reverse-edges-requires : tie.Need-add-reverse-edges-requires
-add-reverse-edges-requires c κs = search needs
-
-same-length : tie.Need-same-length
-same-length c = search needs
-
-same-length-2 : tie.Need-same-length-2
-same-length-2 c = search needs
-
-same-length-3 : tie.Need-same-length-3
-same-length-3 c = search needs
 
 returns : tie.Need-returns
 returns c =
@@ -49,12 +28,9 @@ pub put-rows-spec : {M : Type 1} → statement M
 put-rows-spec =
     tie.close
     (tie.spec
-    cast-degree
-    clear-words-requires
-    partition-requires
+    -- degree, clear_words, partition
+    (λ c. search needs) (λ c κs. search needs) (λ c κs. search needs)
     put-leaves-requires
-    add-reverse-edges-requires
-    same-length
-    same-length-2
-    same-length-3
+    -- add_reverse_edges, lengths stay
+    (λ c κs. search needs) (λ c. search needs) (λ c. search needs) (λ c. search needs)
     returns)

@@ -14,59 +14,14 @@ use borrow.Author.Needs.{needs}
 use Rattle.build.proofs.repair.Statement.{statement}
 use Rattle.build.proofs.repair.Tie as tie
 
-cast-compute-medoid : tie.Need-cast-compute-medoid
-cast-compute-medoid c = search needs
-
-slice-relend-prefix-compute-medoid : tie.Need-slice-relend-prefix-compute-medoid
-slice-relend-prefix-compute-medoid c = search needs
-
 slice-aggregate-compute-medoid : tie.Need-slice-aggregate-compute-medoid
 slice-aggregate-compute-medoid c = sym (length-take-le _ _ (c .before .before .before .before .before .before .pre .floats-room))
-
-compute-medoid-requires : tie.Need-compute-medoid-requires
-compute-medoid-requires c κs = search needs
-
-rows-at-requires : tie.Need-rows-at-requires
-rows-at-requires c κs = search needs
-
-row-at-requires : tie.Need-row-at-requires
-row-at-requires c κs = search needs
-
-mul-ensure-connectivity : tie.Need-mul-ensure-connectivity
-mul-ensure-connectivity c = search needs
-
-sub-ensure-connectivity : tie.Need-sub-ensure-connectivity
-sub-ensure-connectivity c = search needs
-
-part-ensure-connectivity-start : tie.Need-part-ensure-connectivity-start
-part-ensure-connectivity-start c = search needs
 
 part-ensure-connectivity-end : tie.Need-part-ensure-connectivity-end
 part-ensure-connectivity-end c =
     let s = c .before .before .before .before .before .before .before .before .before .before .before .before in
     let a = s .args in
     omega (arith, c .before .row-at .ensures, product-le (a .n) (rowSize (a .degree)) (a .capacity) (rowSize (a .degree)) (s .pre .capacity) (omega arith), s .pre .store)
-
-ensure-connectivity-requires : tie.Need-ensure-connectivity-requires
-ensure-connectivity-requires c κs = search needs
-
-lesser-requires : tie.Need-lesser-requires
-lesser-requires c κs = search needs
-
-cast-end : tie.Need-cast-end
-cast-end c = search needs
-
-mul-end : tie.Need-mul-end
-mul-end c = search needs
-
-bridges-at-requires : tie.Need-bridges-at-requires
-bridges-at-requires c κs = search needs
-
-put-header-requires : tie.Need-put-header-requires
-put-header-requires c κs = search needs
-
-slice-reshare-prefix-put-bridges : tie.Need-slice-reshare-prefix-put-bridges
-slice-reshare-prefix-put-bridges c = search needs
 
 slice-aggregate-put-bridges : tie.Need-slice-aggregate-put-bridges
 slice-aggregate-put-bridges c =
@@ -82,18 +37,6 @@ put-bridges-requires c κs =
     let fits : 2 * count .result ≤ length list = omega (arith, count .ensures, repair .kept .1 .1 .1 .1 .1 .0, s .pre .bridges-room) in
     let front : length (take (2 * count .result) list) ≡ 2 * count .result = length-take-le (2 * count .result) list fits in
     omega (arith, front, count .ensures, c .before .before .before .before .before .before .bridges-at .ensures, c .before .before .before .before .put-header .kept .0, s .pre .store, s .pre .capacity)
-
-same-length : tie.Need-same-length
-same-length c = search needs
-
-same-length-2 : tie.Need-same-length-2
-same-length-2 c = search needs
-
-same-length-3 : tie.Need-same-length-3
-same-length-3 c = search needs
-
-same-length-4 : tie.Need-same-length-4
-same-length-4 c = search needs
 
 returns : tie.Need-returns
 returns c =
@@ -122,27 +65,17 @@ pub repair-spec : {M : Type 1} → statement M
 repair-spec =
     tie.close
     (tie.spec
-    cast-compute-medoid
-    slice-relend-prefix-compute-medoid
+    -- compute_medoid, slice-relend-prefix-compute-medoid
+    (λ c. search needs) (λ c. search needs)
     slice-aggregate-compute-medoid
-    compute-medoid-requires
-    rows-at-requires
-    row-at-requires
-    mul-ensure-connectivity
-    sub-ensure-connectivity
-    part-ensure-connectivity-start
+    -- compute_medoid, rows_at, row_at, ensure_connectivity, part-ensure-connectivity-start
+    (λ c κs. search needs) (λ c κs. search needs) (λ c κs. search needs) (λ c. search needs) (λ c. search needs) (λ c. search needs)
     part-ensure-connectivity-end
-    ensure-connectivity-requires
-    lesser-requires
-    cast-end
-    mul-end
-    bridges-at-requires
-    put-header-requires
-    slice-reshare-prefix-put-bridges
+    -- ensure_connectivity, lesser, end, bridges_at, put_header, slice-reshare-prefix-put-bridges
+    (λ c κs. search needs) (λ c κs. search needs) (λ c. search needs) (λ c. search needs) (λ c κs. search needs) (λ c κs. search needs)
+    (λ c. search needs)
     slice-aggregate-put-bridges
     put-bridges-requires
-    same-length
-    same-length-2
-    same-length-3
-    same-length-4
+    -- lengths stay
+    (λ c. search needs) (λ c. search needs) (λ c. search needs) (λ c. search needs)
     returns)

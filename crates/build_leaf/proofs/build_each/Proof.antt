@@ -18,12 +18,6 @@ abbrev μ-loop : tie.MeasureT-loop
 loop-holds : tie.Need-loop-holds Inv-loop μ-loop
 loop-holds c = let x = c .before .before .before .before .before .before .args in (omega arith, omega arith, refl, refl, leaves-none (x .vectors .now) (x .dimension) (x .degree) (x .bits) (x .planes .now) (x .nodes .now) (x .sizes .now) (length (x .floats .now)) (x .rows .now))
 
-mul-end : tie.Need-mul-end Inv-loop μ-loop
-mul-end c = search needs
-
-shared-slice-read-end : tie.Need-shared-slice-read-end Inv-loop μ-loop
-shared-slice-read-end c = search needs
-
 cast-end : tie.Need-cast-end Inv-loop μ-loop
 cast-end c = omega (arith, c .shared-slice-known5 .given (c .before .before .loop .k))
 
@@ -41,27 +35,6 @@ returns c =
     let l = c .before .before .before .loop in
     let x = c .before .before .before .before .before .before .before .before .before .before .args in
     leaves-cut (x .vectors .now) (x .dimension) (x .degree) (x .bits) (x .planes .now) (x .nodes .now) (x .sizes .now) (length (x .floats .now)) (x .rows .now) (l .k) (l .at) _ (l .rows) (c .before .before .loop-test .taken) refl (c .if1 .taken) (l .inv .4)
-
-mul-build-leaf : tie.Need-mul-build-leaf Inv-loop μ-loop
-mul-build-leaf c = search needs
-
-sub-build-leaf : tie.Need-sub-build-leaf Inv-loop μ-loop
-sub-build-leaf c = search needs
-
-part-build-leaf-start : tie.Need-part-build-leaf-start Inv-loop μ-loop
-part-build-leaf-start c = search needs
-
-part-build-leaf-end : tie.Need-part-build-leaf-end Inv-loop μ-loop
-part-build-leaf-end c = search needs
-
-build-leaf-requires : tie.Need-build-leaf-requires Inv-loop μ-loop
-build-leaf-requires c κs = search needs
-
-add-k : tie.Need-add-k Inv-loop μ-loop
-add-k c = search needs
-
-loop-less : tie.Need-loop-less Inv-loop μ-loop
-loop-less c = search needs
 
 loop-again : tie.Need-loop-again Inv-loop μ-loop
 loop-again c =
@@ -97,20 +70,15 @@ build-each-spec =
     Inv-loop
     μ-loop
     loop-holds
-    mul-end
-    shared-slice-read-end
+    -- end
+    (λ c. search needs) (λ c. search needs)
     cast-end
     add-end
     same-length
     same-length-2
     returns
-    mul-build-leaf
-    sub-build-leaf
-    part-build-leaf-start
-    part-build-leaf-end
-    build-leaf-requires
-    add-k
-    loop-less
+    -- build_leaf, part-build-leaf-start, part-build-leaf-end, k, the loop measure
+    (λ c. search needs) (λ c. search needs) (λ c. search needs) (λ c. search needs) (λ c κs. search needs) (λ c. search needs) (λ c. search needs)
     loop-again
     same-length-3
     same-length-4

@@ -21,21 +21,6 @@ returns c = let x = c .before .before .before .before .before .before .args in l
 loop-holds : tie.Need-loop-holds Inv-loop μ-loop
 loop-holds c = let x = c .before .before .before .before .before .before .args in (omega arith, refl, refl, leaf-first (x .vectors .now) (x .dimension) (x .degree) (x .bits) (x .planes .now) (x .leaf .now) (length (x .floats .now)) (x .rows .now))
 
-distances-into-requires : tie.Need-distances-into-requires Inv-loop μ-loop
-distances-into-requires c κs = search needs
-
-add-lesser : tie.Need-add-lesser Inv-loop μ-loop
-add-lesser c = search needs
-
-lesser-requires : tie.Need-lesser-requires Inv-loop μ-loop
-lesser-requires c κs = search needs
-
-each-place-requires : tie.Need-each-place-requires Inv-loop μ-loop
-each-place-requires c κs = search needs
-
-loop-less : tie.Need-loop-less Inv-loop μ-loop
-loop-less c = search needs
-
 loop-again : tie.Need-loop-again Inv-loop μ-loop
 loop-again c =
     let l = c .before .before .before .before .before .before .before .before .before .before .before .loop in
@@ -69,11 +54,8 @@ build-leaf-spec =
     μ-loop
     returns
     loop-holds
-    distances-into-requires
-    add-lesser
-    lesser-requires
-    each-place-requires
-    loop-less
+    -- distances_into, lesser, each_place, the loop measure
+    (λ c κs. search needs) (λ c. search needs) (λ c κs. search needs) (λ c κs. search needs) (λ c. search needs)
     loop-again
     same-length
     same-length-2

@@ -18,18 +18,6 @@ abbrev μ-loop : tie.MeasureT-loop
 loop-holds : tie.Need-loop-holds Inv-loop μ-loop
 loop-holds c = let x = c .before .before .before .before .before .args in (omega arith, omega arith, refl, places-none (x .vectors .now) (x .dimension) (x .degree) (x .bits) (x .planes .now) (x .leaf .now) (x .first) (x .floats .now) (x .rows .now))
 
-sub-one-place : tie.Need-sub-one-place Inv-loop μ-loop
-sub-one-place c = search needs
-
-one-place-requires : tie.Need-one-place-requires Inv-loop μ-loop
-one-place-requires c κs = search needs
-
-add-i : tie.Need-add-i Inv-loop μ-loop
-add-i c = search needs
-
-loop-less : tie.Need-loop-less Inv-loop μ-loop
-loop-less c = search needs
-
 loop-again : tie.Need-loop-again Inv-loop μ-loop
 loop-again c =
     let l = c .before .before .before .before .before .loop in
@@ -57,10 +45,8 @@ each-place-spec =
     Inv-loop
     μ-loop
     loop-holds
-    sub-one-place
-    one-place-requires
-    add-i
-    loop-less
+    -- one_place, i, the loop measure
+    (λ c. search needs) (λ c κs. search needs) (λ c. search needs) (λ c. search needs)
     loop-again
     same-length
     returns)

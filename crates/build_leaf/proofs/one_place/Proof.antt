@@ -6,21 +6,6 @@ use borrow.Author.Needs.{needs}
 use Rattle.build_leaf.proofs.one_place.Statement.{statement}
 use Rattle.build_leaf.proofs.one_place.Tie as tie
 
-slice-aggregate-candidates-at : tie.Need-slice-aggregate-candidates-at
-slice-aggregate-candidates-at c = search needs
-
-slice-aggregate-candidates-at-2 : tie.Need-slice-aggregate-candidates-at-2
-slice-aggregate-candidates-at-2 c = search needs
-
-candidates-at-requires : tie.Need-candidates-at-requires
-candidates-at-requires c κs = search needs
-
-mul-node : tie.Need-mul-t19
-mul-node c = search needs
-
-shared-slice-read-node : tie.Need-shared-slice-read-t21
-shared-slice-read-node c = search needs
-
 array-share-prefix-candidates : tie.Need-array-share-prefix-candidates
 array-share-prefix-candidates c = omega (arith, c .before .before .before .candidates-at .ensures .few)
 
@@ -33,12 +18,6 @@ array-share-prefix-far c = omega (arith, c .before .before .before .before .cand
 slice-aggregate-put-row-2 : tie.Need-slice-aggregate-put-row-2
 slice-aggregate-put-row-2 c = simp length-take (omega (arith, c .before .before .before .before .before .candidates-at .ensures .few, c .before .before .before .before .before .candidates-at .kept .1 .1 .1 .1 .1 .1 .0))
 
-put-row-requires : tie.Need-put-row-requires
-put-row-requires c κs = search needs
-
-same-length : tie.Need-same-length
-same-length c = search needs
-
 returns : tie.Need-returns
 returns c =
     let x = c .before .before .before .before .before .before .before .before .before .before .before .before .before .before .before .before .before .args in
@@ -49,15 +28,12 @@ pub one-place-spec : {M : Type 1} → statement M
 one-place-spec =
     tie.close
     (tie.spec
-    slice-aggregate-candidates-at
-    slice-aggregate-candidates-at-2
-    candidates-at-requires
-    mul-node
-    shared-slice-read-node
+    -- candidates_at, node
+    (λ c. search needs) (λ c. search needs) (λ c κs. search needs) (λ c. search needs) (λ c. search needs)
     array-share-prefix-candidates
     slice-aggregate-put-row
     array-share-prefix-far
     slice-aggregate-put-row-2
-    put-row-requires
-    same-length
+    -- put_row, lengths stay
+    (λ c κs. search needs) (λ c. search needs)
     returns)

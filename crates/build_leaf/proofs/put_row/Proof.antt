@@ -7,12 +7,6 @@ use borrow.Author.Needs.{needs}
 use Rattle.build_leaf.proofs.put_row.Statement.{statement}
 use Rattle.build_leaf.proofs.put_row.Tie as tie
 
-add-size : tie.Need-add-size
-add-size c = search needs
-
-cast-at : tie.Need-cast-at
-cast-at c = search needs
-
 mul-at : tie.Need-mul-at
 mul-at c = omega (arith, place-fits (c .before .before .before .before .before .before .args .node .0) (1 + c .before .before .before .before .before .before .args .degree) (omega arith) (omega arith))
 
@@ -21,24 +15,6 @@ add-end c = omega (arith, place-fits (c .before .before .before .before .before 
 
 returns : tie.Need-returns
 returns c = let x = c .before .before .before .before .before .before .before .args in row-none (x .vectors .now) (x .dimension) (x .degree) (x .bits) (x .planes .now) (x .node .0) (x .candidates .now) (x .far .now) (x .rows .now) (c .if1 .taken)
-
-mul-hashprune-insert : tie.Need-mul-hashprune-insert
-mul-hashprune-insert c = search needs
-
-sub-hashprune-insert : tie.Need-sub-hashprune-insert
-sub-hashprune-insert c = search needs
-
-part-hashprune-insert-start : tie.Need-part-hashprune-insert-start
-part-hashprune-insert-start c = search needs
-
-part-hashprune-insert-end : tie.Need-part-hashprune-insert-end
-part-hashprune-insert-end c = search needs
-
-hashprune-insert-requires : tie.Need-hashprune-insert-requires
-hashprune-insert-requires c κs = search needs
-
-same-length : tie.Need-same-length
-same-length c = search needs
 
 returns-2 : tie.Need-returns-2
 returns-2 c =
@@ -51,15 +27,11 @@ pub put-row-spec : {M : Type 1} → statement M
 put-row-spec =
     tie.close
     (tie.spec
-    add-size
-    cast-at
+    -- size, at
+    (λ c. search needs) (λ c. search needs)
     mul-at
     add-end
     returns
-    mul-hashprune-insert
-    sub-hashprune-insert
-    part-hashprune-insert-start
-    part-hashprune-insert-end
-    hashprune-insert-requires
-    same-length
+    -- hashprune_insert, part-hashprune-insert-start, part-hashprune-insert-end, lengths stay
+    (λ c. search needs) (λ c. search needs) (λ c. search needs) (λ c. search needs) (λ c κs. search needs) (λ c. search needs)
     returns-2)

@@ -14,15 +14,6 @@ use borrow.Author.Needs.{needs}
 use Rattle.candidates.proofs.around_list.Statement.{statement}
 use Rattle.candidates.proofs.around_list.Tie as tie
 
-row-of-requires : tie.Need-row-of-requires
-row-of-requires c κs = search needs
-
-around-row-requires : tie.Need-around-row-requires
-around-row-requires c κs = search needs
-
-around-ends-requires : tie.Need-around-ends-requires
-around-ends-requires c κs = search needs
-
 returns : tie.Need-returns
 returns c =
     let a = c .before .before .before .before .before .before .before .before .before .args in
@@ -33,4 +24,7 @@ returns c =
 
 pub around-list-spec : {M : Type 1} → statement M
 around-list-spec =
-    tie.close (tie.spec row-of-requires around-row-requires around-ends-requires returns)
+    tie.close (tie.spec
+    -- row_of, around_row, around_ends
+    (λ c κs. search needs) (λ c κs. search needs) (λ c κs. search needs)
+    returns)

@@ -21,21 +21,6 @@ abbrev μ-loop : tie.MeasureT-loop
 loop-holds : tie.Need-loop-holds Inv-loop μ-loop
 loop-holds c = (omega arith, refl)
 
-mul-consider-around : tie.Need-mul-t15 Inv-loop μ-loop
-mul-consider-around c = search needs
-
-shared-slice-read-consider-around : tie.Need-shared-slice-read-t18 Inv-loop μ-loop
-shared-slice-read-consider-around c = search needs
-
-consider-around-requires : tie.Need-consider-around-requires Inv-loop μ-loop
-consider-around-requires c κs = search needs
-
-add-i : tie.Need-add-i Inv-loop μ-loop
-add-i c = search needs
-
-loop-less : tie.Need-loop-less Inv-loop μ-loop
-loop-less c = search needs
-
 loop-again : tie.Need-loop-again Inv-loop μ-loop
 loop-again c =
     let l = c .before .before .before .loop in
@@ -57,10 +42,7 @@ around-row-spec =
     Inv-loop
     μ-loop
     loop-holds
-    mul-consider-around
-    shared-slice-read-consider-around
-    consider-around-requires
-    add-i
-    loop-less
+    -- consider_around, i, the loop measure
+    (λ c. search needs) (λ c. search needs) (λ c κs. search needs) (λ c. search needs) (λ c. search needs)
     loop-again
     returns)

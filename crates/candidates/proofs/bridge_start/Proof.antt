@@ -9,21 +9,6 @@ use borrow.Author.Needs.{needs}
 use Rattle.candidates.proofs.bridge_start.Statement.{statement}
 use Rattle.candidates.proofs.bridge_start.Tie as tie
 
-get-vector-requires : tie.Need-get-vector-requires
-get-vector-requires c κs = search needs
-
-get-vector-requires-2 : tie.Need-get-vector-requires-2
-get-vector-requires-2 c κs = search needs
-
-cosine-distance-normalized-requires : tie.Need-cosine-distance-normalized-requires
-cosine-distance-normalized-requires c κs = search needs
-
-around-list-requires : tie.Need-around-list-requires
-around-list-requires c κs = search needs
-
-around-list-requires-2 : tie.Need-around-list-requires-2
-around-list-requires-2 c κs = search needs
-
 returns : tie.Need-returns
 returns c =
     let a = c .before .before .before .before .before .before .before .before .before .before .before .args in
@@ -36,9 +21,6 @@ pub bridge-start-spec : {M : Type 1} → statement M
 bridge-start-spec =
     tie.close
     (tie.spec
-    get-vector-requires
-    get-vector-requires-2
-    cosine-distance-normalized-requires
-    around-list-requires
-    around-list-requires-2
+    -- get_vector, cosine_distance_normalized, around_list
+    (λ c κs. search needs) (λ c κs. search needs) (λ c κs. search needs) (λ c κs. search needs) (λ c κs. search needs)
     returns)

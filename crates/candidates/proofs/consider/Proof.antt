@@ -8,23 +8,11 @@ use borrow.Author.Needs.{needs}
 use Rattle.candidates.proofs.consider.Statement.{statement}
 use Rattle.candidates.proofs.consider.Tie as tie
 
-cast-word-at : tie.Need-cast-word-at
-cast-word-at c = search needs
-
-word-at-requires : tie.Need-word-at-requires
-word-at-requires c κs = search needs
-
 returns : tie.Need-returns
 returns c =
     let a = c .before .before .before .before .before .before .before .args in
     let w = c .before .before .word-at in
     not-reached (a .state .now) (a .n) (vectorsIn (a .dimension) (a .vectors .now)) (a .query .now) (a .c .0) (w .result) (a .best) (w .ensures) (c .if1 .taken)
-
-get-vector-requires : tie.Need-get-vector-requires
-get-vector-requires c κs = search needs
-
-cosine-distance-normalized-requires : tie.Need-cosine-distance-normalized-requires
-cosine-distance-normalized-requires c κs = search needs
 
 returns-2 : tie.Need-returns-2
 returns-2 c =
@@ -46,10 +34,10 @@ pub consider-spec : {M : Type 1} → statement M
 consider-spec =
     tie.close
     (tie.spec
-    cast-word-at
-    word-at-requires
+    -- word_at
+    (λ c. search needs) (λ c κs. search needs)
     returns
-    get-vector-requires
-    cosine-distance-normalized-requires
+    -- get_vector, cosine_distance_normalized
+    (λ c κs. search needs) (λ c κs. search needs)
     returns-2
     returns-3)

@@ -9,21 +9,12 @@ use borrow.Author.Needs.{needs}
 use Rattle.candidates.proofs.consider_around.Statement.{statement}
 use Rattle.candidates.proofs.consider_around.Tie as tie
 
-consider-requires : tie.Need-consider-requires
-consider-requires c κs = search needs
-
-consider-list-requires : tie.Need-consider-list-requires
-consider-list-requires c κs = search needs
-
 returns : tie.Need-returns
 returns c =
     let a = c .before .before .before .before .before .before .before .before .before .args in
     c .consider-list .ensures
     ∙ ap (λ (b : Nearest). consideredAll (a .state .now) (a .n) (vectorsIn (a .dimension) (a .vectors .now)) (a .query .now) ((listWords (a .degree) (a .n) (a .rows .now) (a .bridges .now) (a .links .now)) (a .u .0)) b) (c .before .consider .ensures)
     ∙ around-own (a .state .now) (a .n) (vectorsIn (a .dimension) (a .vectors .now)) (a .query .now) (a .own) (listWords (a .degree) (a .n) (a .rows .now) (a .bridges .now) (a .links .now)) (a .u .0) (a .best) (c .before .before .if1 .taken)
-
-consider-list-requires-2 : tie.Need-consider-list-requires-2
-consider-list-requires-2 c κs = search needs
 
 returns-2 : tie.Need-returns-2
 returns-2 c =
@@ -33,4 +24,10 @@ returns-2 c =
 pub consider-around-spec : {M : Type 1} → statement M
 consider-around-spec =
     tie.close
-    (tie.spec consider-requires consider-list-requires returns consider-list-requires-2 returns-2)
+    (tie.spec
+    -- consider, consider_list
+    (λ c κs. search needs) (λ c κs. search needs)
+    returns
+    -- consider_list
+    (λ c κs. search needs)
+    returns-2)

@@ -13,15 +13,6 @@ use borrow.Author.Needs.{needs}
 use Rattle.candidates.proofs.consider_list.Statement.{statement}
 use Rattle.candidates.proofs.consider_list.Tie as tie
 
-row-of-requires : tie.Need-row-of-requires
-row-of-requires c κs = search needs
-
-consider-row-requires : tie.Need-consider-row-requires
-consider-row-requires c κs = search needs
-
-consider-ends-requires : tie.Need-consider-ends-requires
-consider-ends-requires c κs = search needs
-
 returns : tie.Need-returns
 returns c =
     let a = c .before .before .before .before .before .before .before .before .before .args in
@@ -32,4 +23,7 @@ returns c =
 
 pub consider-list-spec : {M : Type 1} → statement M
 consider-list-spec =
-    tie.close (tie.spec row-of-requires consider-row-requires consider-ends-requires returns)
+    tie.close (tie.spec
+    -- row_of, consider_row, consider_ends
+    (λ c κs. search needs) (λ c κs. search needs) (λ c κs. search needs)
+    returns)

@@ -20,21 +20,6 @@ abbrev μ-loop : tie.MeasureT-loop
 loop-holds : tie.Need-loop-holds Inv-loop μ-loop
 loop-holds c = (omega arith, refl)
 
-mul-consider : tie.Need-mul-t10 Inv-loop μ-loop
-mul-consider c = search needs
-
-shared-slice-read-consider : tie.Need-shared-slice-read-t13 Inv-loop μ-loop
-shared-slice-read-consider c = search needs
-
-consider-requires : tie.Need-consider-requires Inv-loop μ-loop
-consider-requires c κs = search needs
-
-add-i : tie.Need-add-i Inv-loop μ-loop
-add-i c = search needs
-
-loop-less : tie.Need-loop-less Inv-loop μ-loop
-loop-less c = search needs
-
 loop-again : tie.Need-loop-again Inv-loop μ-loop
 loop-again c =
     let l = c .before .before .before .loop in
@@ -56,10 +41,7 @@ consider-row-spec =
     Inv-loop
     μ-loop
     loop-holds
-    mul-consider
-    shared-slice-read-consider
-    consider-requires
-    add-i
-    loop-less
+    -- consider, i, the loop measure
+    (λ c. search needs) (λ c. search needs) (λ c κs. search needs) (λ c. search needs) (λ c. search needs)
     loop-again
     returns)

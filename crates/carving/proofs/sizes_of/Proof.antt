@@ -21,29 +21,11 @@ abbrev μ-loop : tie.MeasureT-loop
 loop-holds : tie.Need-loop-holds Inv-loop μ-loop
 loop-holds c = let x = c .before .before .args in (omega arith, omega arith, refl, λ leaves e. listed-none leaves (x .marks .now) (x .sizes .now) e)
 
-mul-first-size : tie.Need-mul-first-size Inv-loop μ-loop
-mul-first-size c = search needs
-
-sub-first-size : tie.Need-sub-first-size Inv-loop μ-loop
-sub-first-size c = search needs
-
-part-first-size-start : tie.Need-part-first-size-start Inv-loop μ-loop
-part-first-size-start c = search needs
-
-part-first-size-end : tie.Need-part-first-size-end Inv-loop μ-loop
-part-first-size-end c = search needs
-
-first-size-requires : tie.Need-first-size-requires Inv-loop μ-loop
-first-size-requires c κs = search needs
-
 next : (c : tie.After-first-size Inv-loop μ-loop) → NextSize (c .before .before .before .before .before .before .args .marks .now) (c .before .before .before .loop .at) (c .first-size .result)
 next c = next-size _ _ _ (c .before .before .loop-test .taken) (c .first-size .ensures)
 
 cast-sizes : tie.Need-cast-sizes Inv-loop μ-loop
 cast-sizes c = let n = next c in omega (arith, c .before .before .before .before .before .before .pre .0)
-
-mul-sizes : tie.Need-mul-sizes Inv-loop μ-loop
-mul-sizes c = search needs
 
 slice-write-sizes : tie.Need-slice-write-sizes Inv-loop μ-loop
 slice-write-sizes c = let n = next c in omega (arith, c .before .before .before .before .before .before .pre .1)
@@ -84,13 +66,11 @@ sizes-of-spec =
     Inv-loop
     μ-loop
     loop-holds
-    mul-first-size
-    sub-first-size
-    part-first-size-start
-    part-first-size-end
-    first-size-requires
+    -- first_size, part-first-size-start, part-first-size-end
+    (λ c. search needs) (λ c. search needs) (λ c. search needs) (λ c. search needs) (λ c κs. search needs)
     cast-sizes
-    mul-sizes
+    -- sizes
+    (λ c. search needs)
     slice-write-sizes
     add-count
     add-at

@@ -13,15 +13,6 @@ returns : tie.Need-returns
 unfolding chainBridge
 returns c = let a = c .before .before .args in sym (pick-false _ _ (le-ltb (a .j) (2 ^ 30) (omega arith)))
 
-mul-append-slot : tie.Need-mul-append-slot
-mul-append-slot c = search needs
-
-append-slot-requires : tie.Need-append-slot-requires
-append-slot-requires c κs = search needs
-
-same-length : tie.Need-same-length
-same-length c = search needs
-
 returns-2 : tie.Need-returns-2
 unfolding chainBridge
 returns-2 c =
@@ -29,18 +20,6 @@ returns-2 c =
     c .before .before .before .before .before .append-slot .ensures
     ∙ sym (pick-true _ _ (eq-eqb (a .near .0) (a .far .0) (c .if2 .taken)))
     ∙ sym (pick-true _ _ (lt-ltb (a .j) (2 ^ 30) (omega arith)))
-
-mul-append-slot-2 : tie.Need-mul-append-slot-2
-mul-append-slot-2 c = search needs
-
-add-append-slot : tie.Need-add-append-slot
-add-append-slot c = search needs
-
-append-slot-requires-2 : tie.Need-append-slot-requires-2
-append-slot-requires-2 c κs = search needs
-
-same-length-2 : tie.Need-same-length-2
-same-length-2 c = search needs
 
 returns-3 : tie.Need-returns-3
 unfolding chainBridge
@@ -56,12 +35,9 @@ chain-bridge-spec =
     tie.close
     (tie.spec
     returns
-    mul-append-slot
-    append-slot-requires
-    same-length
+    -- append_slot, lengths stay
+    (λ c. search needs) (λ c κs. search needs) (λ c. search needs)
     returns-2
-    mul-append-slot-2
-    add-append-slot
-    append-slot-requires-2
-    same-length-2
+    -- append_slot, lengths stay
+    (λ c. search needs) (λ c. search needs) (λ c κs. search needs) (λ c. search needs)
     returns-3)

@@ -11,30 +11,6 @@ use borrow.Author.Needs.{needs}
 use Rattle.chains.proofs.clear_links.Statement.{statement}
 use Rattle.chains.proofs.clear_links.Tie as tie
 
-mul-lesser : tie.Need-mul-lesser
-mul-lesser c = search needs
-
-lesser-requires : tie.Need-lesser-requires
-lesser-requires c κs = search needs
-
-mul-clear-words : tie.Need-mul-clear-words
-mul-clear-words c = search needs
-
-sub-clear-words : tie.Need-sub-clear-words
-sub-clear-words c = search needs
-
-part-clear-words-start : tie.Need-part-clear-words-start
-part-clear-words-start c = search needs
-
-part-clear-words-end : tie.Need-part-clear-words-end
-part-clear-words-end c = search needs
-
-clear-words-requires : tie.Need-clear-words-requires
-clear-words-requires c κs = search needs
-
-same-length : tie.Need-same-length
-same-length c = search needs
-
 -- past the end there is nothing to keep
 drop-min : (k : ℕ) (l : List ℕ) → drop (min k (length l)) l ≡ drop k l
 drop-min k l = elim (decLe k (length l)) [
@@ -62,12 +38,7 @@ pub clear-links-spec : {M : Type 1} → statement M
 clear-links-spec =
     tie.close
     (tie.spec
-    mul-lesser
-    lesser-requires
-    mul-clear-words
-    sub-clear-words
-    part-clear-words-start
-    part-clear-words-end
-    clear-words-requires
-    same-length
+    -- lesser, clear_words, part-clear-words-start, part-clear-words-end, lengths stay
+    (λ c. search needs) (λ c κs. search needs) (λ c. search needs) (λ c. search needs) (λ c. search needs) (λ c. search needs) (λ c κs. search needs)
+    (λ c. search needs)
     returns)

@@ -11,21 +11,6 @@ use borrow.Author.Needs.{needs}
 use Rattle.chains.proofs.first_link.Statement.{statement}
 use Rattle.chains.proofs.first_link.Tie as tie
 
-cast-word-at : tie.Need-cast-word-at
-cast-word-at c = search needs
-
-word-at-requires : tie.Need-word-at-requires
-word-at-requires c κs = search needs
-
-mul-if1 : tie.Need-mul-if1
-mul-if1 c = search needs
-
-cast-if1 : tie.Need-cast-if1
-cast-if1 c = search needs
-
-add-if1 : tie.Need-add-if1
-add-if1 c = search needs
-
 returns : tie.Need-returns
 unfolding firstLink
 returns c =
@@ -41,4 +26,8 @@ returns-2 c =
     sym (pick-false (w .result) 0 (lt-leb (2 * a .n + w .result) (length (a .links .now)) (omega arith))) ∙ ap (λ (x : ℕ). pick (leb (2 * a .n + x) (length (a .links .now))) x 0) (w .ensures)
 
 pub first-link-spec : {M : Type 1} → statement M
-first-link-spec = tie.close (tie.spec cast-word-at word-at-requires mul-if1 cast-if1 add-if1 returns returns-2)
+first-link-spec = tie.close (tie.spec
+    -- word_at, if1
+    (λ c. search needs) (λ c κs. search needs) (λ c. search needs) (λ c. search needs) (λ c. search needs)
+    returns
+    returns-2)

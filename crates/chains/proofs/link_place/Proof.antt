@@ -6,23 +6,17 @@ use borrow.Author.Needs.{needs}
 use Rattle.chains.proofs.link_place.Statement.{statement}
 use Rattle.chains.proofs.link_place.Tie as tie
 
-cast-result : tie.Need-cast-result
-cast-result c = search needs
-
 returns : tie.Need-returns
 returns c = let a = c .before .before .args in sym (pick-true _ _ (eq-eqb (a .tail) 0 (c .before .if1 .taken)))
-
-mul-result : tie.Need-mul-result
-mul-result c = search needs
-
-add-result : tie.Need-add-result
-add-result c = search needs
-
-sub-result : tie.Need-sub-result
-sub-result c = search needs
 
 returns-2 : tie.Need-returns-2
 returns-2 c = let a = c .before .args in sym (pick-false _ _ (ne-eqb (a .tail) 0 (c .if1 .left)))
 
 pub link-place-spec : {M : Type 1} → statement M
-link-place-spec = tie.close (tie.spec cast-result returns mul-result add-result sub-result returns-2)
+link-place-spec = tie.close (tie.spec
+    -- result
+    (λ c. search needs)
+    returns
+    -- result
+    (λ c. search needs) (λ c. search needs) (λ c. search needs)
+    returns-2)

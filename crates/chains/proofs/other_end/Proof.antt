@@ -17,18 +17,6 @@ other-word s bridges =
     let place : s / 2 * bridgeSize + (1 - s % 2) ≡ otherSlot s = omega arith in
     block-word bridgeSize (s / 2) (1 - s % 2) bridges (omega arith) ∙ ap (word bridges) place
 
-before-requires : tie.Need-before-requires
-before-requires c κs = search needs
-
-cast-bridge : tie.Need-cast-bridge
-cast-bridge c = search needs
-
-sub-end-of : tie.Need-sub-end-of
-sub-end-of c = search needs
-
-end-of-requires : tie.Need-end-of-requires
-end-of-requires c κs = search needs
-
 returns : tie.Need-returns
 unfolding otherEndAt
 returns c =
@@ -38,4 +26,7 @@ returns c =
 
 pub other-end-spec : {M : Type 1} → statement M
 other-end-spec =
-    tie.close (tie.spec before-requires cast-bridge sub-end-of end-of-requires returns)
+    tie.close (tie.spec
+    -- before, bridge, end_of
+    (λ c κs. search needs) (λ c. search needs) (λ c. search needs) (λ c κs. search needs)
+    returns)

@@ -6,20 +6,11 @@ use borrow.Author.Needs.{needs}
 use Rattle.chains.proofs.put.Statement.{statement}
 use Rattle.chains.proofs.put.Tie as tie
 
-mul-words : tie.Need-mul-words
-mul-words c = search needs
-
-slice-write-words : tie.Need-slice-write-words
-slice-write-words c = search needs
-
-same-length : tie.Need-same-length
-same-length c = search needs
-
-returns : tie.Need-returns
-returns c = search needs
-
 returns-2 : tie.Need-returns-2
 returns-2 c = let a = c .before .args in sym (set-out (a .words .now) (a .at) (a .word) (omega arith))
 
 pub put-spec : {M : Type 1} → statement M
-put-spec = tie.close (tie.spec mul-words slice-write-words same-length returns returns-2)
+put-spec = tie.close (tie.spec
+    -- words, the return, lengths stay
+    (λ c. search needs) (λ c. search needs) (λ c. search needs) (λ c. search needs)
+    returns-2)

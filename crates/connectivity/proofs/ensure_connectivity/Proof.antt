@@ -33,31 +33,10 @@ none-marked n h = record {
   below = λ x m. absurd (mathlib.Core.List.List·Memᴰ·not-nil m);
 }
 
-add-n : tie.Need-add-n
-add-n c = search needs
-
-div-n : tie.Need-div-n
-div-n c = search needs
-
 returns : tie.Need-returns
 returns c =
     let a = c .before .before .before .before .before .args in
     λ g. absurd (omega (arith, g .many, many-rows (a .degree) (a .rows .now)))
-
-slice-aggregate-repair : tie.Need-slice-aggregate-repair
-slice-aggregate-repair c = search needs
-
-cast-repair : tie.Need-cast-repair
-cast-repair c = search needs
-
-repair-requires : tie.Need-repair-requires
-repair-requires c κs = search needs
-
-same-length : tie.Need-same-length
-same-length c = search needs
-
-same-length-2 : tie.Need-same-length-2
-same-length-2 c = search needs
 
 returns-2 : tie.Need-returns-2
 returns-2 c =
@@ -72,12 +51,9 @@ pub ensure-connectivity-spec : {M : Type 1} → statement M
 ensure-connectivity-spec =
     tie.close
     (tie.spec
-    add-n
-    div-n
+    -- n
+    (λ c. search needs) (λ c. search needs)
     returns
-    slice-aggregate-repair
-    cast-repair
-    repair-requires
-    same-length
-    same-length-2
+    -- repair, lengths stay
+    (λ c. search needs) (λ c. search needs) (λ c κs. search needs) (λ c. search needs) (λ c. search needs)
     returns-2)

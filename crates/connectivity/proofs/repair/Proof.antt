@@ -16,25 +16,10 @@ Inv-loop rows degree vectors dimension entry bridges₀ links₀ state₀ n coun
 abbrev μ-loop : tie.MeasureT-loop
 μ-loop rows degree vectors dimension entry bridges₀ links₀ state₀ n count₀ i₀ bridges links state count i = n - i
 
-clear-links-requires : tie.Need-clear-links-requires Inv-loop μ-loop
-clear-links-requires c κs = search needs
-
-mark-reachable-requires : tie.Need-mark-reachable-requires Inv-loop μ-loop
-mark-reachable-requires c κs = search needs
-
 loop-holds : tie.Need-loop-holds Inv-loop μ-loop
 loop-holds c =
     let a = c .before .before .before .before .before .before .before .before .before .before .before .before .before .before .before .args in
     (omega arith, omega arith, refl, refl, refl, no-turn (a .degree) (a .rows .now) (vectorsIn (a .dimension) (a .vectors .now)) (a .entry .0) (a .n) (work 0 _ _ _))
-
-turn-requires : tie.Need-turn-requires Inv-loop μ-loop
-turn-requires c κs = search needs
-
-add-i : tie.Need-add-i Inv-loop μ-loop
-add-i c = search needs
-
-loop-less : tie.Need-loop-less Inv-loop μ-loop
-loop-less c = search needs
 
 loop-again : tie.Need-loop-again Inv-loop μ-loop
 loop-again c =
@@ -74,12 +59,11 @@ repair-spec =
     (tie.spec
     Inv-loop
     μ-loop
-    clear-links-requires
-    mark-reachable-requires
+    -- clear_links, mark_reachable
+    (λ c κs. search needs) (λ c κs. search needs)
     loop-holds
-    turn-requires
-    add-i
-    loop-less
+    -- turn, i, the loop measure
+    (λ c κs. search needs) (λ c. search needs) (λ c. search needs)
     loop-again
     same-length
     same-length-2

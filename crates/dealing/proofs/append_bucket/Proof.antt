@@ -20,33 +20,12 @@ loop-holds c =
     let x = s .args in
     appended-none (x .l) (x .ids .now) (x .cards .now) (x .to .now) (x .held) (s .pre .0) (s .pre .1)
 
-mul-is-named : tie.Need-mul-is-named Inv-loop μ-loop
-mul-is-named c = search needs
-
-shared-slice-read-is-named : tie.Need-shared-slice-read-is-named Inv-loop μ-loop
-shared-slice-read-is-named c = search needs
-
-is-named-requires : tie.Need-is-named-requires Inv-loop μ-loop
-is-named-requires c κs = search needs
-
-mul-append-if : tie.Need-mul-append-if Inv-loop μ-loop
-mul-append-if c = search needs
-
-shared-slice-read-append-if : tie.Need-shared-slice-read-append-if Inv-loop μ-loop
-shared-slice-read-append-if c = search needs
-
 append-if-requires : tie.Need-append-if-requires Inv-loop μ-loop
 append-if-requires c κs =
     let l = c .before .before .before .before .before .loop in
     let s = c .before .before .before .before .before .before .before .before .before in
     let x = s .args in
     appended-room (x .l) (x .ids .now) (x .cards .now) (x .to .now) (x .held) (s .pre .0) (s .pre .1) (l .i) (l .at) (l .to) (l .inv) (c .before .before .before .before .loop-test .taken) _ (c .before .before .is-named .ensures)
-
-add-i : tie.Need-add-i Inv-loop μ-loop
-add-i c = search needs
-
-loop-less : tie.Need-loop-less Inv-loop μ-loop
-loop-less c = search needs
 
 loop-again : tie.Need-loop-again Inv-loop μ-loop
 loop-again c =
@@ -77,14 +56,11 @@ append-bucket-spec =
     Inv-loop
     μ-loop
     loop-holds
-    mul-is-named
-    shared-slice-read-is-named
-    is-named-requires
-    mul-append-if
-    shared-slice-read-append-if
+    -- is_named, append_if
+    (λ c. search needs) (λ c. search needs) (λ c κs. search needs) (λ c. search needs) (λ c. search needs)
     append-if-requires
-    add-i
-    loop-less
+    -- i, the loop measure
+    (λ c. search needs) (λ c. search needs)
     loop-again
     same-length
     returns)

@@ -22,27 +22,6 @@ abbrev μ-loop : tie.MeasureT-loop
 loop-holds : tie.Need-loop-holds Inv-loop μ-loop
 loop-holds c = (omega arith, refl, refl)
 
-mul-card-of : tie.Need-mul-card-of Inv-loop μ-loop
-mul-card-of c = search needs
-
-shared-slice-read-card-of : tie.Need-shared-slice-read-card-of Inv-loop μ-loop
-shared-slice-read-card-of c = search needs
-
-card-of-requires : tie.Need-card-of-requires Inv-loop μ-loop
-card-of-requires c κs = search needs
-
-mul-cards : tie.Need-mul-cards Inv-loop μ-loop
-mul-cards c = search needs
-
-slice-write-cards : tie.Need-slice-write-cards Inv-loop μ-loop
-slice-write-cards c = search needs
-
-add-i : tie.Need-add-i Inv-loop μ-loop
-add-i c = search needs
-
-loop-less : tie.Need-loop-less Inv-loop μ-loop
-loop-less c = search needs
-
 loop-again : tie.Need-loop-again Inv-loop μ-loop
 loop-again c =
     let l = c .before .before .before .loop in
@@ -73,13 +52,8 @@ assign-spec =
     Inv-loop
     μ-loop
     loop-holds
-    mul-card-of
-    shared-slice-read-card-of
-    card-of-requires
-    mul-cards
-    slice-write-cards
-    add-i
-    loop-less
+    -- card_of, cards, i, the loop measure
+    (λ c. search needs) (λ c. search needs) (λ c κs. search needs) (λ c. search needs) (λ c. search needs) (λ c. search needs) (λ c. search needs)
     loop-again
     same-length
     returns)

@@ -11,14 +11,8 @@ use borrow.Author.Needs.{needs}
 use Rattle.dealing.proofs.card_of.Statement.{statement}
 use Rattle.dealing.proofs.card_of.Tie as tie
 
-array-borrow-prefix-keys : tie.Need-array-borrow-prefix-keys
-array-borrow-prefix-keys c = search needs
-
 slice-aggregate-nearest-leaders : tie.Need-slice-aggregate-nearest-leaders
 slice-aggregate-nearest-leaders c = sym (length-take-le _ _ (c .before .before .before .pre .2))
-
-array-borrow-prefix-found : tie.Need-array-borrow-prefix-found
-array-borrow-prefix-found c = search needs
 
 slice-aggregate-nearest-leaders-2 : tie.Need-slice-aggregate-nearest-leaders-2
 slice-aggregate-nearest-leaders-2 c = sym (length-take-le _ _ (c .before .before .before .before .pre .2))
@@ -27,18 +21,6 @@ nearest-leaders-requires : tie.Need-nearest-leaders-requires
 nearest-leaders-requires c κs =
     let s = c .before .before .before .before in
     (s .pre .0, refl, omega (arith, length-take-le {A = ℕ} (s .args .fan) (0 ∷ 0 ∷ []) (s .pre .2)))
-
-array-read-result : tie.Need-array-read-result
-array-read-result c = search needs
-
-sub-result : tie.Need-sub-result
-sub-result c = search needs
-
-mul-result : tie.Need-mul-result
-mul-result c = search needs
-
-array-read-result-2 : tie.Need-array-read-result-2
-array-read-result-2 c = search needs
 
 mul-result-2 : tie.Need-mul-result-2
 mul-result-2 c =
@@ -68,15 +50,15 @@ pub card-of-spec : {M : Type 1} → statement M
 card-of-spec =
     tie.close
     (tie.spec
-    array-borrow-prefix-keys
+    -- array-borrow-prefix-keys
+    (λ c. search needs)
     slice-aggregate-nearest-leaders
-    array-borrow-prefix-found
+    -- array-borrow-prefix-found
+    (λ c. search needs)
     slice-aggregate-nearest-leaders-2
     nearest-leaders-requires
-    array-read-result
-    sub-result
-    mul-result
-    array-read-result-2
+    -- result
+    (λ c. search needs) (λ c. search needs) (λ c. search needs) (λ c. search needs)
     mul-result-2
     add-result
     returns)

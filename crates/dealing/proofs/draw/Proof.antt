@@ -8,21 +8,6 @@ use borrow.Author.Needs.{needs}
 use Rattle.dealing.proofs.draw.Statement.{statement}
 use Rattle.dealing.proofs.draw.Tie as tie
 
-cast-n : tie.Need-cast-n
-cast-n c = search needs
-
-draw-leaders-requires : tie.Need-draw-leaders-requires
-draw-leaders-requires c κs = search needs
-
-nodes-at-requires : tie.Need-nodes-at-requires
-nodes-at-requires c κs = search needs
-
-same-length : tie.Need-same-length
-same-length c = search needs
-
-same-length-2 : tie.Need-same-length-2
-same-length-2 c = search needs
-
 returns : tie.Need-returns
 returns c =
     let s = c .before .before .before .before .before .before .before .before .before .before .before .before .before .before in
@@ -33,4 +18,7 @@ returns c =
 pub draw-spec : {M : Type 1} → statement M
 draw-spec =
     tie.close
-    (tie.spec cast-n draw-leaders-requires nodes-at-requires same-length same-length-2 returns)
+    (tie.spec
+    -- n, draw_leaders, nodes_at, lengths stay
+    (λ c. search needs) (λ c κs. search needs) (λ c κs. search needs) (λ c. search needs) (λ c. search needs)
+    returns)

@@ -28,9 +28,6 @@ all-held c =
 held-fits : (c : tie.After-gather-all) → c .gather-all .result .held ≤ length (small c)
 held-fits c = omega (arith, all-held c, start c .pre .1, c .gather-all .kept .1 .1 .1 .1 .0)
 
-gather-all-requires : tie.Need-gather-all-requires
-gather-all-requires c κs = search needs
-
 slice-reshare-prefix-finish : tie.Need-slice-reshare-prefix-finish
 slice-reshare-prefix-finish c = held-fits (c .before .before .before .before .before .before)
 
@@ -41,15 +38,6 @@ finish-requires : tie.Need-finish-requires
 finish-requires c κs =
     let all = c .before .before .before .before .before .before .before .before .before in
     (omega (arith, length-take-le (all .gather-all .result .held) (small all) (held-fits all), all-held all, all .gather-all .kept .1 .1 .1 .1 .1 .0), all .gather-all .kept .1 .1 .1 .1 .1 .1 .0 ∙ start all .pre .0 .marks-size ∙ sym (all .gather-all .kept .1 .1 .1 .1 .1 .0))
-
-same-length : tie.Need-same-length
-same-length c = search needs
-
-same-length-2 : tie.Need-same-length-2
-same-length-2 c = search needs
-
-same-length-3 : tie.Need-same-length-3
-same-length-3 c = search needs
 
 returns : tie.Need-returns
 returns c =
@@ -64,11 +52,11 @@ pub gather-spec : {M : Type 1} → statement M
 gather-spec =
     tie.close
     (tie.spec
-    gather-all-requires
+    -- gather_all
+    (λ c κs. search needs)
     slice-reshare-prefix-finish
     slice-aggregate-finish
     finish-requires
-    same-length
-    same-length-2
-    same-length-3
+    -- lengths stay
+    (λ c. search needs) (λ c. search needs) (λ c. search needs)
     returns)

@@ -35,12 +35,6 @@ gather-one-requires c κs =
       nodes-room = omega (arith, room, l .inv .2, s .pre .0 .all-entries);
     }
 
-add-l : tie.Need-add-l Inv-loop μ-loop
-add-l c = search needs
-
-loop-less : tie.Need-loop-less Inv-loop μ-loop
-loop-less c = search needs
-
 loop-again : tie.Need-loop-again Inv-loop μ-loop
 loop-again c =
     let l = c .before .before .before .before .before .before .before .before .before .before .before .loop in
@@ -77,8 +71,8 @@ gather-all-spec =
     μ-loop
     loop-holds
     gather-one-requires
-    add-l
-    loop-less
+    -- l, the loop measure
+    (λ c. search needs) (λ c. search needs)
     loop-again
     same-length
     same-length-2

@@ -11,42 +11,6 @@ use native.Mathlib.Omega.{arith}
 use Rattle.dealing.proofs.gather_one.Statement.{statement}
 use Rattle.dealing.proofs.gather_one.Tie as tie
 
-append-bucket-requires : tie.Need-append-bucket-requires
-append-bucket-requires c κs = search needs
-
-sub-if1 : tie.Need-sub-if1
-sub-if1 c = search needs
-
-mul-place : tie.Need-mul-place
-mul-place c = search needs
-
-sub-place : tie.Need-sub-place
-sub-place c = search needs
-
-part-place-start : tie.Need-part-place-start
-part-place-start c = search needs
-
-part-place-end : tie.Need-part-place-end
-part-place-end c = search needs
-
-place-requires : tie.Need-place-requires
-place-requires c κs = search needs
-
-sub-t17 : tie.Need-sub-t17
-sub-t17 c = search needs
-
-add-t19 : tie.Need-add-t19
-add-t19 c = search needs
-
-same-length : tie.Need-same-length
-same-length c = search needs
-
-same-length-2 : tie.Need-same-length-2
-same-length-2 c = search needs
-
-same-length-3 : tie.Need-same-length-3
-same-length-3 c = search needs
-
 returns : tie.Need-returns
 returns c =
     let s = c .before .before .before .before .before .before .before .before .before .before .before .before .before .before .before .before .before .before .before in
@@ -54,9 +18,6 @@ returns c =
     let found = c .before .before .before .before .before .before .before .before .before .before .before .before .append-bucket in
     let bucket : List ℕ = bucketAt (x .l) (x .ids .now) (x .cards .now) in
     gathers-large (x .min-leaf) bucket (x .ids .now) (x .cards .now) (x .g .at) (x .g .held) (x .small .now) (x .nodes .now) (x .marks .now) _ (found .result) (s .pre) (found .ensures .0) (found .ensures .1) _ _ _ refl (c .before .before .before .before .before .before .before .before .before .if1 .taken) (c .before .before .before .before .place .ensures)
-
-slice-reshare-prefix-place : tie.Need-slice-reshare-prefix-place
-slice-reshare-prefix-place c = search needs
 
 slice-aggregate-place : tie.Need-slice-aggregate-place
 slice-aggregate-place c =
@@ -69,18 +30,6 @@ place-requires-2 c κs =
     let room = c .before .before .before .before .before .before .before .before .before .before .before .before .before .before .pre in
     (simp length-take (omega (arith, found .ensures .0, found .kept .1 .1 .1 .0, room .nodes-room)), room .marks-size)
 
-add-t33 : tie.Need-add-t33
-add-t33 c = search needs
-
-same-length-4 : tie.Need-same-length-4
-same-length-4 c = search needs
-
-same-length-5 : tie.Need-same-length-5
-same-length-5 c = search needs
-
-same-length-6 : tie.Need-same-length-6
-same-length-6 c = search needs
-
 returns-2 : tie.Need-returns-2
 returns-2 c =
     let s = c .before .before .before .before .before .before .before .before .before .before .before .before .before .before .before .before .before .before .before in
@@ -88,9 +37,6 @@ returns-2 c =
     let found = c .before .before .before .before .before .before .before .before .before .before .before .before .append-bucket in
     let bucket : List ℕ = bucketAt (x .l) (x .ids .now) (x .cards .now) in
     gathers-joined (x .min-leaf) bucket (x .ids .now) (x .cards .now) (x .g .at) (x .g .held) (x .small .now) (x .nodes .now) (x .marks .now) _ (found .result) (s .pre) (found .ensures .0) (found .ensures .1) _ _ _ refl (omega (arith, c .before .before .before .before .before .before .before .before .before .if1 .left)) (c .before .before .before .before .before .before .before .before .if2 .taken) (c .before .before .before .before .place2 .ensures)
-
-same-length-7 : tie.Need-same-length-7
-same-length-7 c = search needs
 
 returns-3 : tie.Need-returns-3
 returns-3 c =
@@ -104,26 +50,17 @@ pub gather-one-spec : {M : Type 1} → statement M
 gather-one-spec =
     tie.close
     (tie.spec
-    append-bucket-requires
-    sub-if1
-    mul-place
-    sub-place
-    part-place-start
-    part-place-end
-    place-requires
-    sub-t17
-    add-t19
-    same-length
-    same-length-2
-    same-length-3
+    -- append_bucket, if1, place, part-place-start, part-place-end, lengths stay
+    (λ c κs. search needs) (λ c. search needs) (λ c. search needs) (λ c. search needs) (λ c. search needs) (λ c. search needs) (λ c κs. search needs)
+    (λ c. search needs) (λ c. search needs) (λ c. search needs) (λ c. search needs) (λ c. search needs)
     returns
-    slice-reshare-prefix-place
+    -- slice-reshare-prefix-place
+    (λ c. search needs)
     slice-aggregate-place
     place-requires-2
-    add-t33
-    same-length-4
-    same-length-5
-    same-length-6
+    -- lengths stay
+    (λ c. search needs) (λ c. search needs) (λ c. search needs) (λ c. search needs)
     returns-2
-    same-length-7
+    -- lengths stay
+    (λ c. search needs)
     returns-3)

@@ -9,23 +9,11 @@ use borrow.Author.Needs.{needs}
 use Rattle.dealing.proofs.mark.Statement.{statement}
 use Rattle.dealing.proofs.mark.Tie as tie
 
-clear-words-requires : tie.Need-clear-words-requires
-clear-words-requires c κs = search needs
-
-slice-write-marks : tie.Need-slice-write-marks
-slice-write-marks c = search needs
-
-same-length : tie.Need-same-length
-same-length c = search needs
-
 returns : tie.Need-returns
 returns c =
     let x = c .before .before .before .before .before .before .args in
     let cleared = c .before .before .before .clear-words in
     ap (λ (r : List ℕ). set r 0 (x .first)) (cleared .ensures) ∙ run-set (x .first) (length (x .marks .now)) (omega (arith, c .if1 .taken, cleared .kept .0))
-
-same-length-2 : tie.Need-same-length-2
-same-length-2 c = search needs
 
 returns-2 : tie.Need-returns-2
 returns-2 c =
@@ -36,4 +24,10 @@ returns-2 c =
 pub mark-spec : {M : Type 1} → statement M
 mark-spec =
     tie.close
-    (tie.spec clear-words-requires slice-write-marks same-length returns same-length-2 returns-2)
+    (tie.spec
+    -- clear_words, marks, lengths stay
+    (λ c κs. search needs) (λ c. search needs) (λ c. search needs)
+    returns
+    -- lengths stay
+    (λ c. search needs)
+    returns-2)

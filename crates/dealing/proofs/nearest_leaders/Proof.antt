@@ -19,27 +19,6 @@ loop-holds c =
     let x = c .before .before .before .before .args in
     found-none (vectorsIn (x .dimension) (x .vectors .now)) (x .leaders .now) (x .id) (x .keys .now) (x .found .now)
 
-mul-rank-of : tie.Need-mul-rank-of Inv-loop μ-loop
-mul-rank-of c = search needs
-
-shared-slice-read-rank-of : tie.Need-shared-slice-read-rank-of Inv-loop μ-loop
-shared-slice-read-rank-of c = search needs
-
-rank-of-requires : tie.Need-rank-of-requires Inv-loop μ-loop
-rank-of-requires c κs = search needs
-
-cast-keep-first : tie.Need-cast-keep-first Inv-loop μ-loop
-cast-keep-first c = search needs
-
-keep-first-requires : tie.Need-keep-first-requires Inv-loop μ-loop
-keep-first-requires c κs = search needs
-
-add-l : tie.Need-add-l Inv-loop μ-loop
-add-l c = search needs
-
-loop-less : tie.Need-loop-less Inv-loop μ-loop
-loop-less c = search needs
-
 loop-again : tie.Need-loop-again Inv-loop μ-loop
 loop-again c =
     let l = c .before .before .before .before .before .before .before .before .before .before .loop in
@@ -68,13 +47,8 @@ nearest-leaders-spec =
     Inv-loop
     μ-loop
     loop-holds
-    mul-rank-of
-    shared-slice-read-rank-of
-    rank-of-requires
-    cast-keep-first
-    keep-first-requires
-    add-l
-    loop-less
+    -- rank_of, keep_first, l, the loop measure
+    (λ c. search needs) (λ c. search needs) (λ c κs. search needs) (λ c. search needs) (λ c κs. search needs) (λ c. search needs) (λ c. search needs)
     loop-again
     same-length
     same-length-2

@@ -30,14 +30,8 @@ slice-read-node-at c = omega arith
 cast-node-at : tie.Need-cast-node-at Inv-loop μ-loop
 cast-node-at c = omega (arith, c .slice-known2 .given (c .before .before .loop .i))
 
-node-at-requires : tie.Need-node-at-requires Inv-loop μ-loop
-node-at-requires c κs = search needs
-
 mul-positions : tie.Need-mul-positions Inv-loop μ-loop
 mul-positions c = let n = kept (c .before .before .before) in search needs
-
-slice-write-positions : tie.Need-slice-write-positions Inv-loop μ-loop
-slice-write-positions c = search needs
 
 add-i : tie.Need-add-i Inv-loop μ-loop
 add-i c = let n = kept (c .before .before .before) in omega arith
@@ -76,9 +70,11 @@ nodes-at-spec =
     mul-node-at
     slice-read-node-at
     cast-node-at
-    node-at-requires
+    -- node_at
+    (λ c κs. search needs)
     mul-positions
-    slice-write-positions
+    -- positions
+    (λ c. search needs)
     add-i
     loop-less
     loop-again

@@ -10,45 +10,6 @@ use borrow.Author.Needs.{needs}
 use Rattle.dealing.proofs.place.Statement.{statement}
 use Rattle.dealing.proofs.place.Tie as tie
 
-add-end : tie.Need-add-end
-add-end c = search needs
-
-mul-copy-words : tie.Need-mul-copy-words
-mul-copy-words c = search needs
-
-sub-copy-words : tie.Need-sub-copy-words
-sub-copy-words c = search needs
-
-part-copy-words-start : tie.Need-part-copy-words-start
-part-copy-words-start c = search needs
-
-part-copy-words-end : tie.Need-part-copy-words-end
-part-copy-words-end c = search needs
-
-copy-words-requires : tie.Need-copy-words-requires
-copy-words-requires c κs = search needs
-
-mul-mark : tie.Need-mul-mark
-mul-mark c = search needs
-
-sub-mark : tie.Need-sub-mark
-sub-mark c = search needs
-
-part-mark-start : tie.Need-part-mark-start
-part-mark-start c = search needs
-
-part-mark-end : tie.Need-part-mark-end
-part-mark-end c = search needs
-
-mark-requires : tie.Need-mark-requires
-mark-requires c κs = search needs
-
-same-length : tie.Need-same-length
-same-length c = search needs
-
-same-length-2 : tie.Need-same-length-2
-same-length-2 c = search needs
-
 returns : tie.Need-returns
 returns c =
     let x = c .before .before .before .before .before .before .before .before .before .before .before .args in
@@ -65,17 +26,9 @@ pub place-spec : {M : Type 1} → statement M
 place-spec =
     tie.close
     (tie.spec
-    add-end
-    mul-copy-words
-    sub-copy-words
-    part-copy-words-start
-    part-copy-words-end
-    copy-words-requires
-    mul-mark
-    sub-mark
-    part-mark-start
-    part-mark-end
-    mark-requires
-    same-length
-    same-length-2
+    -- end, copy_words, part-copy-words-start, part-copy-words-end, mark, part-mark-start
+    (λ c. search needs) (λ c. search needs) (λ c. search needs) (λ c. search needs) (λ c. search needs) (λ c κs. search needs) (λ c. search needs)
+    (λ c. search needs) (λ c. search needs)
+    -- part-mark-end, mark, lengths stay
+    (λ c. search needs) (λ c κs. search needs) (λ c. search needs) (λ c. search needs)
     returns)

@@ -8,18 +8,6 @@ use borrow.Author.Needs.{needs}
 use Rattle.dealing.proofs.rank_of.Statement.{statement}
 use Rattle.dealing.proofs.rank_of.Tie as tie
 
-get-vector-requires : tie.Need-get-vector-requires
-get-vector-requires c κs = search needs
-
-get-vector-requires-2 : tie.Need-get-vector-requires-2
-get-vector-requires-2 c κs = search needs
-
-cosine-distance-normalized-requires : tie.Need-cosine-distance-normalized-requires
-cosine-distance-normalized-requires c κs = search needs
-
-key-requires : tie.Need-key-requires
-key-requires c κs = search needs
-
 returns : tie.Need-returns
 unfolding rank between
 returns c =
@@ -30,8 +18,6 @@ pub rank-of-spec : {M : Type 1} → statement M
 rank-of-spec =
     tie.close
     (tie.spec
-    get-vector-requires
-    get-vector-requires-2
-    cosine-distance-normalized-requires
-    key-requires
+    -- get_vector, cosine_distance_normalized, key
+    (λ c κs. search needs) (λ c κs. search needs) (λ c κs. search needs) (λ c κs. search needs)
     returns)

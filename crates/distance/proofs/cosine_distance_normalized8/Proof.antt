@@ -8,9 +8,6 @@ use borrow.Author.Needs.{needs}
 use Rattle.distance.proofs.cosine_distance_normalized8.Statement.{statement}
 use Rattle.distance.proofs.cosine_distance_normalized8.Tie as tie
 
-dot8-requires : tie.Need-dot8-requires
-dot8-requires c κs = search needs
-
 returns : tie.Need-returns
 unfolding ofBits
 returns c =
@@ -27,30 +24,6 @@ returns c =
       g = from-dot binary32 (x .q .now) (x .g .now) (dots .result .g) (ap (λ (r : Eight). r .g) (dots .ensures)) (long .6) i;
       h = from-dot binary32 (x .q .now) (x .h .now) (dots .result .h) (ap (λ (r : Eight). r .h) (dots .ensures)) (long .7) i;
     }
-
-cosine-distance-normalized-requires : tie.Need-cosine-distance-normalized-requires
-cosine-distance-normalized-requires c κs = search needs
-
-cosine-distance-normalized-requires-2 : tie.Need-cosine-distance-normalized-requires-2
-cosine-distance-normalized-requires-2 c κs = search needs
-
-cosine-distance-normalized-requires-3 : tie.Need-cosine-distance-normalized-requires-3
-cosine-distance-normalized-requires-3 c κs = search needs
-
-cosine-distance-normalized-requires-4 : tie.Need-cosine-distance-normalized-requires-4
-cosine-distance-normalized-requires-4 c κs = search needs
-
-cosine-distance-normalized-requires-5 : tie.Need-cosine-distance-normalized-requires-5
-cosine-distance-normalized-requires-5 c κs = search needs
-
-cosine-distance-normalized-requires-6 : tie.Need-cosine-distance-normalized-requires-6
-cosine-distance-normalized-requires-6 c κs = search needs
-
-cosine-distance-normalized-requires-7 : tie.Need-cosine-distance-normalized-requires-7
-cosine-distance-normalized-requires-7 c κs = search needs
-
-cosine-distance-normalized-requires-8 : tie.Need-cosine-distance-normalized-requires-8
-cosine-distance-normalized-requires-8 c κs = search needs
 
 returns-2 : tie.Need-returns-2
 returns-2 c =
@@ -69,14 +42,10 @@ pub cosine-distance-normalized8-spec : {M : Type 1} → statement M
 cosine-distance-normalized8-spec =
     tie.close
     (tie.spec
-    dot8-requires
+    -- dot8
+    (λ c κs. search needs)
     returns
-    cosine-distance-normalized-requires
-    cosine-distance-normalized-requires-2
-    cosine-distance-normalized-requires-3
-    cosine-distance-normalized-requires-4
-    cosine-distance-normalized-requires-5
-    cosine-distance-normalized-requires-6
-    cosine-distance-normalized-requires-7
-    cosine-distance-normalized-requires-8
+    -- cosine_distance_normalized
+    (λ c κs. search needs) (λ c κs. search needs) (λ c κs. search needs) (λ c κs. search needs) (λ c κs. search needs) (λ c κs. search needs)
+    (λ c κs. search needs) (λ c κs. search needs)
     returns-2)

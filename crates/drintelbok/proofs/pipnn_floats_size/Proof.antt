@@ -7,15 +7,6 @@ use borrow.Author.Needs.{needs}
 use Rattle.drintelbok.proofs.pipnn_floats_size.Statement.{statement}
 use Rattle.drintelbok.proofs.pipnn_floats_size.Tie as tie
 
-capacity-within-requires : tie.Need-capacity-within-requires
-capacity-within-requires c κs = search needs
-
-dimension-within-requires : tie.Need-dimension-within-requires
-dimension-within-requires c κs = search needs
-
-floats-size-requires : tie.Need-floats-size-requires
-floats-size-requires c κs = search needs
-
 returns : tie.Need-returns
 unfolding floatsNeeded
 returns c =
@@ -35,8 +26,7 @@ pub pipnn-floats-size-spec : {M : Type 1} → statement M
 pipnn-floats-size-spec =
     tie.close
     (tie.spec
-    capacity-within-requires
-    dimension-within-requires
-    floats-size-requires
+    -- capacity_within, dimension_within, floats_size
+    (λ c κs. search needs) (λ c κs. search needs) (λ c κs. search needs)
     returns
     returns-2)

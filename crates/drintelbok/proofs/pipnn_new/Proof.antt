@@ -8,22 +8,10 @@ use borrow.Author.Needs.{needs}
 use Rattle.drintelbok.proofs.pipnn_new.Statement.{statement}
 use Rattle.drintelbok.proofs.pipnn_new.Tie as tie
 
-dimension-within-requires : tie.Need-dimension-within-requires
-dimension-within-requires c κs = search needs
-
 returns : tie.Need-returns
 returns c =
     let a = c .before .before .before .before .args in
     turned-back (a .dimension) (a .final-prune) _ (a .capacity) (a .words .now) (a .floats .now) (c .before .dimension-within .result) (c .before .dimension-within .ensures) (c .if1 .taken)
-
-new-requires : tie.Need-new-requires
-new-requires c κs = search needs
-
-same-length : tie.Need-same-length
-same-length c = search needs
-
-same-length-2 : tie.Need-same-length-2
-same-length-2 c = search needs
 
 abbrev params : tie.Start → PipnnParams
 params s =
@@ -42,4 +30,10 @@ returns-2 c =
 pub pipnn-new-spec : {M : Type 1} → statement M
 pipnn-new-spec =
     tie.close
-    (tie.spec dimension-within-requires returns new-requires same-length same-length-2 returns-2)
+    (tie.spec
+    -- dimension_within
+    (λ c κs. search needs)
+    returns
+    -- new, lengths stay
+    (λ c κs. search needs) (λ c. search needs) (λ c. search needs)
+    returns-2)

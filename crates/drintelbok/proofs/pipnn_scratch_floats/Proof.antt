@@ -6,12 +6,6 @@ use borrow.Author.Needs.{needs}
 use Rattle.drintelbok.proofs.pipnn_scratch_floats.Statement.{statement}
 use Rattle.drintelbok.proofs.pipnn_scratch_floats.Tie as tie
 
-capacity-within-requires : tie.Need-capacity-within-requires
-capacity-within-requires c κs = search needs
-
-scratch-floats-requires : tie.Need-scratch-floats-requires
-scratch-floats-requires c κs = search needs
-
 returns : tie.Need-returns
 unfolding scratchFloatsNeeded
 returns c = c .scratch-floats .ensures ∙ sym (pick-true _ _ (sym (c .before .before .capacity-within .ensures) ∙ c .before .if1 .taken))
@@ -22,4 +16,8 @@ returns-2 c = sym (pick-false _ _ (sym (c .before .capacity-within .ensures) ∙
 
 pub pipnn-scratch-floats-spec : {M : Type 1} → statement M
 pipnn-scratch-floats-spec =
-    tie.close (tie.spec capacity-within-requires scratch-floats-requires returns returns-2)
+    tie.close (tie.spec
+    -- capacity_within, scratch_floats
+    (λ c κs. search needs) (λ c κs. search needs)
+    returns
+    returns-2)

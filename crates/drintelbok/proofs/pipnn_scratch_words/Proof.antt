@@ -6,12 +6,6 @@ use borrow.Author.Needs.{needs}
 use Rattle.drintelbok.proofs.pipnn_scratch_words.Statement.{statement}
 use Rattle.drintelbok.proofs.pipnn_scratch_words.Tie as tie
 
-capacity-within-requires : tie.Need-capacity-within-requires
-capacity-within-requires c κs = search needs
-
-scratch-words-requires : tie.Need-scratch-words-requires
-scratch-words-requires c κs = search needs
-
 returns : tie.Need-returns
 unfolding scratchWordsNeeded
 returns c = c .scratch-words .ensures ∙ sym (pick-true _ _ (sym (c .before .before .capacity-within .ensures) ∙ c .before .if1 .taken))
@@ -22,4 +16,8 @@ returns-2 c = sym (pick-false _ _ (sym (c .before .capacity-within .ensures) ∙
 
 pub pipnn-scratch-words-spec : {M : Type 1} → statement M
 pipnn-scratch-words-spec =
-    tie.close (tie.spec capacity-within-requires scratch-words-requires returns returns-2)
+    tie.close (tie.spec
+    -- capacity_within, scratch_words
+    (λ c κs. search needs) (λ c κs. search needs)
+    returns
+    returns-2)

@@ -13,17 +13,11 @@ use borrow.Author.Needs.{needs}
 use Rattle.drintelbok.proofs.pipnn_words_size.Statement.{statement}
 use Rattle.drintelbok.proofs.pipnn_words_size.Tie as tie
 
-capacity-within-requires : tie.Need-capacity-within-requires
-capacity-within-requires c κs = search needs
-
 cast-words-size : tie.Need-cast-words-size
 cast-words-size c =
     let degree = c .before .before .args .max-degree in
     let few : degree ≤ mostDegree = leb-true degree mostDegree (both-true (c .before .capacity-within .result) (leb degree mostDegree) (c .if1 .taken) .1) in
     omega (arith, few)
-
-words-size-requires : tie.Need-words-size-requires
-words-size-requires c κs = search needs
 
 returns : tie.Need-returns
 unfolding wordsNeeded
@@ -41,4 +35,11 @@ returns-2 c =
 pub pipnn-words-size-spec : {M : Type 1} → statement M
 pipnn-words-size-spec =
     tie.close
-    (tie.spec capacity-within-requires cast-words-size words-size-requires returns returns-2)
+    (tie.spec
+    -- capacity_within
+    (λ c κs. search needs)
+    cast-words-size
+    -- words_size
+    (λ c κs. search needs)
+    returns
+    returns-2)

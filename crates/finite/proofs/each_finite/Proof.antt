@@ -18,24 +18,6 @@ Inv-loop v ok₀ i₀ ok i = (i ≤ length v) × ((ok && every finite (drop i v)
 abbrev μ-loop : tie.MeasureT-loop
 μ-loop v ok₀ i₀ ok i = length v - i
 
-loop-holds : tie.Need-loop-holds Inv-loop μ-loop
-loop-holds c = search needs
-
-mul-is-finite : tie.Need-mul-is-finite Inv-loop μ-loop
-mul-is-finite c = search needs
-
-shared-slice-read-is-finite : tie.Need-shared-slice-read-is-finite Inv-loop μ-loop
-shared-slice-read-is-finite c = search needs
-
-is-finite-requires : tie.Need-is-finite-requires Inv-loop μ-loop
-is-finite-requires c κs = search needs
-
-add-i : tie.Need-add-i Inv-loop μ-loop
-add-i c = search needs
-
-loop-less : tie.Need-loop-less Inv-loop μ-loop
-loop-less c = search needs
-
 loop-again : tie.Need-loop-again Inv-loop μ-loop
 loop-again c =
     let v = c .before .before .before .before .before .args .v .now in
@@ -54,11 +36,7 @@ each-finite-spec =
     (tie.spec
     Inv-loop
     μ-loop
-    loop-holds
-    mul-is-finite
-    shared-slice-read-is-finite
-    is-finite-requires
-    add-i
-    loop-less
+    -- the loop begins, is_finite, i, the loop measure
+    (λ c. search needs) (λ c. search needs) (λ c. search needs) (λ c κs. search needs) (λ c. search needs) (λ c. search needs)
     loop-again
     returns)

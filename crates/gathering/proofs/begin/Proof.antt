@@ -9,14 +9,12 @@ returns c =
     let a = (c .before .before) .args in
     λ long. absurd (omega (arith, c .if1 .taken))
 
-visit-requires : tie.Need-visit-requires
-visit-requires c κs = search needs
-
-same-length : tie.Need-same-length
-same-length c = search needs
-
 returns-2 : tie.Need-returns-2
 returns-2 c = λ long. c .before .before .visit .ensures
 
 pub begin-spec : {M : Type 1} → statement M
-begin-spec = tie.close (tie.spec returns visit-requires same-length returns-2)
+begin-spec = tie.close (tie.spec
+    returns
+    -- visit, lengths stay
+    (λ c κs. search needs) (λ c. search needs)
+    returns-2)

@@ -18,21 +18,6 @@ returns c = λ linked below long. absurd (omega (arith, c .if1 .taken))
 returns-2 : tie.Need-returns-2
 returns-2 c = λ linked below long. absurd (omega (arith, c .if2 .taken, linked .few))
 
-row-of-requires : tie.Need-row-of-requires
-row-of-requires c κs = search needs
-
-visit-all-requires : tie.Need-visit-all-requires
-visit-all-requires c κs = search needs
-
-cast-visit-ends : tie.Need-cast-visit-ends
-cast-visit-ends c = search needs
-
-visit-ends-requires : tie.Need-visit-ends-requires
-visit-ends-requires c κs = search needs
-
-same-length : tie.Need-same-length
-same-length c = search needs
-
 returns-3 : tie.Need-returns-3
 unfolding listOf
 returns-3 c =
@@ -46,4 +31,9 @@ returns-3 c =
 pub gather-spec : {M : Type 1} → statement M
 gather-spec =
     tie.close
-    (tie.spec returns returns-2 row-of-requires visit-all-requires cast-visit-ends visit-ends-requires same-length returns-3)
+    (tie.spec
+    returns
+    returns-2
+    -- row_of, visit_all, visit_ends, lengths stay
+    (λ c κs. search needs) (λ c κs. search needs) (λ c. search needs) (λ c κs. search needs) (λ c. search needs)
+    returns-3)

@@ -16,20 +16,8 @@ abbrev μ-loop : tie.MeasureT-loop
 loop-holds : tie.Need-loop-holds Inv-loop μ-loop
 loop-holds c = passed-none ((c .before .before) .args .size) ((c .before .before) .args .list .now) ((c .before .before) .args .words .now) ((c .before .before) .args .count)
 
-mul-visit : tie.Need-mul-visit Inv-loop μ-loop
-mul-visit c = search needs
-
-shared-slice-read-visit : tie.Need-shared-slice-read-visit Inv-loop μ-loop
-shared-slice-read-visit c = search needs
-
 visit-requires : tie.Need-visit-requires Inv-loop μ-loop
 visit-requires c κs = let l = c .before .before .before .loop in omega (arith, l .inv .kept, (c .before .before .before .before .before .before) .pre)
-
-add-i : tie.Need-add-i Inv-loop μ-loop
-add-i c = search needs
-
-loop-less : tie.Need-loop-less Inv-loop μ-loop
-loop-less c = search needs
 
 loop-again : tie.Need-loop-again Inv-loop μ-loop
 loop-again c = let l = c .before .before .before .before .before .before .loop in let v = c .before .before .visit in passed-more (l .inv) (c .before .before .before .before .before .loop-test .taken) (v .kept .0) (v .ensures)
@@ -47,11 +35,11 @@ visit-all-spec =
     Inv-loop
     μ-loop
     loop-holds
-    mul-visit
-    shared-slice-read-visit
+    -- visit
+    (λ c. search needs) (λ c. search needs)
     visit-requires
-    add-i
-    loop-less
+    -- i, the loop measure
+    (λ c. search needs) (λ c. search needs)
     loop-again
     same-length
     returns)

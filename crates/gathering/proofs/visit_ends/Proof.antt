@@ -14,20 +14,11 @@ Inv-loop words₀ n count bridges links fresh₀ link₀ words fresh link = Foll
 abbrev μ-loop : tie.MeasureT-loop
 μ-loop words₀ n count bridges links fresh₀ link₀ words fresh link = length (linkedEnds n bridges links link)
 
-first-link-requires : tie.Need-first-link-requires Inv-loop μ-loop
-first-link-requires c κs = search needs
-
 loop-holds : tie.Need-loop-holds Inv-loop μ-loop
 loop-holds c = let a = (c .before .before .before .before) .args in followed-none (a .n) (a .bridges .now) (a .links .now) (a .node .0) (c .first-link .result) (a .words .now) (a .count) (c .first-link .ensures)
 
-other-end-requires : tie.Need-other-end-requires Inv-loop μ-loop
-other-end-requires c κs = search needs
-
 visit-requires : tie.Need-visit-requires Inv-loop μ-loop
 visit-requires c κs = let l = c .before .before .before .loop in omega (arith, l .inv .kept, (c .before .before .before .before .before .before .before .before) .pre)
-
-next-link-requires : tie.Need-next-link-requires Inv-loop μ-loop
-next-link-requires c κs = search needs
 
 loop-less : tie.Need-loop-less Inv-loop μ-loop
 loop-less c =
@@ -58,11 +49,14 @@ visit-ends-spec =
     (tie.spec
     Inv-loop
     μ-loop
-    first-link-requires
+    -- first_link
+    (λ c κs. search needs)
     loop-holds
-    other-end-requires
+    -- other_end
+    (λ c κs. search needs)
     visit-requires
-    next-link-requires
+    -- next_link
+    (λ c κs. search needs)
     loop-less
     loop-again
     same-length

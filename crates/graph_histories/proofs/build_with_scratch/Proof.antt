@@ -6,59 +6,22 @@ use borrow.Author.Needs.{needs}
 use Rattle.graph_histories.proofs.build_with_scratch.Statement.{statement}
 use Rattle.graph_histories.proofs.build_with_scratch.Tie as tie
 
-size-requires : tie.Need-size-requires
-size-requires c κs = search needs
-
-lesser-requires : tie.Need-lesser-requires
-lesser-requires c κs = search needs
-
-size-requires-2 : tie.Need-size-requires-2
-size-requires-2 c κs = search needs
-
-lesser-requires-2 : tie.Need-lesser-requires-2
-lesser-requires-2 c κs = search needs
-
-scratch-words-requires : tie.Need-scratch-words-requires
-scratch-words-requires c κs = search needs
-
-scratch-floats-requires : tie.Need-scratch-floats-requires
-scratch-floats-requires c κs = search needs
-
-array-borrow-prefix-sw : tie.Need-array-borrow-prefix-sw
-array-borrow-prefix-sw c = search needs
-
 slice-aggregate-build : tie.Need-slice-aggregate-build
 slice-aggregate-build c = sym (length-take-le _ _ (omega arith))
 
-array-borrow-prefix-sf : tie.Need-array-borrow-prefix-sf
-array-borrow-prefix-sf c = search needs
-
 slice-aggregate-build-2 : tie.Need-slice-aggregate-build-2
 slice-aggregate-build-2 c = sym (length-take-le _ _ (omega arith))
-
-build-requires : tie.Need-build-requires
-build-requires c κs = search needs
-
-same-length : tie.Need-same-length
-same-length c = search needs
-
-returns : tie.Need-returns
-returns c = search needs
 
 pub build-with-scratch-spec : {M : Type 1} → statement M
 build-with-scratch-spec =
     tie.close
     (tie.spec
-    size-requires
-    lesser-requires
-    size-requires-2
-    lesser-requires-2
-    scratch-words-requires
-    scratch-floats-requires
-    array-borrow-prefix-sw
+    -- size, lesser, scratch_words, scratch_floats, array-borrow-prefix-sw
+    (λ c κs. search needs) (λ c κs. search needs) (λ c κs. search needs) (λ c κs. search needs) (λ c κs. search needs) (λ c κs. search needs)
+    (λ c. search needs)
     slice-aggregate-build
-    array-borrow-prefix-sf
+    -- array-borrow-prefix-sf
+    (λ c. search needs)
     slice-aggregate-build-2
-    build-requires
-    same-length
-    returns)
+    -- build, the return, lengths stay
+    (λ c κs. search needs) (λ c. search needs) (λ c. search needs))

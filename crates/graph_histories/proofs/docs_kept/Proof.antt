@@ -13,45 +13,12 @@ abbrev μ-loop : tie.MeasureT-loop
 μ-loop docs count same₀ x₀ i₀ same x i =
     length docs - i
 
-loop-holds : tie.Need-loop-holds Inv-loop μ-loop
-loop-holds c = search needs
-
-mul-same : tie.Need-mul-same Inv-loop μ-loop
-mul-same c = search needs
-
-shared-slice-read-same : tie.Need-shared-slice-read-same Inv-loop μ-loop
-shared-slice-read-same c = search needs
-
-cast-same : tie.Need-cast-same Inv-loop μ-loop
-cast-same c = search needs
-
-wrapping-add-u64-requires : tie.Need-wrapping-add-u64-requires Inv-loop μ-loop
-wrapping-add-u64-requires c κs = search needs
-
-add-i : tie.Need-add-i Inv-loop μ-loop
-add-i c = search needs
-
-loop-less : tie.Need-loop-less Inv-loop μ-loop
-loop-less c = search needs
-
-loop-again : tie.Need-loop-again Inv-loop μ-loop
-loop-again c = search needs
-
-returns : tie.Need-returns Inv-loop μ-loop
-returns c = search needs
-
 pub docs-kept-spec : {M : Type 1} → statement M
 docs-kept-spec =
     tie.close
     (tie.spec
     Inv-loop
     μ-loop
-    loop-holds
-    mul-same
-    shared-slice-read-same
-    cast-same
-    wrapping-add-u64-requires
-    add-i
-    loop-less
-    loop-again
-    returns)
+    -- the loop begins, same, wrapping_add_u64, i, the loop measure, the loop goes on, the return
+    (λ c. search needs) (λ c. search needs) (λ c. search needs) (λ c. search needs) (λ c κs. search needs) (λ c. search needs) (λ c. search needs)
+    (λ c. search needs) (λ c. search needs))

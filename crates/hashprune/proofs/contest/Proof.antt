@@ -7,36 +7,6 @@ use borrow.Author.Needs.{needs}
 use Rattle.hashprune.proofs.contest.Statement.{statement}
 use Rattle.hashprune.proofs.contest.Tie as tie
 
-mul-holder : tie.Need-mul-holder
-mul-holder c = search needs
-
-slice-read-holder : tie.Need-slice-read-holder
-slice-read-holder c = search needs
-
-mul-if1 : tie.Need-mul-if1
-mul-if1 c = search needs
-
-shared-slice-read-if1 : tie.Need-shared-slice-read-if1
-shared-slice-read-if1 c = search needs
-
-cast-if1 : tie.Need-cast-if1
-cast-if1 c = search needs
-
-mul-if1-2 : tie.Need-mul-if1-2
-mul-if1-2 c = search needs
-
-shared-slice-read-if1-2 : tie.Need-shared-slice-read-if1-2
-shared-slice-read-if1-2 c = search needs
-
-mul-places : tie.Need-mul-places
-mul-places c = search needs
-
-slice-write-places : tie.Need-slice-write-places
-slice-write-places c = search needs
-
-same-length : tie.Need-same-length
-same-length c = search needs
-
 returns : tie.Need-returns
 returns c =
     let a = c .before .before .before .before .args in
@@ -51,15 +21,8 @@ pub contest-spec : {M : Type 1} → statement M
 contest-spec =
     tie.close
     (tie.spec
-    mul-holder
-    slice-read-holder
-    mul-if1
-    shared-slice-read-if1
-    cast-if1
-    mul-if1-2
-    shared-slice-read-if1-2
-    mul-places
-    slice-write-places
-    same-length
+    -- holder, if1, places, lengths stay
+    (λ c. search needs) (λ c. search needs) (λ c. search needs) (λ c. search needs) (λ c. search needs) (λ c. search needs) (λ c. search needs)
+    (λ c. search needs) (λ c. search needs) (λ c. search needs)
     returns
     returns-2)

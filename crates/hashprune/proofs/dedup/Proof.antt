@@ -19,37 +19,10 @@ abbrev μ-loop : tie.MeasureT-loop
 loop-holds : tie.Need-loop-holds Inv-loop μ-loop
 loop-holds c = deduped-none (c .before .args .ids .now)
 
-sub-i : tie.Need-sub-i Inv-loop μ-loop
-sub-i c = search needs
-
-mul-id : tie.Need-mul-id Inv-loop μ-loop
-mul-id c = search needs
-
-slice-read-id : tie.Need-slice-read-id Inv-loop μ-loop
-slice-read-id c = search needs
-
-stands-at-requires : tie.Need-stands-at-requires Inv-loop μ-loop
-stands-at-requires c κs = search needs
-
-sub-from : tie.Need-sub-from Inv-loop μ-loop
-sub-from c = search needs
-
-mul-ids : tie.Need-mul-ids Inv-loop μ-loop
-mul-ids c = search needs
-
-slice-write-ids : tie.Need-slice-write-ids Inv-loop μ-loop
-slice-write-ids c = search needs
-
-loop-less : tie.Need-loop-less Inv-loop μ-loop
-loop-less c = search needs
-
 loop-again : tie.Need-loop-again Inv-loop μ-loop
 loop-again c =
     let l = c .before .before .before .before .before .loop in
     deduped-kept (c .before .before .before .before .before .before .before .args .ids .now) (l .ids) (l .i) (l .from) (c .before .before .before .before .loop-test .taken) (l .inv) (sym (c .before .stands-at .ensures) ∙ not-true _ (c .if1 .taken))
-
-loop-less-2 : tie.Need-loop-less-2 Inv-loop μ-loop
-loop-less-2 c = search needs
 
 loop-again-2 : tie.Need-loop-again-2 Inv-loop μ-loop
 loop-again-2 c =
@@ -73,16 +46,12 @@ dedup-spec =
     Inv-loop
     μ-loop
     loop-holds
-    sub-i
-    mul-id
-    slice-read-id
-    stands-at-requires
-    sub-from
-    mul-ids
-    slice-write-ids
-    loop-less
+    -- i, id, stands_at, from, ids, the loop measure
+    (λ c. search needs) (λ c. search needs) (λ c. search needs) (λ c κs. search needs) (λ c. search needs) (λ c. search needs) (λ c. search needs)
+    (λ c. search needs)
     loop-again
-    loop-less-2
+    -- the loop measure
+    (λ c. search needs)
     loop-again-2
     same-length
     returns)

@@ -24,18 +24,6 @@ loop-holds c =
     let a = c .before .before .before .before .before .before .before .args in
     (omega arith, refl, refl, came-none (farAt (a .far .now)) (hashAt (a .vectors .now) (a .dimension) (a .bits) (a .planes .now) (a .p .now) (a .candidates .now)) (a .hashes .now) (a .places .now))
 
-mul-hash-of-node : tie.Need-mul-put-cell Inv-loop μ-loop
-mul-hash-of-node c = search needs
-
-shared-slice-read-hash-of-node : tie.Need-shared-slice-read-put-cell Inv-loop μ-loop
-shared-slice-read-hash-of-node c = search needs
-
-hash-of-node-requires : tie.Need-hash-of-node-requires Inv-loop μ-loop
-hash-of-node-requires c κs = search needs
-
-cast-put-cell : tie.Need-cast-put-cell Inv-loop μ-loop
-cast-put-cell c = search needs
-
 put-cell-requires : tie.Need-put-cell-requires Inv-loop μ-loop
 put-cell-requires c κs =
     let s = c .before .before .before .before .before .before .before .before .before .before .before .before .before in
@@ -48,12 +36,6 @@ put-cell-requires c κs =
       place-inside = omega (arith, s .pre .fars);
       inside = λ x m. let k = inside x m in omega (arith, s .pre .fars);
     }
-
-add-i : tie.Need-add-i Inv-loop μ-loop
-add-i c = search needs
-
-loop-less : tie.Need-loop-less Inv-loop μ-loop
-loop-less c = search needs
 
 loop-again : tie.Need-loop-again Inv-loop μ-loop
 loop-again c =
@@ -88,13 +70,11 @@ fill-cells-spec =
     Inv-loop
     μ-loop
     loop-holds
-    mul-hash-of-node
-    shared-slice-read-hash-of-node
-    hash-of-node-requires
-    cast-put-cell
+    -- hash_of_node, put_cell
+    (λ c. search needs) (λ c. search needs) (λ c κs. search needs) (λ c. search needs)
     put-cell-requires
-    add-i
-    loop-less
+    -- i, the loop measure
+    (λ c. search needs) (λ c. search needs)
     loop-again
     same-length
     same-length-2

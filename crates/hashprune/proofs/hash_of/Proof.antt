@@ -13,20 +13,8 @@ use borrow.Author.Needs.{needs}
 use Rattle.hashprune.proofs.hash_of.Statement.{statement}
 use Rattle.hashprune.proofs.hash_of.Tie as tie
 
-lesser-requires : tie.Need-lesser-requires
-lesser-requires c κs = search needs
-
-lesser-requires-2 : tie.Need-lesser-requires-2
-lesser-requires-2 c κs = search needs
-
-array-borrow-prefix-room : tie.Need-array-borrow-prefix-room
-array-borrow-prefix-room c = search needs
-
 slice-aggregate-residual-into : tie.Need-slice-aggregate-residual-into
 slice-aggregate-residual-into c = simp length-take (omega arith)
-
-residual-into-requires : tie.Need-residual-into-requires
-residual-into-requires c κs = search needs
 
 array-share-prefix-room : tie.Need-array-share-prefix-room
 array-share-prefix-room c =
@@ -37,9 +25,6 @@ slice-aggregate-simhash-residual : tie.Need-slice-aggregate-simhash-residual
 slice-aggregate-simhash-residual c =
     let k = simp length-take at (c .before .before .residual-into .kept .1 .1 .0) in
     simp (length-take, length-append, length-drop) (omega (arith, k))
-
-simhash-residual-requires : tie.Need-simhash-residual-requires
-simhash-residual-requires c κs = search needs
 
 returns : tie.Need-returns
 returns c =
@@ -55,12 +40,13 @@ pub hash-of-spec : {M : Type 1} → statement M
 hash-of-spec =
     tie.close
     (tie.spec
-    lesser-requires
-    lesser-requires-2
-    array-borrow-prefix-room
+    -- lesser, array-borrow-prefix-room
+    (λ c κs. search needs) (λ c κs. search needs) (λ c. search needs)
     slice-aggregate-residual-into
-    residual-into-requires
+    -- residual_into
+    (λ c κs. search needs)
     array-share-prefix-room
     slice-aggregate-simhash-residual
-    simhash-residual-requires
+    -- simhash_residual
+    (λ c κs. search needs)
     returns)

@@ -5,16 +5,13 @@ use borrow.Author.Needs.{needs}
 use Rattle.hashprune.proofs.hash_of_node.Statement.{statement}
 use Rattle.hashprune.proofs.hash_of_node.Tie as tie
 
-get-vector-requires : tie.Need-get-vector-requires
-get-vector-requires c κs = search needs
-
-hash-of-requires : tie.Need-hash-of-requires
-hash-of-requires c κs = search needs
-
 returns : tie.Need-returns
 returns c =
     let a = c .before .before .before .before .before .args in
     c .hash-of .ensures ∙ ap (hashBy (a .planes .now) (a .bits) (a .p .now)) (c .before .get-vector .ensures)
 
 pub hash-of-node-spec : {M : Type 1} → statement M
-hash-of-node-spec = tie.close (tie.spec get-vector-requires hash-of-requires returns)
+hash-of-node-spec = tie.close (tie.spec
+    -- get_vector, hash_of
+    (λ c κs. search needs) (λ c κs. search needs)
+    returns)

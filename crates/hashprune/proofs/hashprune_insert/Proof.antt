@@ -23,15 +23,6 @@ returns-3 c = λ old t. absurd (omega (arith, c .if3 .taken, t .row-some))
 returns-4 : tie.Need-returns-4
 returns-4 c = λ old t. absurd (omega (arith, c .if4 .taken, t .row-most))
 
-get-vector-requires : tie.Need-get-vector-requires
-get-vector-requires c κs = search needs
-
-insert-fitting-requires : tie.Need-insert-fitting-requires
-insert-fitting-requires c κs = search needs
-
-same-length : tie.Need-same-length
-same-length c = search needs
-
 returns-5 : tie.Need-returns-5
 returns-5 c = λ old t.
     let a = c .before .before .before .before .before .before .before .before .before .before .before .before .before .before .args in
@@ -47,7 +38,6 @@ hashprune-insert-spec =
     returns-2
     returns-3
     returns-4
-    get-vector-requires
-    insert-fitting-requires
-    same-length
+    -- get_vector, insert_fitting, lengths stay
+    (λ c κs. search needs) (λ c κs. search needs) (λ c. search needs)
     returns-5)

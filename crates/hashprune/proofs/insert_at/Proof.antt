@@ -17,32 +17,11 @@ abbrev μ-loop : tie.MeasureT-loop
 loop-holds : tie.Need-loop-holds Inv-loop μ-loop
 loop-holds c = let a = c .args in carried-first (a .s .now) (a .at) (a .v) (c .pre)
 
-mul-next : tie.Need-mul-next Inv-loop μ-loop
-mul-next c = search needs
-
-slice-read-next : tie.Need-slice-read-next Inv-loop μ-loop
-slice-read-next c = search needs
-
-mul-s : tie.Need-mul-s Inv-loop μ-loop
-mul-s c = search needs
-
-slice-write-s : tie.Need-slice-write-s Inv-loop μ-loop
-slice-write-s c = search needs
-
-add-j : tie.Need-add-j Inv-loop μ-loop
-add-j c = search needs
-
-loop-less : tie.Need-loop-less Inv-loop μ-loop
-loop-less c = search needs
-
 loop-again : tie.Need-loop-again Inv-loop μ-loop
 loop-again c =
     let l = c .before .before .loop in
     let a = c .before .before .before .args in
     carried-more (a .s .now) (a .at) (a .v) (c .before .before .before .pre) (l .s) (l .carried) (l .j) (omega arith) (l .inv)
-
-same-length : tie.Need-same-length Inv-loop μ-loop
-same-length c = search needs
 
 returns : tie.Need-returns Inv-loop μ-loop
 returns c =
@@ -57,12 +36,9 @@ insert-at-spec =
     Inv-loop
     μ-loop
     loop-holds
-    mul-next
-    slice-read-next
-    mul-s
-    slice-write-s
-    add-j
-    loop-less
+    -- next, s, j, the loop measure
+    (λ c. search needs) (λ c. search needs) (λ c. search needs) (λ c. search needs) (λ c. search needs) (λ c. search needs)
     loop-again
-    same-length
+    -- lengths stay
+    (λ c. search needs)
     returns)

@@ -82,9 +82,6 @@ select-requires c κs =
 sub-lesser : tie.Need-sub-lesser
 sub-lesser c = omega (arith, c .before .before .before .before .before .before .before .before .before .before .before .before .before .before .before .before .before .before .before .before .before .before .before .before .before .before .before .before .before .before .before .pre .0 .counted)
 
-lesser-requires : tie.Need-lesser-requires
-lesser-requires c κs = search needs
-
 add-all : tie.Need-add-all
 add-all c = omega (arith, all-few c)
 
@@ -116,9 +113,6 @@ merge-row-requires c κs =
       spare-ids-room = simp length-take (omega (arith, scratch .1 .1 .1 .1 .1 .1 .1 .1 .0, s .pre .1 .places-room));
       counted = s .pre .0 .counted;
     }
-
-same-length : tie.Need-same-length
-same-length c = search needs
 
 same-length-2 : tie.Need-same-length-2
 same-length-2 c = omega (arith, c .before .before .before .before .before .before .before .before .before .keys3 .given, c .before .before .before .before .before .before .before .before .before .before .before .before .before .before .before .before .before .before .before .before .keys2 .given, c .before .before .before .before .before .before .before .before .before .before .before .before .before .before .before .before .before .before .before .before .before .before .before .before .before .before .before .before .before .before .before .before .before .before .rank-row .kept .1 .1 .1 .1 .0)
@@ -161,14 +155,16 @@ insert-with-spec =
     part-select-end-2
     select-requires
     sub-lesser
-    lesser-requires
+    -- lesser
+    (λ c κs. search needs)
     add-all
     slice-relend-prefix-merge-row
     slice-aggregate-merge-row
     slice-relend-prefix-merge-row-2
     slice-aggregate-merge-row-2
     merge-row-requires
-    same-length
+    -- lengths stay
+    (λ c. search needs)
     same-length-2
     same-length-3
     same-length-4

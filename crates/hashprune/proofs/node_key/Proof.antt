@@ -7,15 +7,6 @@ use borrow.Author.Needs.{needs}
 use Rattle.hashprune.proofs.node_key.Statement.{statement}
 use Rattle.hashprune.proofs.node_key.Tie as tie
 
-get-vector-requires : tie.Need-get-vector-requires
-get-vector-requires c κs = search needs
-
-cosine-distance-normalized-requires : tie.Need-cosine-distance-normalized-requires
-cosine-distance-normalized-requires c κs = search needs
-
-key-requires : tie.Need-key-requires
-key-requires c κs = search needs
-
 returns : tie.Need-returns
 returns c =
     let a = c .before .before .before .before .before .args in
@@ -24,4 +15,7 @@ returns c =
 pub node-key-spec : {M : Type 1} → statement M
 node-key-spec =
     tie.close
-    (tie.spec get-vector-requires cosine-distance-normalized-requires key-requires returns)
+    (tie.spec
+    -- get_vector, cosine_distance_normalized, key
+    (λ c κs. search needs) (λ c κs. search needs) (λ c κs. search needs)
+    returns)

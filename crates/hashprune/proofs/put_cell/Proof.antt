@@ -12,23 +12,11 @@ use Rattle.hashprune.proofs.Cells.{at-within, at-inside, taken-cells, n
 use Rattle.hashprune.proofs.put_cell.Statement.{statement}
 use Rattle.hashprune.proofs.put_cell.Tie as tie
 
-slice-reshare-prefix-place-of : tie.Need-slice-reshare-prefix-place-of
-slice-reshare-prefix-place-of c = search needs
-
 slice-aggregate-place-of : tie.Need-slice-aggregate-place-of
 slice-aggregate-place-of c = simp length-take (omega arith)
 
-place-of-requires : tie.Need-place-of-requires
-place-of-requires c κs = search needs
-
-slice-reshare-prefix-stands-at : tie.Need-slice-reshare-prefix-stands-at
-slice-reshare-prefix-stands-at c = search needs
-
 slice-aggregate-stands-at : tie.Need-slice-aggregate-stands-at
 slice-aggregate-stands-at c = simp length-take (omega arith)
-
-stands-at-requires : tie.Need-stands-at-requires
-stands-at-requires c κs = search needs
 
 contest-requires : tie.Need-contest-requires
 contest-requires c κs =
@@ -40,12 +28,6 @@ contest-requires c κs =
     let inside = at-inside (farAt (a .far .now)) (a .held) (a .hash) (a .place) (at .result) (a .hashes .now) (a .places .now) (le-of-lt (s .pre .hashes-room)) (le-of-lt (s .pre .places-room)) (at .ensures) test in
     (omega (arith, s .pre .places-room), s .pre .place-inside, holder-inside (farAt (a .far .now)) (a .held) (a .hash) (a .place) (at .result) (a .hashes .now) (a .places .now) (le-of-lt (s .pre .hashes-room)) (le-of-lt (s .pre .places-room)) (at .ensures) (length (a .far .now)) (s .pre .inside) test)
 
-same-length : tie.Need-same-length
-same-length c = search needs
-
-same-length-2 : tie.Need-same-length-2
-same-length-2 c = search needs
-
 returns : tie.Need-returns
 returns c =
     let s = c .before .before .before .before .before .before .before .before .before .before .before .before in
@@ -54,12 +36,6 @@ returns c =
     let t = c .before .before .before .before .before .stands-at in
     let test = sym (t .ensures) ∙ c .before .before .before .before .if1 .taken in
     (omega arith, taken-cells (farAt (a .far .now)) (a .held) (a .hash) (a .place) (at .result) (a .hashes .now) (a .places .now) (le-of-lt (s .pre .hashes-room)) (le-of-lt (s .pre .places-room)) (at .ensures) _ test (c .before .before .contest .ensures))
-
-add-end : tie.Need-add-end
-add-end c = search needs
-
-slice-relend-prefix-insert-at : tie.Need-slice-relend-prefix-insert-at
-slice-relend-prefix-insert-at c = search needs
 
 slice-aggregate-insert-at : tie.Need-slice-aggregate-insert-at
 slice-aggregate-insert-at c = simp length-take (omega arith)
@@ -73,9 +49,6 @@ insert-at-requires c κs =
     let within = at-within (farAt (a .far .now)) (a .held) (a .hash) (a .place) (at .result) (a .hashes .now) (a .places .now) (le-of-lt (s .pre .hashes-room)) (le-of-lt (s .pre .places-room)) (at .ensures) in
     simp length-take (omega (arith, s .pre .hashes-room))
 
-slice-relend-prefix-insert-at-2 : tie.Need-slice-relend-prefix-insert-at-2
-slice-relend-prefix-insert-at-2 c = search needs
-
 slice-aggregate-insert-at-2 : tie.Need-slice-aggregate-insert-at-2
 slice-aggregate-insert-at-2 c = simp length-take (omega arith)
 
@@ -87,12 +60,6 @@ insert-at-requires-2 c κs =
     let t = c .before .before .before .before .before .before .stands-at in
     let within = at-within (farAt (a .far .now)) (a .held) (a .hash) (a .place) (at .result) (a .hashes .now) (a .places .now) (le-of-lt (s .pre .hashes-room)) (le-of-lt (s .pre .places-room)) (at .ensures) in
     simp length-take (omega (arith, s .pre .places-room))
-
-same-length-3 : tie.Need-same-length-3
-same-length-3 c = search needs
-
-same-length-4 : tie.Need-same-length-4
-same-length-4 c = search needs
 
 returns-2 : tie.Need-returns-2
 returns-2 c =
@@ -109,23 +76,26 @@ pub put-cell-spec : {M : Type 1} → statement M
 put-cell-spec =
     tie.close
     (tie.spec
-    slice-reshare-prefix-place-of
+    -- slice-reshare-prefix-place-of
+    (λ c. search needs)
     slice-aggregate-place-of
-    place-of-requires
-    slice-reshare-prefix-stands-at
+    -- place_of, slice-reshare-prefix-stands-at
+    (λ c κs. search needs) (λ c. search needs)
     slice-aggregate-stands-at
-    stands-at-requires
+    -- stands_at
+    (λ c κs. search needs)
     contest-requires
-    same-length
-    same-length-2
+    -- lengths stay
+    (λ c. search needs) (λ c. search needs)
     returns
-    add-end
-    slice-relend-prefix-insert-at
+    -- end, slice-relend-prefix-insert-at
+    (λ c. search needs) (λ c. search needs)
     slice-aggregate-insert-at
     insert-at-requires
-    slice-relend-prefix-insert-at-2
+    -- slice-relend-prefix-insert-at
+    (λ c. search needs)
     slice-aggregate-insert-at-2
     insert-at-requires-2
-    same-length-3
-    same-length-4
+    -- lengths stay
+    (λ c. search needs) (λ c. search needs)
     returns-2)

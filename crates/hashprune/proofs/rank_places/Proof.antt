@@ -21,12 +21,6 @@ loop-holds c =
     let a = c .before .before .before .before .before .args in
     ranking-none (rankedPlace (a .candidates .now) (a .far .now)) (a .places .now) (a .keys .now) (a .ids .now)
 
-mul-place : tie.Need-mul-place Inv-loop μ-loop
-mul-place c = search needs
-
-shared-slice-read-place : tie.Need-shared-slice-read-place Inv-loop μ-loop
-shared-slice-read-place c = search needs
-
 cast-place : tie.Need-cast-place Inv-loop μ-loop
 cast-place c = omega (arith, c .shared-slice-known4 .given (c .before .before .loop .i))
 
@@ -46,15 +40,6 @@ shared-slice-read-key c =
     let inside = s .pre .fars (getD (a .places .now) (l .i) 0) (in-getD (a .places .now) (l .i) 0 (omega arith)) in
     inside
 
-key-requires : tie.Need-key-requires Inv-loop μ-loop
-key-requires c κs = search needs
-
-mul-keys : tie.Need-mul-keys Inv-loop μ-loop
-mul-keys c = search needs
-
-slice-write-keys : tie.Need-slice-write-keys Inv-loop μ-loop
-slice-write-keys c = search needs
-
 mul-ids : tie.Need-mul-ids Inv-loop μ-loop
 mul-ids c =
     let s = c .before .before .before .before .before .before .before .before .before .before in
@@ -70,18 +55,6 @@ shared-slice-read-ids c =
     let l = c .before .before .before .before .before .loop in
     let inside = s .pre .nodes (getD (a .places .now) (l .i) 0) (in-getD (a .places .now) (l .i) 0 (omega arith)) in
     inside
-
-mul-ids-2 : tie.Need-mul-ids-2 Inv-loop μ-loop
-mul-ids-2 c = search needs
-
-slice-write-ids : tie.Need-slice-write-ids Inv-loop μ-loop
-slice-write-ids c = search needs
-
-add-i : tie.Need-add-i Inv-loop μ-loop
-add-i c = search needs
-
-loop-less : tie.Need-loop-less Inv-loop μ-loop
-loop-less c = search needs
 
 loop-again : tie.Need-loop-again Inv-loop μ-loop
 loop-again c =
@@ -111,20 +84,17 @@ rank-places-spec =
     Inv-loop
     μ-loop
     loop-holds
-    mul-place
-    shared-slice-read-place
+    -- place
+    (λ c. search needs) (λ c. search needs)
     cast-place
     mul-key
     shared-slice-read-key
-    key-requires
-    mul-keys
-    slice-write-keys
+    -- key, keys
+    (λ c κs. search needs) (λ c. search needs) (λ c. search needs)
     mul-ids
     shared-slice-read-ids
-    mul-ids-2
-    slice-write-ids
-    add-i
-    loop-less
+    -- ids, i, the loop measure
+    (λ c. search needs) (λ c. search needs) (λ c. search needs) (λ c. search needs)
     loop-again
     same-length
     same-length-2

@@ -21,15 +21,6 @@ Inv-loop vectors dimension p row keys₀ ids₀ degree entries i₀ keys ids i =
 abbrev μ-loop : tie.MeasureT-loop
 μ-loop vectors dimension p row keys₀ ids₀ degree entries i₀ keys ids i = length entries - i
 
-sub-degree : tie.Need-sub-degree Inv-loop μ-loop
-sub-degree c = search needs
-
-cast-degree : tie.Need-cast-degree Inv-loop μ-loop
-cast-degree c = search needs
-
-row-of-requires : tie.Need-row-of-requires Inv-loop μ-loop
-row-of-requires c κs = search needs
-
 loop-holds : tie.Need-loop-holds Inv-loop μ-loop
 loop-holds c =
     let s = c .before .before .before .before .before .before in
@@ -38,33 +29,6 @@ loop-holds c =
       omega (arith, ap length is, length-entries (a .row .now)),
       ranking-none (rankedNode (a .vectors .now) (a .dimension) (a .p .now)) (c .row-of .result .now) (a .keys .now) (a .ids .now),
     )
-
-mul-node : tie.Need-mul-node Inv-loop μ-loop
-mul-node c = search needs
-
-shared-slice-read-node : tie.Need-shared-slice-read-node Inv-loop μ-loop
-shared-slice-read-node c = search needs
-
-node-key-requires : tie.Need-node-key-requires Inv-loop μ-loop
-node-key-requires c κs = search needs
-
-mul-keys : tie.Need-mul-keys Inv-loop μ-loop
-mul-keys c = search needs
-
-slice-write-keys : tie.Need-slice-write-keys Inv-loop μ-loop
-slice-write-keys c = search needs
-
-mul-ids : tie.Need-mul-ids Inv-loop μ-loop
-mul-ids c = search needs
-
-slice-write-ids : tie.Need-slice-write-ids Inv-loop μ-loop
-slice-write-ids c = search needs
-
-add-i : tie.Need-add-i Inv-loop μ-loop
-add-i c = search needs
-
-loop-less : tie.Need-loop-less Inv-loop μ-loop
-loop-less c = search needs
 
 loop-again : tie.Need-loop-again Inv-loop μ-loop
 loop-again c =
@@ -103,19 +67,12 @@ rank-row-spec =
     (tie.spec
     Inv-loop
     μ-loop
-    sub-degree
-    cast-degree
-    row-of-requires
+    -- degree, row_of
+    (λ c. search needs) (λ c. search needs) (λ c κs. search needs)
     loop-holds
-    mul-node
-    shared-slice-read-node
-    node-key-requires
-    mul-keys
-    slice-write-keys
-    mul-ids
-    slice-write-ids
-    add-i
-    loop-less
+    -- node, node_key, keys, ids, i, the loop measure
+    (λ c. search needs) (λ c. search needs) (λ c κs. search needs) (λ c. search needs) (λ c. search needs) (λ c. search needs) (λ c. search needs)
+    (λ c. search needs) (λ c. search needs)
     loop-again
     same-length
     same-length-2

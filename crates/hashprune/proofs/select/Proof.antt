@@ -11,12 +11,6 @@ use borrow.Author.Needs.{needs}
 use Rattle.hashprune.proofs.select.Statement.{statement}
 use Rattle.hashprune.proofs.select.Tie as tie
 
-fill-cells-requires : tie.Need-fill-cells-requires
-fill-cells-requires c κs = search needs
-
-slice-reshare-prefix-rank-places : tie.Need-slice-reshare-prefix-rank-places
-slice-reshare-prefix-rank-places c = search needs
-
 slice-aggregate-rank-places : tie.Need-slice-aggregate-rank-places
 slice-aggregate-rank-places c =
     let s = c .before .before .before .before .before .before .before .before .before .before .before .before .before .before .before .before .before in
@@ -45,21 +39,6 @@ rank-places-requires c κs =
       ids-room = omega (arith, size, f .ensures .0, s .pre .ids-room);
     }
 
-sort-first-requires : tie.Need-sort-first-requires
-sort-first-requires c κs = search needs
-
-same-length : tie.Need-same-length
-same-length c = search needs
-
-same-length-2 : tie.Need-same-length-2
-same-length-2 c = search needs
-
-same-length-3 : tie.Need-same-length-3
-same-length-3 c = search needs
-
-same-length-4 : tie.Need-same-length-4
-same-length-4 c = search needs
-
 returns : tie.Need-returns
 returns c =
     let s = c .before .before .before .before .before .before .before .before .before .before .before .before .before .before .before .before .before .before .before .before .before .before .before .before .before .before .before .before .before .before .before .before .before .before .before .before .before in
@@ -78,13 +57,10 @@ pub select-spec : {M : Type 1} → statement M
 select-spec =
     tie.close
     (tie.spec
-    fill-cells-requires
-    slice-reshare-prefix-rank-places
+    -- fill_cells, slice-reshare-prefix-rank-places
+    (λ c κs. search needs) (λ c. search needs)
     slice-aggregate-rank-places
     rank-places-requires
-    sort-first-requires
-    same-length
-    same-length-2
-    same-length-3
-    same-length-4
+    -- sort_first, lengths stay
+    (λ c κs. search needs) (λ c. search needs) (λ c. search needs) (λ c. search needs) (λ c. search needs)
     returns)

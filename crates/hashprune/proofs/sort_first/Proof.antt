@@ -8,32 +8,11 @@ use borrow.Author.Needs.{needs}
 use Rattle.hashprune.proofs.sort_first.Statement.{statement}
 use Rattle.hashprune.proofs.sort_first.Tie as tie
 
-slice-relend-prefix-sort-pairs : tie.Need-slice-relend-prefix-sort-pairs
-slice-relend-prefix-sort-pairs c = search needs
-
 slice-aggregate-sort-pairs : tie.Need-slice-aggregate-sort-pairs
 slice-aggregate-sort-pairs c = simp length-take (omega arith)
 
-slice-relend-prefix-sort-pairs-2 : tie.Need-slice-relend-prefix-sort-pairs-2
-slice-relend-prefix-sort-pairs-2 c = search needs
-
 slice-aggregate-sort-pairs-2 : tie.Need-slice-aggregate-sort-pairs-2
 slice-aggregate-sort-pairs-2 c = simp length-take (omega arith)
-
-sort-pairs-requires : tie.Need-sort-pairs-requires
-sort-pairs-requires c κs = search needs
-
-same-length : tie.Need-same-length
-same-length c = search needs
-
-same-length-2 : tie.Need-same-length-2
-same-length-2 c = search needs
-
-same-length-3 : tie.Need-same-length-3
-same-length-3 c = search needs
-
-same-length-4 : tie.Need-same-length-4
-same-length-4 c = search needs
 
 returns : tie.Need-returns
 returns c =
@@ -48,13 +27,12 @@ pub sort-first-spec : {M : Type 1} → statement M
 sort-first-spec =
     tie.close
     (tie.spec
-    slice-relend-prefix-sort-pairs
+    -- slice-relend-prefix-sort-pairs
+    (λ c. search needs)
     slice-aggregate-sort-pairs
-    slice-relend-prefix-sort-pairs-2
+    -- slice-relend-prefix-sort-pairs
+    (λ c. search needs)
     slice-aggregate-sort-pairs-2
-    sort-pairs-requires
-    same-length
-    same-length-2
-    same-length-3
-    same-length-4
+    -- sort_pairs, lengths stay
+    (λ c κs. search needs) (λ c. search needs) (λ c. search needs) (λ c. search needs) (λ c. search needs)
     returns)

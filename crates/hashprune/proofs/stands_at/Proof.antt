@@ -8,12 +8,6 @@ use borrow.Author.Needs.{needs}
 use Rattle.hashprune.proofs.stands_at.Statement.{statement}
 use Rattle.hashprune.proofs.stands_at.Tie as tie
 
-mul-result : tie.Need-mul-result
-mul-result c = search needs
-
-shared-slice-read-result : tie.Need-shared-slice-read-result
-shared-slice-read-result c = search needs
-
 returns : tie.Need-returns
 returns c =
     let a = c .before .before .args in
@@ -25,4 +19,8 @@ returns-2 c =
     sym (ap (λ (t : Bool). t && eqb (getD (a .list .now) (a .at) 0) (a .x)) (le-ltb (a .at) (length (a .list .now)) (c .if1 .left)))
 
 pub stands-at-spec : {M : Type 1} → statement M
-stands-at-spec = tie.close (tie.spec mul-result shared-slice-read-result returns returns-2)
+stands-at-spec = tie.close (tie.spec
+    -- result
+    (λ c. search needs) (λ c. search needs)
+    returns
+    returns-2)

@@ -14,57 +14,14 @@ abbrev μ-loop : tie.MeasureT-loop
 μ-loop vector₀ centre noise r₀ s₀ i₀ vector r s i =
     length vector₀ - i
 
-loop-holds : tie.Need-loop-holds Inv-loop μ-loop
-loop-holds c = search needs
-
-next-plane-requires : tie.Need-next-plane-requires Inv-loop μ-loop
-next-plane-requires c κs = search needs
-
-next-plane-requires-2 : tie.Need-next-plane-requires-2 Inv-loop μ-loop
-next-plane-requires-2 c κs = search needs
-
-number-of-requires : tie.Need-number-of-requires Inv-loop μ-loop
-number-of-requires c κs = search needs
-
-number-of-requires-2 : tie.Need-number-of-requires-2 Inv-loop μ-loop
-number-of-requires-2 c κs = search needs
-
-mul-vector : tie.Need-mul-vector Inv-loop μ-loop
-mul-vector c = search needs
-
-slice-write-vector : tie.Need-slice-write-vector Inv-loop μ-loop
-slice-write-vector c = search needs
-
-add-i : tie.Need-add-i Inv-loop μ-loop
-add-i c = search needs
-
-loop-less : tie.Need-loop-less Inv-loop μ-loop
-loop-less c = search needs
-
-loop-again : tie.Need-loop-again Inv-loop μ-loop
-loop-again c = search needs
-
-same-length : tie.Need-same-length Inv-loop μ-loop
-same-length c = search needs
-
-returns : tie.Need-returns Inv-loop μ-loop
-returns c = search needs
-
 pub generate-near-spec : {M : Type 1} → statement M
 generate-near-spec =
     tie.close
     (tie.spec
     Inv-loop
     μ-loop
-    loop-holds
-    next-plane-requires
-    next-plane-requires-2
-    number-of-requires
-    number-of-requires-2
-    mul-vector
-    slice-write-vector
-    add-i
-    loop-less
-    loop-again
-    same-length
-    returns)
+    -- the loop begins, next_plane, number_of, vector, i, the loop measure, the loop goes on
+    (λ c. search needs) (λ c κs. search needs) (λ c κs. search needs) (λ c κs. search needs) (λ c κs. search needs) (λ c. search needs)
+    (λ c. search needs) (λ c. search needs) (λ c. search needs) (λ c. search needs)
+    -- the return, lengths stay
+    (λ c. search needs) (λ c. search needs))

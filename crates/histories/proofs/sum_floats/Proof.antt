@@ -13,45 +13,12 @@ abbrev μ-loop : tie.MeasureT-loop
 μ-loop floats h sum₀ i₀ sum i =
     length floats - i
 
-loop-holds : tie.Need-loop-holds Inv-loop μ-loop
-loop-holds c = search needs
-
-mul-pattern : tie.Need-mul-pattern Inv-loop μ-loop
-mul-pattern c = search needs
-
-shared-slice-read-pattern : tie.Need-shared-slice-read-pattern Inv-loop μ-loop
-shared-slice-read-pattern c = search needs
-
-pattern-requires : tie.Need-pattern-requires Inv-loop μ-loop
-pattern-requires c κs = search needs
-
-sum-on-requires : tie.Need-sum-on-requires Inv-loop μ-loop
-sum-on-requires c κs = search needs
-
-add-i : tie.Need-add-i Inv-loop μ-loop
-add-i c = search needs
-
-loop-less : tie.Need-loop-less Inv-loop μ-loop
-loop-less c = search needs
-
-loop-again : tie.Need-loop-again Inv-loop μ-loop
-loop-again c = search needs
-
-returns : tie.Need-returns Inv-loop μ-loop
-returns c = search needs
-
 pub sum-floats-spec : {M : Type 1} → statement M
 sum-floats-spec =
     tie.close
     (tie.spec
     Inv-loop
     μ-loop
-    loop-holds
-    mul-pattern
-    shared-slice-read-pattern
-    pattern-requires
-    sum-on-requires
-    add-i
-    loop-less
-    loop-again
-    returns)
+    -- the loop begins, pattern, sum_on, i, the loop measure, the loop goes on, the return
+    (λ c. search needs) (λ c. search needs) (λ c. search needs) (λ c κs. search needs) (λ c κs. search needs) (λ c. search needs) (λ c. search needs)
+    (λ c. search needs) (λ c. search needs))

@@ -13,41 +13,12 @@ abbrev μ-loop : tie.MeasureT-loop
 μ-loop before words sum₀ i₀ sum i =
     length words - i
 
-loop-holds : tie.Need-loop-holds Inv-loop μ-loop
-loop-holds c = search needs
-
-mul-sum-on : tie.Need-mul-sum-on Inv-loop μ-loop
-mul-sum-on c = search needs
-
-shared-slice-read-sum-on : tie.Need-shared-slice-read-sum-on Inv-loop μ-loop
-shared-slice-read-sum-on c = search needs
-
-sum-on-requires : tie.Need-sum-on-requires Inv-loop μ-loop
-sum-on-requires c κs = search needs
-
-add-i : tie.Need-add-i Inv-loop μ-loop
-add-i c = search needs
-
-loop-less : tie.Need-loop-less Inv-loop μ-loop
-loop-less c = search needs
-
-loop-again : tie.Need-loop-again Inv-loop μ-loop
-loop-again c = search needs
-
-returns : tie.Need-returns Inv-loop μ-loop
-returns c = search needs
-
 pub sum-words-spec : {M : Type 1} → statement M
 sum-words-spec =
     tie.close
     (tie.spec
     Inv-loop
     μ-loop
-    loop-holds
-    mul-sum-on
-    shared-slice-read-sum-on
-    sum-on-requires
-    add-i
-    loop-less
-    loop-again
-    returns)
+    -- the loop begins, sum_on, i, the loop measure, the loop goes on, the return
+    (λ c. search needs) (λ c. search needs) (λ c. search needs) (λ c κs. search needs) (λ c. search needs) (λ c. search needs) (λ c. search needs)
+    (λ c. search needs))

@@ -19,38 +19,8 @@ abbrev μ-loop : tie.MeasureT-loop
 loop-holds : tie.Need-loop-holds Inv-loop μ-loop
 loop-holds c = (omega arith, omega arith, omega arith)
 
-mul-doc : tie.Need-mul-doc Inv-loop μ-loop
-mul-doc c = search needs
-
-shared-slice-read-doc : tie.Need-shared-slice-read-doc Inv-loop μ-loop
-shared-slice-read-doc c = search needs
-
-add-i : tie.Need-add-i Inv-loop μ-loop
-add-i c = search needs
-
-mul-occurs : tie.Need-mul-occurs Inv-loop μ-loop
-mul-occurs c = search needs
-
-sub-occurs : tie.Need-sub-occurs Inv-loop μ-loop
-sub-occurs c = search needs
-
-part-occurs-start : tie.Need-part-occurs-start Inv-loop μ-loop
-part-occurs-start c = search needs
-
-part-occurs-end : tie.Need-part-occurs-end Inv-loop μ-loop
-part-occurs-end c = search needs
-
-occurs-requires : tie.Need-occurs-requires Inv-loop μ-loop
-occurs-requires c κs = search needs
-
-cast-count : tie.Need-cast-count Inv-loop μ-loop
-cast-count c = search needs
-
 add-count : tie.Need-add-count Inv-loop μ-loop
 add-count c = omega (arith, at-most-one (not (c .occurs .result)))
-
-loop-less : tie.Need-loop-less Inv-loop μ-loop
-loop-less c = search needs
 
 loop-again : tie.Need-loop-again Inv-loop μ-loop
 loop-again c =
@@ -72,16 +42,11 @@ count-different-spec =
     Inv-loop
     μ-loop
     loop-holds
-    mul-doc
-    shared-slice-read-doc
-    add-i
-    mul-occurs
-    sub-occurs
-    part-occurs-start
-    part-occurs-end
-    occurs-requires
-    cast-count
+    -- doc, i, occurs, part-occurs-start, part-occurs-end, count
+    (λ c. search needs) (λ c. search needs) (λ c. search needs) (λ c. search needs) (λ c. search needs) (λ c. search needs) (λ c. search needs)
+    (λ c κs. search needs) (λ c. search needs)
     add-count
-    loop-less
+    -- the loop measure
+    (λ c. search needs)
     loop-again
     returns)

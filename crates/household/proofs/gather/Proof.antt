@@ -21,38 +21,8 @@ abbrev μ-loop : tie.MeasureT-loop
 loop-holds : tie.Need-loop-holds Inv-loop μ-loop
 loop-holds c = (refl, omega arith, omega arith, refl)
 
-mul-today : tie.Need-mul-today Inv-loop μ-loop
-mul-today c = search needs
-
-shared-slice-read-today : tie.Need-shared-slice-read-today Inv-loop μ-loop
-shared-slice-read-today c = search needs
-
-mul-today-2 : tie.Need-mul-today-2 Inv-loop μ-loop
-mul-today-2 c = search needs
-
-slice-write-today : tie.Need-slice-write-today Inv-loop μ-loop
-slice-write-today c = search needs
-
-mul-day-of : tie.Need-mul-day-of Inv-loop μ-loop
-mul-day-of c = search needs
-
-shared-slice-read-day-of : tie.Need-shared-slice-read-day-of Inv-loop μ-loop
-shared-slice-read-day-of c = search needs
-
-day-of-requires : tie.Need-day-of-requires Inv-loop μ-loop
-day-of-requires c κs = search needs
-
-cast-sighted : tie.Need-cast-sighted Inv-loop μ-loop
-cast-sighted c = search needs
-
 add-sighted : tie.Need-add-sighted Inv-loop μ-loop
 add-sighted c = omega (arith, at-most-one (eqb (c .day-of .result) (c .before .before .before .before .before .before .before .before .args .day)))
-
-add-i : tie.Need-add-i Inv-loop μ-loop
-add-i c = search needs
-
-loop-less : tie.Need-loop-less Inv-loop μ-loop
-loop-less c = search needs
 
 loop-again : tie.Need-loop-again Inv-loop μ-loop
 loop-again c =
@@ -60,9 +30,6 @@ loop-again c =
     let a = c .before .before .before .before .before .before .before .before .args in
     let b = at-most-one (eqb (c .day-of .result) (a .day)) in
     (gather-step (a .day) (a .seconds .now) (a .docs .now) (l .today) _ (l .sighted) (l .i) (c .day-of .result) (omega arith) (omega arith) (omega arith) (c .day-of .ensures) (l .inv .0), omega arith, omega arith, simp length-set (l .inv .3))
-
-same-length : tie.Need-same-length Inv-loop μ-loop
-same-length c = search needs
 
 returns : tie.Need-returns Inv-loop μ-loop
 returns c =
@@ -77,17 +44,13 @@ gather-spec =
     Inv-loop
     μ-loop
     loop-holds
-    mul-today
-    shared-slice-read-today
-    mul-today-2
-    slice-write-today
-    mul-day-of
-    shared-slice-read-day-of
-    day-of-requires
-    cast-sighted
+    -- today, day_of, sighted
+    (λ c. search needs) (λ c. search needs) (λ c. search needs) (λ c. search needs) (λ c. search needs) (λ c. search needs) (λ c κs. search needs)
+    (λ c. search needs)
     add-sighted
-    add-i
-    loop-less
+    -- i, the loop measure
+    (λ c. search needs) (λ c. search needs)
     loop-again
-    same-length
+    -- lengths stay
+    (λ c. search needs)
     returns)

@@ -18,9 +18,6 @@ returns : tie.Need-returns
 unfolding householdValues householdOf
 returns c = sym (pick-true {X = Values} _ _ (c .if1 .taken))
 
-slice-aggregate-gather : tie.Need-slice-aggregate-gather
-slice-aggregate-gather c = search needs
-
 gather-requires : tie.Need-gather-requires
 gather-requires c κs =
     let a = c .before .before .before .before .args in
@@ -38,9 +35,6 @@ slice-aggregate-count-different c =
     let h = accepted (a .seconds .now) (a .docs .now) (c .before .before .before .before .if1 .left) in
     let g = c .before .before .gather .ensures in
     sym (length-take-le _ _ (omega (arith, g .1, g .2)))
-
-count-different-requires : tie.Need-count-different-requires
-count-different-requires c κs = search needs
 
 cast-t16 : tie.Need-cast-t16
 cast-t16 c =
@@ -62,10 +56,12 @@ household-count-spec =
     tie.close
     (tie.spec
     returns
-    slice-aggregate-gather
+    -- gather
+    (λ c. search needs)
     gather-requires
     array-share-prefix-today
     slice-aggregate-count-different
-    count-different-requires
+    -- count_different
+    (λ c κs. search needs)
     cast-t16
     returns-2)

@@ -19,18 +19,6 @@ abbrev μ-loop : tie.MeasureT-loop
 loop-holds : tie.Need-loop-holds Inv-loop μ-loop
 loop-holds c = (refl, omega arith)
 
-mul-found : tie.Need-mul-found Inv-loop μ-loop
-mul-found c = search needs
-
-shared-slice-read-found : tie.Need-shared-slice-read-found Inv-loop μ-loop
-shared-slice-read-found c = search needs
-
-add-i : tie.Need-add-i Inv-loop μ-loop
-add-i c = search needs
-
-loop-less : tie.Need-loop-less Inv-loop μ-loop
-loop-less c = search needs
-
 loop-again : tie.Need-loop-again Inv-loop μ-loop
 loop-again c = let l = c .before .before .loop in (look-step _ _ (l .i) (l .found) _ (omega arith) (l .inv .0), omega arith)
 
@@ -44,9 +32,7 @@ occurs-spec =
     Inv-loop
     μ-loop
     loop-holds
-    mul-found
-    shared-slice-read-found
-    add-i
-    loop-less
+    -- found, i, the loop measure
+    (λ c. search needs) (λ c. search needs) (λ c. search needs) (λ c. search needs)
     loop-again
     returns)

@@ -39,34 +39,13 @@ Inv-loop out₀ table n k₀ out k = (k ≤ n) × (n ≤ length out₀) × (n �
 abbrev μ-loop : tie.MeasureT-loop
 μ-loop out₀ table n k₀ out k = n - k
 
-lesser-requires : tie.Need-lesser-requires Inv-loop μ-loop
-lesser-requires c κs = search needs
-
 loop-holds : tie.Need-loop-holds Inv-loop μ-loop
 unfolding planeNumbers
 loop-holds c = (omega arith, omega (arith, c .lesser .ensures), omega (arith, c .lesser .ensures), refl, refl)
 
-mul-out : tie.Need-mul-out Inv-loop μ-loop
-mul-out c = search needs
-
-array-read-out : tie.Need-array-read-out Inv-loop μ-loop
-array-read-out c = search needs
-
 float-from-bits-out : tie.Need-float-from-bits-out Inv-loop μ-loop
 unfolding table
 float-from-bits-out c = rule (c .before .loop .k) (omega arith) .1
-
-mul-out-2 : tie.Need-mul-out-2 Inv-loop μ-loop
-mul-out-2 c = search needs
-
-slice-write-out : tie.Need-slice-write-out Inv-loop μ-loop
-slice-write-out c = search needs
-
-add-k : tie.Need-add-k Inv-loop μ-loop
-add-k c = search needs
-
-loop-less : tie.Need-loop-less Inv-loop μ-loop
-loop-less c = search needs
 
 loop-again : tie.Need-loop-again Inv-loop μ-loop
 unfolding table
@@ -97,15 +76,14 @@ planes-into-spec =
     (tie.spec
     Inv-loop
     μ-loop
-    lesser-requires
+    -- lesser
+    (λ c κs. search needs)
     loop-holds
-    mul-out
-    array-read-out
+    -- out
+    (λ c. search needs) (λ c. search needs)
     float-from-bits-out
-    mul-out-2
-    slice-write-out
-    add-k
-    loop-less
+    -- out, k, the loop measure
+    (λ c. search needs) (λ c. search needs) (λ c. search needs) (λ c. search needs)
     loop-again
     same-length
     returns)

@@ -7,12 +7,6 @@ use Rattle.lcg.specs.Lcg.{nextOf}
 use Rattle.lcg.proofs.next.Statement.{statement}
 use Rattle.lcg.proofs.next.Tie as tie
 
-wrapping-mul-requires : tie.Need-wrapping-mul-requires
-wrapping-mul-requires c κs = search needs
-
-wrapping-add-u64-requires : tie.Need-wrapping-add-u64-requires
-wrapping-add-u64-requires c κs = search needs
-
 returns : tie.Need-returns
 unfolding nextOf
 returns c =
@@ -22,4 +16,7 @@ returns c =
     ∙ mod-add-mod (x .r * 6364136223846793005) (2 ^ 64) (x .addend)
 
 pub next-spec : {M : Type 1} → statement M
-next-spec = tie.close (tie.spec wrapping-mul-requires wrapping-add-u64-requires returns)
+next-spec = tie.close (tie.spec
+    -- wrapping_mul, wrapping_add_u64
+    (λ c κs. search needs) (λ c κs. search needs)
+    returns)

@@ -31,14 +31,8 @@ mul-wrapping-add-u64 c = fits (shr-lt 32 32 (c .fits .a .fits)) (mask-lt (c .arg
 mul-wrapping-add-u64-2 : tie.Need-mul-wrapping-add-u64-2
 mul-wrapping-add-u64-2 c = fits (mask-lt (c .args .a) 32) (shr-lt 32 32 (c .fits .b .fits))
 
-wrapping-add-u64-requires : tie.Need-wrapping-add-u64-requires
-wrapping-add-u64-requires c κs = search needs
-
 mul-wrapping-add-u64-3 : tie.Need-mul-wrapping-add-u64-3
 mul-wrapping-add-u64-3 c = fits (mask-lt (c .before .args .a) 32) (mask-lt (c .before .args .b) 32)
-
-wrapping-add-u64-requires-2 : tie.Need-wrapping-add-u64-requires-2
-wrapping-add-u64-requires-2 c κs = search needs
 
 returns : tie.Need-returns
 returns c =
@@ -54,7 +48,9 @@ wrapping-mul-spec =
     (tie.spec
     mul-wrapping-add-u64
     mul-wrapping-add-u64-2
-    wrapping-add-u64-requires
+    -- wrapping_add_u64
+    (λ c κs. search needs)
     mul-wrapping-add-u64-3
-    wrapping-add-u64-requires-2
+    -- wrapping_add_u64
+    (λ c κs. search needs)
     returns)

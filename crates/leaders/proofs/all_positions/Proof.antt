@@ -10,20 +10,11 @@ use borrow.Author.Needs.{needs}
 use Rattle.leaders.proofs.all_positions.Statement.{statement}
 use Rattle.leaders.proofs.all_positions.Tie as tie
 
-lesser-requires : tie.Need-lesser-requires
-lesser-requires c κs = search needs
-
-slice-relend-prefix-count-up : tie.Need-slice-relend-prefix-count-up
-slice-relend-prefix-count-up c = search needs
-
 slice-aggregate-count-up : tie.Need-slice-aggregate-count-up
 slice-aggregate-count-up c = sym (length-take-le _ _ (omega (arith, c .before .lesser .ensures)))
 
 count-up-requires : tie.Need-count-up-requires
 count-up-requires c κs = simp length-take (omega (arith, c .before .lesser .ensures))
-
-same-length : tie.Need-same-length
-same-length c = search needs
 
 returns : tie.Need-returns
 returns c =
@@ -36,9 +27,10 @@ pub all-positions-spec : {M : Type 1} → statement M
 all-positions-spec =
     tie.close
     (tie.spec
-    lesser-requires
-    slice-relend-prefix-count-up
+    -- lesser, slice-relend-prefix-count-up
+    (λ c κs. search needs) (λ c. search needs)
     slice-aggregate-count-up
     count-up-requires
-    same-length
+    -- lengths stay
+    (λ c. search needs)
     returns)

@@ -30,21 +30,6 @@ loop-holds : tie.Need-loop-holds Inv-loop μ-loop
 unfolding upTo
 loop-holds c = (omega arith, refl, refl)
 
-cast-left : tie.Need-cast-left Inv-loop μ-loop
-cast-left c = search needs
-
-mul-left : tie.Need-mul-left Inv-loop μ-loop
-mul-left c = search needs
-
-slice-write-left : tie.Need-slice-write-left Inv-loop μ-loop
-slice-write-left c = search needs
-
-add-i : tie.Need-add-i Inv-loop μ-loop
-add-i c = search needs
-
-loop-less : tie.Need-loop-less Inv-loop μ-loop
-loop-less c = search needs
-
 loop-again : tie.Need-loop-again Inv-loop μ-loop
 loop-again c =
     let l = c .before .loop in
@@ -68,11 +53,8 @@ count-up-spec =
     Inv-loop
     μ-loop
     loop-holds
-    cast-left
-    mul-left
-    slice-write-left
-    add-i
-    loop-less
+    -- left, i, the loop measure
+    (λ c. search needs) (λ c. search needs) (λ c. search needs) (λ c. search needs) (λ c. search needs)
     loop-again
     same-length
     returns)

@@ -9,23 +9,11 @@ use borrow.Author.Needs.{needs}
 use Rattle.leaders.proofs.draw_leaders.Statement.{statement}
 use Rattle.leaders.proofs.draw_leaders.Tie as tie
 
-lesser-requires : tie.Need-lesser-requires
-lesser-requires c κs = search needs
-
-slice-relend-prefix-draw-segment : tie.Need-slice-relend-prefix-draw-segment
-slice-relend-prefix-draw-segment c = search needs
-
 slice-aggregate-draw-segment : tie.Need-slice-aggregate-draw-segment
 slice-aggregate-draw-segment c = sym (length-take-le _ _ (omega (arith, c .before .lesser .ensures)))
 
 draw-segment-requires : tie.Need-draw-segment-requires
 draw-segment-requires c κs = simp length-take (omega (arith, c .before .before .lesser .ensures))
-
-same-length : tie.Need-same-length
-same-length c = search needs
-
-same-length-2 : tie.Need-same-length-2
-same-length-2 c = search needs
 
 returns : tie.Need-returns
 returns c =
@@ -38,10 +26,10 @@ pub draw-leaders-spec : {M : Type 1} → statement M
 draw-leaders-spec =
     tie.close
     (tie.spec
-    lesser-requires
-    slice-relend-prefix-draw-segment
+    -- lesser, slice-relend-prefix-draw-segment
+    (λ c κs. search needs) (λ c. search needs)
     slice-aggregate-draw-segment
     draw-segment-requires
-    same-length
-    same-length-2
+    -- lengths stay
+    (λ c. search needs) (λ c. search needs)
     returns)

@@ -11,27 +11,6 @@ use borrow.Author.Needs.{needs}
 use Rattle.leaders.proofs.draw_segment.Statement.{statement}
 use Rattle.leaders.proofs.draw_segment.Tie as tie
 
-count-up-requires : tie.Need-count-up-requires
-count-up-requires c κs = search needs
-
-lesser-requires : tie.Need-lesser-requires
-lesser-requires c κs = search needs
-
-mul-draw : tie.Need-mul-draw
-mul-draw c = search needs
-
-add-draw : tie.Need-add-draw
-add-draw c = search needs
-
-draw-requires : tie.Need-draw-requires
-draw-requires c κs = search needs
-
-same-length : tie.Need-same-length
-same-length c = search needs
-
-same-length-2 : tie.Need-same-length-2
-same-length-2 c = search needs
-
 -- what the draws leave, with each number as the definition has it
 joined : (level n count start : ℕ) (left out : List ℕ) → level < 2 ^ 32 → left ≡ upTo n → count ≡ min (length out) (length left) → start ≡ level * 2654435761 + 42
     → drawn count start left ++ drop count out ≡ drawnInto level n out
@@ -59,11 +38,7 @@ pub draw-segment-spec : {M : Type 1} → statement M
 draw-segment-spec =
     tie.close
     (tie.spec
-    count-up-requires
-    lesser-requires
-    mul-draw
-    add-draw
-    draw-requires
-    same-length
-    same-length-2
+    -- count_up, lesser, draw, lengths stay
+    (λ c κs. search needs) (λ c κs. search needs) (λ c. search needs) (λ c. search needs) (λ c κs. search needs) (λ c. search needs)
+    (λ c. search needs)
     returns)

@@ -47,12 +47,6 @@ truncating-f64-to-u64-requires : tie.Need-truncating-f64-to-u64-requires
 unfolding ofBits neg
 truncating-f64-to-u64-requires c κs = (subst T (sym (c .before .if1 .taken)) tt, subst T (sym (c .if2 .taken)) tt)
 
-returns : tie.Need-returns
-returns c = search needs
-
-returns-2 : tie.Need-returns-2
-returns-2 c = search needs
-
 returns-3 : tie.Need-returns-3
 unfolding ofBits neg
 returns-3 c = omega (arith, over (c .before .before .args .x) (c .before .if1 .taken) (c .if2 .left), c .before .before .fits .top .fits)
@@ -63,4 +57,9 @@ returns-4 c = omega (arith, under (c .before .args .x) (c .if1 .left))
 
 pub floor-to-spec : {M : Type 1} → statement M
 floor-to-spec =
-    tie.close (tie.spec truncating-f64-to-u64-requires returns returns-2 returns-3 returns-4)
+    tie.close (tie.spec
+    truncating-f64-to-u64-requires
+    -- the return
+    (λ c. search needs) (λ c. search needs)
+    returns-3
+    returns-4)

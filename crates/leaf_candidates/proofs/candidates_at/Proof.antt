@@ -26,18 +26,6 @@ returns-6 c = record { few = omega arith; none = λ _. refl; are = λ vs ready. 
 returns-7 : tie.Need-returns-7
 returns-7 c = record { few = omega arith; none = λ _. refl; are = λ vs ready. absurd (let s = ready .sizes in omega (arith, s .room′-is)) }
 
-candidates-within-requires : tie.Need-candidates-within-requires
-candidates-within-requires c κs = search needs
-
-same-length : tie.Need-same-length
-same-length c = search needs
-
-same-length-2 : tie.Need-same-length-2
-same-length-2 c = search needs
-
-returns-8 : tie.Need-returns-8
-returns-8 c = search needs
-
 pub candidates-at-spec : {M : Type 1} → statement M
 candidates-at-spec =
     tie.close
@@ -49,7 +37,5 @@ candidates-at-spec =
     returns-5
     returns-6
     returns-7
-    candidates-within-requires
-    same-length
-    same-length-2
-    returns-8)
+    -- candidates_within, the return, lengths stay
+    (λ c κs. search needs) (λ c. search needs) (λ c. search needs) (λ c. search needs))

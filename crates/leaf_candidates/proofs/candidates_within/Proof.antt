@@ -6,29 +6,11 @@ use borrow.Author.Needs.{needs}
 use Rattle.leaf_candidates.proofs.candidates_within.Statement.{statement}
 use Rattle.leaf_candidates.proofs.candidates_within.Tie as tie
 
-sub-lesser : tie.Need-sub-lesser
-sub-lesser c = search needs
-
-lesser-requires : tie.Need-lesser-requires
-lesser-requires c κs = search needs
-
-mul-most : tie.Need-mul-most
-mul-most c = search needs
-
-array-borrow-prefix-keys : tie.Need-array-borrow-prefix-keys
-array-borrow-prefix-keys c = search needs
-
 slice-aggregate-nearest : tie.Need-slice-aggregate-nearest
 slice-aggregate-nearest c = simp length-take (omega arith)
 
-array-borrow-prefix-places : tie.Need-array-borrow-prefix-places
-array-borrow-prefix-places c = search needs
-
 slice-aggregate-nearest-2 : tie.Need-slice-aggregate-nearest-2
 slice-aggregate-nearest-2 c = simp length-take (omega arith)
-
-nearest-requires : tie.Need-nearest-requires
-nearest-requires c κs = search needs
 
 array-share-prefix-places : tie.Need-array-share-prefix-places
 array-share-prefix-places c =
@@ -55,12 +37,6 @@ gather-requires c κs =
       simp length-take (omega (arith, n .ensures .few)),
     )
 
-same-length : tie.Need-same-length
-same-length c = search needs
-
-same-length-2 : tie.Need-same-length-2
-same-length-2 c = search needs
-
 returns : tie.Need-returns
 returns c =
     let x = c .before .before .before .before .before .before .before .before .before .before .before .before .before .before .before .before .before .before .args in
@@ -75,17 +51,17 @@ pub candidates-within-spec : {M : Type 1} → statement M
 candidates-within-spec =
     tie.close
     (tie.spec
-    sub-lesser
-    lesser-requires
-    mul-most
-    array-borrow-prefix-keys
+    -- lesser, most, array-borrow-prefix-keys
+    (λ c. search needs) (λ c κs. search needs) (λ c. search needs) (λ c. search needs)
     slice-aggregate-nearest
-    array-borrow-prefix-places
+    -- array-borrow-prefix-places
+    (λ c. search needs)
     slice-aggregate-nearest-2
-    nearest-requires
+    -- nearest
+    (λ c κs. search needs)
     array-share-prefix-places
     slice-aggregate-gather
     gather-requires
-    same-length
-    same-length-2
+    -- lengths stay
+    (λ c. search needs) (λ c. search needs)
     returns)

@@ -4,21 +4,6 @@ use borrow.Author.Needs.{needs}
 use Rattle.leaf_candidates.proofs.nearest.Statement.{statement}
 use Rattle.leaf_candidates.proofs.nearest.Tie as tie
 
-offer-requires : tie.Need-offer-requires
-offer-requires c κs = search needs
-
-add-offer : tie.Need-add-offer
-add-offer c = search needs
-
-offer-requires-2 : tie.Need-offer-requires-2
-offer-requires-2 c κs = search needs
-
-same-length : tie.Need-same-length
-same-length c = search needs
-
-same-length-2 : tie.Need-same-length-2
-same-length-2 c = search needs
-
 returns : tie.Need-returns
 returns c =
     let x = c .before .before .before .before .before .before .before .before .before .before .before .before .before .before .before .before .before .args in
@@ -30,4 +15,7 @@ returns c =
 pub nearest-spec : {M : Type 1} → statement M
 nearest-spec =
     tie.close
-    (tie.spec offer-requires add-offer offer-requires-2 same-length same-length-2 returns)
+    (tie.spec
+    -- offer, lengths stay
+    (λ c κs. search needs) (λ c. search needs) (λ c κs. search needs) (λ c. search needs) (λ c. search needs)
+    returns)

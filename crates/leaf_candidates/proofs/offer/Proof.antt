@@ -32,20 +32,8 @@ mul-key-2 c = let s = c .before .before .before .before .before .pre .0 in omega
 shared-slice-read-key : tie.Need-shared-slice-read-key Inv-loop μ-loop
 shared-slice-read-key c = let s = c .before .before .before .before .before .before .pre .0 in omega (arith, s .fits, s .lane-is)
 
-key-requires : tie.Need-key-requires Inv-loop μ-loop
-key-requires c κs = search needs
-
 cast-keep-first : tie.Need-cast-keep-first Inv-loop μ-loop
 cast-keep-first c = let s = c .before .before .before .before .before .before .before .before .before .pre .0 in omega (arith, s .few)
-
-keep-first-requires : tie.Need-keep-first-requires Inv-loop μ-loop
-keep-first-requires c κs = search needs
-
-add-j : tie.Need-add-j Inv-loop μ-loop
-add-j c = search needs
-
-loop-less : tie.Need-loop-less Inv-loop μ-loop
-loop-less c = search needs
 
 loop-again : tie.Need-loop-again Inv-loop μ-loop
 loop-again c =
@@ -84,11 +72,11 @@ offer-spec =
     add-key
     mul-key-2
     shared-slice-read-key
-    key-requires
+    -- key
+    (λ c κs. search needs)
     cast-keep-first
-    keep-first-requires
-    add-j
-    loop-less
+    -- keep_first, j, the loop measure
+    (λ c κs. search needs) (λ c. search needs) (λ c. search needs)
     loop-again
     same-length
     same-length-2

@@ -23,15 +23,6 @@ abbrev μ-loop : tie.MeasureT-loop
 loop-holds : tie.Need-loop-holds Inv-loop μ-loop
 loop-holds c = let x = c .before .before .before .before .args in (omega arith, omega arith, refl, filled-none (vectorsIn (x .dimension) (x .vectors .now)) (x .leaf .now) (x .block .now) (x .floats .now))
 
-mul-get-vector : tie.Need-mul-t9 Inv-loop μ-loop
-mul-get-vector c = search needs
-
-shared-slice-read-get-vector : tie.Need-shared-slice-read-t12 Inv-loop μ-loop
-shared-slice-read-get-vector c = search needs
-
-get-vector-requires : tie.Need-get-vector-requires Inv-loop μ-loop
-get-vector-requires c κs = search needs
-
 cosine-distance-normalized-block-requires :
     tie.Need-cosine-distance-normalized-block-requires Inv-loop μ-loop
 cosine-distance-normalized-block-requires c κs = search needs
@@ -41,12 +32,6 @@ put-eight-requires c κs = omega arith
 
 add-at : tie.Need-add-at Inv-loop μ-loop
 add-at c = omega arith
-
-add-j : tie.Need-add-j Inv-loop μ-loop
-add-j c = search needs
-
-loop-less : tie.Need-loop-less Inv-loop μ-loop
-loop-less c = search needs
 
 loop-again : tie.Need-loop-again Inv-loop μ-loop
 loop-again c =
@@ -76,14 +61,13 @@ distance-rows-spec =
     Inv-loop
     μ-loop
     loop-holds
-    mul-get-vector
-    shared-slice-read-get-vector
-    get-vector-requires
+    -- get_vector
+    (λ c. search needs) (λ c. search needs) (λ c κs. search needs)
     cosine-distance-normalized-block-requires
     put-eight-requires
     add-at
-    add-j
-    loop-less
+    -- j, the loop measure
+    (λ c. search needs) (λ c. search needs)
     loop-again
     same-length
     returns)

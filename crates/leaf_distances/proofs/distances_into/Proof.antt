@@ -31,12 +31,6 @@ returns-2 c = λ few inside fits below. absurd (omega arith)
 returns-3 : tie.Need-returns-3
 returns-3 c = λ few inside fits below. absurd (omega arith)
 
-mul-width : tie.Need-mul-width
-mul-width c = search needs
-
-array-borrow-prefix-block : tie.Need-array-borrow-prefix-block
-array-borrow-prefix-block c = search needs
-
 slice-aggregate-turn-block : tie.Need-slice-aggregate-turn-block
 slice-aggregate-turn-block c = simp length-take (omega arith)
 
@@ -56,9 +50,6 @@ slice-aggregate-distance-rows c =
 distance-rows-requires : tie.Need-distance-rows-requires
 distance-rows-requires c κs = omega arith
 
-same-length : tie.Need-same-length
-same-length c = search needs
-
 returns-4 : tie.Need-returns-4
 returns-4 c =
     let x = c .before .before .before .before .before .before .before .before .before .before .before .before .before .before .args in
@@ -73,12 +64,13 @@ distances-into-spec =
     returns
     returns-2
     returns-3
-    mul-width
-    array-borrow-prefix-block
+    -- width, array-borrow-prefix-block
+    (λ c. search needs) (λ c. search needs)
     slice-aggregate-turn-block
     turn-block-requires
     array-share-prefix-block
     slice-aggregate-distance-rows
     distance-rows-requires
-    same-length
+    -- lengths stay
+    (λ c. search needs)
     returns-4)

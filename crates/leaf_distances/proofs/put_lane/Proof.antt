@@ -18,12 +18,6 @@ abbrev μ-loop : tie.MeasureT-loop
 loop-holds : tie.Need-loop-holds Inv-loop μ-loop
 loop-holds c = let x = c .args in (omega arith, omega arith, putting-none (x .lane) (x .v .now) (x .block .now) (c .pre .0) (c .pre .1))
 
-mul-block : tie.Need-mul-block Inv-loop μ-loop
-mul-block c = search needs
-
-shared-slice-read-block : tie.Need-shared-slice-read-block Inv-loop μ-loop
-shared-slice-read-block c = search needs
-
 mul-block-2 : tie.Need-mul-block-2 Inv-loop μ-loop
 mul-block-2 c = omega (arith, c .before .before .loop .inv .2 .size)
 
@@ -32,12 +26,6 @@ slice-write-block c = omega (arith, c .before .before .loop .inv .2 .size)
 
 add-at : tie.Need-add-at Inv-loop μ-loop
 add-at c = omega (arith, c .before .before .loop .inv .2 .size)
-
-add-c : tie.Need-add-c Inv-loop μ-loop
-add-c c = search needs
-
-loop-less : tie.Need-loop-less Inv-loop μ-loop
-loop-less c = search needs
 
 loop-again : tie.Need-loop-again Inv-loop μ-loop
 loop-again c =
@@ -63,13 +51,13 @@ put-lane-spec =
     Inv-loop
     μ-loop
     loop-holds
-    mul-block
-    shared-slice-read-block
+    -- block
+    (λ c. search needs) (λ c. search needs)
     mul-block-2
     slice-write-block
     add-at
-    add-c
-    loop-less
+    -- c, the loop measure
+    (λ c. search needs) (λ c. search needs)
     loop-again
     same-length
     returns)

@@ -16,38 +16,14 @@ Inv-loop vectors dimension leaf first block₀ last g₀ block g = (g ≤ 8) × 
 abbrev μ-loop : tie.MeasureT-loop
 μ-loop vectors dimension leaf first block₀ last g₀ block g = 8 - g
 
-sub-last : tie.Need-sub-last Inv-loop μ-loop
-sub-last c = search needs
-
 loop-holds : tie.Need-loop-holds Inv-loop μ-loop
 loop-holds c = let x = c .before .before .before .args in (omega arith, refl, turned-none (vectorsIn (x .dimension) (x .vectors .now)) (x .leaf .now) (x .first) (x .block .now))
-
-add-lesser : tie.Need-add-lesser Inv-loop μ-loop
-add-lesser c = search needs
-
-lesser-requires : tie.Need-lesser-requires Inv-loop μ-loop
-lesser-requires c κs = search needs
-
-mul-get-vector : tie.Need-mul-t12 Inv-loop μ-loop
-mul-get-vector c = search needs
-
-shared-slice-read-get-vector : tie.Need-shared-slice-read-t14 Inv-loop μ-loop
-shared-slice-read-get-vector c = search needs
-
-get-vector-requires : tie.Need-get-vector-requires Inv-loop μ-loop
-get-vector-requires c κs = search needs
 
 put-lane-requires : tie.Need-put-lane-requires Inv-loop μ-loop
 put-lane-requires c κs =
     let x = c .before .before .before .before .before .before .before .before .before .args in
     let v = c .before .get-vector in
     (omega arith, omega (arith, ap length (v .ensures), vector-short (x .dimension) (x .vectors .now) (getD (x .leaf .now) (c .before .before .before .lesser .result) 0)))
-
-add-g : tie.Need-add-g Inv-loop μ-loop
-add-g c = search needs
-
-loop-less : tie.Need-loop-less Inv-loop μ-loop
-loop-less c = search needs
 
 loop-again : tie.Need-loop-again Inv-loop μ-loop
 loop-again c =
@@ -75,16 +51,14 @@ turn-block-spec =
     (tie.spec
     Inv-loop
     μ-loop
-    sub-last
+    -- last
+    (λ c. search needs)
     loop-holds
-    add-lesser
-    lesser-requires
-    mul-get-vector
-    shared-slice-read-get-vector
-    get-vector-requires
+    -- lesser, get_vector
+    (λ c. search needs) (λ c κs. search needs) (λ c. search needs) (λ c. search needs) (λ c κs. search needs)
     put-lane-requires
-    add-g
-    loop-less
+    -- g, the loop measure
+    (λ c. search needs) (λ c. search needs)
     loop-again
     same-length
     returns)

@@ -12,49 +12,14 @@ abbrev μ-loop : tie.MeasureT-loop
 μ-loop tokens asked words found sizes count c₀ i₀ c i =
     count - i
 
-sizes-at-requires : tie.Need-sizes-at-requires Inv-loop μ-loop
-sizes-at-requires c κs = search needs
-
-size-requires : tie.Need-size-requires Inv-loop μ-loop
-size-requires c κs = search needs
-
-lesser-requires : tie.Need-lesser-requires Inv-loop μ-loop
-lesser-requires c κs = search needs
-
-loop-holds : tie.Need-loop-holds Inv-loop μ-loop
-loop-holds c = search needs
-
-compare-leaf-requires : tie.Need-compare-leaf-requires Inv-loop μ-loop
-compare-leaf-requires c κs = search needs
-
-add-i : tie.Need-add-i Inv-loop μ-loop
-add-i c = search needs
-
-loop-less : tie.Need-loop-less Inv-loop μ-loop
-loop-less c = search needs
-
-loop-again : tie.Need-loop-again Inv-loop μ-loop
-loop-again c = search needs
-
-wrapping-add-usize-requires : tie.Need-wrapping-add-usize-requires Inv-loop μ-loop
-wrapping-add-usize-requires c κs = search needs
-
-returns : tie.Need-returns Inv-loop μ-loop
-returns c = search needs
-
 pub leaves-are-same-spec : {M : Type 1} → statement M
 leaves-are-same-spec =
     tie.close
     (tie.spec
     Inv-loop
     μ-loop
-    sizes-at-requires
-    size-requires
-    lesser-requires
-    loop-holds
-    compare-leaf-requires
-    add-i
-    loop-less
-    loop-again
-    wrapping-add-usize-requires
-    returns)
+    -- sizes_at, size, lesser, the loop begins, compare_leaf, i, the loop measure
+    (λ c κs. search needs) (λ c κs. search needs) (λ c κs. search needs) (λ c. search needs) (λ c κs. search needs) (λ c. search needs)
+    (λ c. search needs)
+    -- the loop goes on, wrapping_add_usize, the return
+    (λ c. search needs) (λ c κs. search needs) (λ c. search needs))

@@ -7,17 +7,11 @@ use borrow.Author.Needs.{needs}
 use Rattle.lists.proofs.end_of.Statement.{statement}
 use Rattle.lists.proofs.end_of.Tie as tie
 
-cast-stride : tie.Need-cast-stride
-cast-stride c = search needs
-
-block-in-requires : tie.Need-block-in-requires
-block-in-requires c κs = search needs
-
-word-at-requires : tie.Need-word-at-requires
-word-at-requires c κs = search needs
-
 returns : tie.Need-returns
 returns c = c .word-at .ensures ∙ ap (λ (b : List ℕ). word b (c .before .before .before .args .side)) (c .before .block-in .ensures)
 
 pub end-of-spec : {M : Type 1} → statement M
-end-of-spec = tie.close (tie.spec cast-stride block-in-requires word-at-requires returns)
+end-of-spec = tie.close (tie.spec
+    -- stride, block_in, word_at
+    (λ c. search needs) (λ c κs. search needs) (λ c κs. search needs)
+    returns)

@@ -7,14 +7,11 @@ use borrow.Author.Needs.{needs}
 use Rattle.lists.proofs.entry_of.Statement.{statement}
 use Rattle.lists.proofs.entry_of.Tie as tie
 
-row-of-requires : tie.Need-row-of-requires
-row-of-requires c κs = search needs
-
-word-at-requires : tie.Need-word-at-requires
-word-at-requires c κs = search needs
-
 returns : tie.Need-returns
 returns c = c .word-at .ensures ∙ ap (λ (row : List ℕ). word row (c .before .before .before .args .e)) (c .before .row-of .ensures)
 
 pub entry-of-spec : {M : Type 1} → statement M
-entry-of-spec = tie.close (tie.spec row-of-requires word-at-requires returns)
+entry-of-spec = tie.close (tie.spec
+    -- row_of, word_at
+    (λ c κs. search needs) (λ c κs. search needs)
+    returns)

@@ -25,18 +25,6 @@ mul-at c = omega (arith, small (c .args .i) (c .args .stride) (omega arith) (ome
 add-end : tie.Need-add-end
 add-end c = omega (arith, small (c .args .i) (c .args .stride) (omega arith) (omega arith))
 
-mul-result : tie.Need-mul-result
-mul-result c = search needs
-
-sub-result : tie.Need-sub-result
-sub-result c = search needs
-
-part-result-start : tie.Need-part-result-start
-part-result-start c = search needs
-
-part-result-end : tie.Need-part-result-end
-part-result-end c = search needs
-
 returns : tie.Need-returns
 returns c =
     let a = c .before .before .args in
@@ -44,34 +32,10 @@ returns c =
     let size : at + a .stride - at ≡ a .stride = omega arith in
     ap (λ (k : ℕ). take k (drop at (a .words .now))) size
 
-mul-result-2 : tie.Need-mul-result-2
-mul-result-2 c = search needs
-
-sub-result-2 : tie.Need-sub-result-2
-sub-result-2 c = search needs
-
-part-result-start-2 : tie.Need-part-result-start-2
-part-result-start-2 c = search needs
-
-part-result-end-2 : tie.Need-part-result-end-2
-part-result-end-2 c = search needs
-
 returns-2 : tie.Need-returns-2
 returns-2 c =
     let a = c .before .before .before .args in
     rest (a .words .now) (a .i * a .stride) (a .stride) (omega arith)
-
-mul-result-3 : tie.Need-mul-result-3
-mul-result-3 c = search needs
-
-sub-result-3 : tie.Need-sub-result-3
-sub-result-3 c = search needs
-
-part-result-start-3 : tie.Need-part-result-start-3
-part-result-start-3 c = search needs
-
-part-result-end-3 : tie.Need-part-result-end-3
-part-result-end-3 c = search needs
 
 returns-3 : tie.Need-returns-3
 returns-3 c =
@@ -84,18 +48,12 @@ read-block-spec =
     (tie.spec
     mul-at
     add-end
-    mul-result
-    sub-result
-    part-result-start
-    part-result-end
+    -- result, part-result-start, part-result-end
+    (λ c. search needs) (λ c. search needs) (λ c. search needs) (λ c. search needs)
     returns
-    mul-result-2
-    sub-result-2
-    part-result-start-2
-    part-result-end-2
+    -- result, part-result-start, part-result-end
+    (λ c. search needs) (λ c. search needs) (λ c. search needs) (λ c. search needs)
     returns-2
-    mul-result-3
-    sub-result-3
-    part-result-start-3
-    part-result-end-3
+    -- result, part-result-start, part-result-end
+    (λ c. search needs) (λ c. search needs) (λ c. search needs) (λ c. search needs)
     returns-3)

@@ -21,9 +21,6 @@ Inv-loop rows degree bridges links state₀ n top₀ more₀ state top more = (l
 abbrev μ-loop : tie.MeasureT-loop
 μ-loop rows degree bridges links state₀ n top₀ more₀ state top more = more
 
-visit-requires : tie.Need-visit-requires Inv-loop μ-loop
-visit-requires c κs = search needs
-
 -- in a turn the stack has a node, and an expansion is left
 inside : (c : tie.In-loop Inv-loop μ-loop) → (0 < c .before .loop .top) × (0 < c .before .loop .more)
 inside c = let t = both-true (ltb 0 (c .before .loop .top)) (ltb 0 (c .before .loop .more)) (c .loop-test .taken) in (ltb-true _ _ (t .0), ltb-true _ _ (t .1))
@@ -51,12 +48,6 @@ cast-word-at c = let t = inside (c .before) in omega arith
 
 add-word-at : tie.Need-add-word-at Inv-loop μ-loop
 add-word-at c = let t = inside (c .before) in omega arith
-
-word-at-requires : tie.Need-word-at-requires Inv-loop μ-loop
-word-at-requires c κs = search needs
-
-visit-list-requires : tie.Need-visit-list-requires Inv-loop μ-loop
-visit-list-requires c κs = search needs
 
 loop-less : tie.Need-loop-less Inv-loop μ-loop
 loop-less c = let t = inside (c .before .before .before .before .before .before) in omega arith
@@ -93,14 +84,15 @@ mark-reachable-spec =
     (tie.spec
     Inv-loop
     μ-loop
-    visit-requires
+    -- visit
+    (λ c κs. search needs)
     loop-holds
     sub-top
     sub-more
     cast-word-at
     add-word-at
-    word-at-requires
-    visit-list-requires
+    -- word_at, visit_list
+    (λ c κs. search needs) (λ c κs. search needs)
     loop-less
     loop-again
     same-length

@@ -9,18 +9,6 @@ use borrow.Author.Needs.{needs}
 use Rattle.marking.proofs.visit.Statement.{statement}
 use Rattle.marking.proofs.visit.Tie as tie
 
-word-at-requires : tie.Need-word-at-requires
-word-at-requires c κs = search needs
-
-put-requires : tie.Need-put-requires
-put-requires c κs = search needs
-
-add-put : tie.Need-add-put
-add-put c = search needs
-
-put-requires-2 : tie.Need-put-requires-2
-put-requires-2 c κs = search needs
-
 add-result : tie.Need-add-result
 add-result c =
     let t = c .before .before .before .before .before .before .before .before .if1 .taken in
@@ -28,18 +16,12 @@ add-result c =
     let h : a .top < a .n = visit-room (a .n) (a .v) (a .top) (c .before .before .before .before .before .before .before .before .before .word-at .result) t in
     omega arith
 
-same-length : tie.Need-same-length
-same-length c = search needs
-
 returns : tie.Need-returns
 returns c =
     let a = c .before .before .before .before .before .before .before .before .before .before .before .before .args in
     let w = c .before .before .before .before .before .before .before .before .before .word-at in
     visit-new (a .n) (a .v) (a .top) (w .result) (a .state .now) _ (w .ensures) (c .before .before .before .before .before .before .before .before .if1 .taken)
     (c .before .before .put2 .ensures ∙ ap (λ (l : List ℕ). set l (a .n + a .top) (a .v)) (c .before .before .before .before .before .before .put .ensures))
-
-same-length-2 : tie.Need-same-length-2
-same-length-2 c = search needs
 
 returns-2 : tie.Need-returns-2
 returns-2 c =
@@ -51,12 +33,12 @@ pub visit-spec : {M : Type 1} → statement M
 visit-spec =
     tie.close
     (tie.spec
-    word-at-requires
-    put-requires
-    add-put
-    put-requires-2
+    -- word_at, put
+    (λ c κs. search needs) (λ c κs. search needs) (λ c. search needs) (λ c κs. search needs)
     add-result
-    same-length
+    -- lengths stay
+    (λ c. search needs)
     returns
-    same-length-2
+    -- lengths stay
+    (λ c. search needs)
     returns-2)

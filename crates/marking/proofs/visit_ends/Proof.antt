@@ -17,9 +17,6 @@ Inv-loop bridges links state₀ n top front₀ link₀ state front link = (link 
 abbrev μ-loop : tie.MeasureT-loop
 μ-loop bridges links state₀ n top front₀ link₀ state front link = length (linkedEnds n bridges links link)
 
-first-link-requires : tie.Need-first-link-requires Inv-loop μ-loop
-first-link-requires c κs = search needs
-
 loop-holds : tie.Need-loop-holds Inv-loop μ-loop
 loop-holds c =
     let a = c .before .before .before .before .args in
@@ -28,15 +25,6 @@ loop-holds c =
       refl,
       refl,
     )
-
-other-end-requires : tie.Need-other-end-requires Inv-loop μ-loop
-other-end-requires c κs = search needs
-
-visit-requires : tie.Need-visit-requires Inv-loop μ-loop
-visit-requires c κs = search needs
-
-next-link-requires : tie.Need-next-link-requires Inv-loop μ-loop
-next-link-requires c κs = search needs
 
 loop-less : tie.Need-loop-less Inv-loop μ-loop
 loop-less c =
@@ -79,11 +67,11 @@ visit-ends-spec =
     (tie.spec
     Inv-loop
     μ-loop
-    first-link-requires
+    -- first_link
+    (λ c κs. search needs)
     loop-holds
-    other-end-requires
-    visit-requires
-    next-link-requires
+    -- other_end, visit, next_link
+    (λ c κs. search needs) (λ c κs. search needs) (λ c κs. search needs)
     loop-less
     loop-again
     same-length

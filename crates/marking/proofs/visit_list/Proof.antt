@@ -12,18 +12,6 @@ use borrow.Author.Needs.{needs}
 use Rattle.marking.proofs.visit_list.Statement.{statement}
 use Rattle.marking.proofs.visit_list.Tie as tie
 
-row-of-requires : tie.Need-row-of-requires
-row-of-requires c κs = search needs
-
-visit-row-requires : tie.Need-visit-row-requires
-visit-row-requires c κs = search needs
-
-visit-ends-requires : tie.Need-visit-ends-requires
-visit-ends-requires c κs = search needs
-
-same-length : tie.Need-same-length
-same-length c = search needs
-
 returns : tie.Need-returns
 returns c =
     let a = c .before .before .before .before .before .before .before .before .before .before .before .before .before .args in
@@ -34,4 +22,7 @@ returns c =
 
 pub visit-list-spec : {M : Type 1} → statement M
 visit-list-spec =
-    tie.close (tie.spec row-of-requires visit-row-requires visit-ends-requires same-length returns)
+    tie.close (tie.spec
+    -- row_of, visit_row, visit_ends, lengths stay
+    (λ c κs. search needs) (λ c κs. search needs) (λ c κs. search needs) (λ c. search needs)
+    returns)

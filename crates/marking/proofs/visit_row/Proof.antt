@@ -18,21 +18,6 @@ abbrev μ-loop : tie.MeasureT-loop
 loop-holds : tie.Need-loop-holds Inv-loop μ-loop
 loop-holds c = (omega arith, refl, refl)
 
-mul-visit : tie.Need-mul-visit Inv-loop μ-loop
-mul-visit c = search needs
-
-shared-slice-read-visit : tie.Need-shared-slice-read-visit Inv-loop μ-loop
-shared-slice-read-visit c = search needs
-
-visit-requires : tie.Need-visit-requires Inv-loop μ-loop
-visit-requires c κs = search needs
-
-add-i : tie.Need-add-i Inv-loop μ-loop
-add-i c = search needs
-
-loop-less : tie.Need-loop-less Inv-loop μ-loop
-loop-less c = search needs
-
 loop-again : tie.Need-loop-again Inv-loop μ-loop
 loop-again c =
     let l = c .before .before .before .before .before .before .loop in
@@ -59,11 +44,8 @@ visit-row-spec =
     Inv-loop
     μ-loop
     loop-holds
-    mul-visit
-    shared-slice-read-visit
-    visit-requires
-    add-i
-    loop-less
+    -- visit, i, the loop measure
+    (λ c. search needs) (λ c. search needs) (λ c κs. search needs) (λ c. search needs) (λ c. search needs)
     loop-again
     same-length
     returns)

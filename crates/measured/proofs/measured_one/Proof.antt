@@ -12,57 +12,9 @@ Inv-loop q rows out₀ at₀ i₀ out at i = (i ≤ length out₀) × (length ou
 abbrev μ-loop : tie.MeasureT-loop
 μ-loop q rows out₀ at₀ i₀ out at i = length out₀ - i
 
-loop-holds : tie.Need-loop-holds Inv-loop μ-loop
-loop-holds c = search needs
-
-sub-if1 : tie.Need-sub-if1 Inv-loop μ-loop
-sub-if1 c = search needs
-
-same-length : tie.Need-same-length Inv-loop μ-loop
-same-length c = search needs
-
-returns : tie.Need-returns Inv-loop μ-loop
-returns c = search needs
-
-add-end : tie.Need-add-end Inv-loop μ-loop
-add-end c = search needs
-
-mul-cosine-distance-normalized : tie.Need-mul-cosine-distance-normalized Inv-loop μ-loop
-mul-cosine-distance-normalized c = search needs
-
-sub-cosine-distance-normalized : tie.Need-sub-cosine-distance-normalized Inv-loop μ-loop
-sub-cosine-distance-normalized c = search needs
-
 part-cosine-distance-normalized-start :
     tie.Need-part-cosine-distance-normalized-start Inv-loop μ-loop
 part-cosine-distance-normalized-start c = search needs
-
-part-cosine-distance-normalized-end : tie.Need-part-cosine-distance-normalized-end Inv-loop μ-loop
-part-cosine-distance-normalized-end c = search needs
-
-cosine-distance-normalized-requires : tie.Need-cosine-distance-normalized-requires Inv-loop μ-loop
-cosine-distance-normalized-requires c κs = search needs
-
-mul-out : tie.Need-mul-out Inv-loop μ-loop
-mul-out c = search needs
-
-slice-write-out : tie.Need-slice-write-out Inv-loop μ-loop
-slice-write-out c = search needs
-
-add-i : tie.Need-add-i Inv-loop μ-loop
-add-i c = search needs
-
-loop-less : tie.Need-loop-less Inv-loop μ-loop
-loop-less c = search needs
-
-loop-again : tie.Need-loop-again Inv-loop μ-loop
-loop-again c = search needs
-
-same-length-2 : tie.Need-same-length-2 Inv-loop μ-loop
-same-length-2 c = search needs
-
-returns-2 : tie.Need-returns-2 Inv-loop μ-loop
-returns-2 c = search needs
 
 pub measured-one-spec : {M : Type 1} → statement M
 measured-one-spec =
@@ -70,20 +22,10 @@ measured-one-spec =
     (tie.spec
     Inv-loop
     μ-loop
-    loop-holds
-    sub-if1
-    same-length
-    returns
-    add-end
-    mul-cosine-distance-normalized
-    sub-cosine-distance-normalized
+    -- the loop begins, if1, the return, end, cosine_distance_normalized, lengths stay
+    (λ c. search needs) (λ c. search needs) (λ c. search needs) (λ c. search needs) (λ c. search needs) (λ c. search needs) (λ c. search needs)
     part-cosine-distance-normalized-start
-    part-cosine-distance-normalized-end
-    cosine-distance-normalized-requires
-    mul-out
-    slice-write-out
-    add-i
-    loop-less
-    loop-again
-    same-length-2
-    returns-2)
+    -- part-cosine-distance-normalized-end, cosine_distance_normalized, out, i, the loop measure
+    (λ c. search needs) (λ c κs. search needs) (λ c. search needs) (λ c. search needs) (λ c. search needs) (λ c. search needs)
+    -- the loop goes on, the return, lengths stay
+    (λ c. search needs) (λ c. search needs) (λ c. search needs))

@@ -27,20 +27,11 @@ nothing (x ∷ out) vs e = absurd (omega arith)
 returns : tie.Need-returns
 returns c = nothing (c .before .before .before .args .out .now) _ (c .if1 .taken)
 
-div-lesser : tie.Need-div-lesser
-div-lesser c = search needs
-
-lesser-requires : tie.Need-lesser-requires
-lesser-requires c κs = search needs
-
 mean-requires : tie.Need-mean-requires
 mean-requires c κs =
     let x = c .before .before .before .before .before .args in
     let rows = c .before .lesser in
     (fit (rows .result) (length (x .out .now)) (length (x .vectors .now)) (omega (arith, rows .ensures)), omega (arith, rows .ensures))
-
-same-length : tie.Need-same-length
-same-length c = search needs
 
 returns-2 : tie.Need-returns-2
 returns-2 c =
@@ -50,4 +41,11 @@ returns-2 c =
 
 pub centroid-spec : {M : Type 1} → statement M
 centroid-spec =
-    tie.close (tie.spec returns div-lesser lesser-requires mean-requires same-length returns-2)
+    tie.close (tie.spec
+    returns
+    -- lesser
+    (λ c. search needs) (λ c κs. search needs)
+    mean-requires
+    -- lengths stay
+    (λ c. search needs)
+    returns-2)

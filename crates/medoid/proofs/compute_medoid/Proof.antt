@@ -16,12 +16,6 @@ use borrow.Author.Needs.{needs}
 use Rattle.medoid.proofs.compute_medoid.Statement.{statement}
 use Rattle.medoid.proofs.compute_medoid.Tie as tie
 
-centroid-requires : tie.Need-centroid-requires
-centroid-requires c κs = search needs
-
-same-length : tie.Need-same-length
-same-length c = search needs
-
 no-rows : (d n : ℕ) (xs : List Float) → d ≡ 0 → 0 ≡ computeMedoid d (rowsIn d n xs)
 unfolding computeMedoid nearestTo pieces
 no-rows d n xs e =
@@ -48,22 +42,10 @@ returns c =
     let l : length (c .before .before .before .centroid .last .1 .1 .0) ≡ length (x .centroid .now) = c .before .before .before .centroid .kept .1 .1 .0 in
     no-rows (length (x .centroid .now)) (x .n) (x .vectors .now) (sym l ∙ c .if1 .taken)
 
-div-lesser : tie.Need-div-lesser
-div-lesser c = search needs
-
-lesser-requires : tie.Need-lesser-requires
-lesser-requires c κs = search needs
-
-cast-nearest-row : tie.Need-cast-nearest-row
-cast-nearest-row c = search needs
-
 nearest-row-requires : tie.Need-nearest-row-requires
 nearest-row-requires c κs =
     let rows = c .before .lesser in
     fit (rows .result) _ _ (omega (arith, rows .ensures))
-
-same-length-2 : tie.Need-same-length-2
-same-length-2 c = search needs
 
 returns-2 : tie.Need-returns-2
 returns-2 c =
@@ -75,12 +57,12 @@ pub compute-medoid-spec : {M : Type 1} → statement M
 compute-medoid-spec =
     tie.close
     (tie.spec
-    centroid-requires
-    same-length
+    -- centroid, lengths stay
+    (λ c κs. search needs) (λ c. search needs)
     returns
-    div-lesser
-    lesser-requires
-    cast-nearest-row
+    -- lesser, nearest_row
+    (λ c. search needs) (λ c κs. search needs) (λ c. search needs)
     nearest-row-requires
-    same-length-2
+    -- lengths stay
+    (λ c. search needs)
     returns-2)

@@ -14,9 +14,6 @@ use borrow.Author.Needs.{needs}
 use Rattle.medoid.proofs.mean.Statement.{statement}
 use Rattle.medoid.proofs.mean.Tie as tie
 
-clear-floats-requires : tie.Need-clear-floats-requires
-clear-floats-requires c κs = search needs
-
 sum-rows-requires : tie.Need-sum-rows-requires
 sum-rows-requires c κs =
     let start = c .before .before .before .before .before .before .before in
@@ -28,12 +25,6 @@ unfolding inFloat
 int-to-float-divide c =
     let start = c .before .before .before .before .before .before .before .before .before .before .before .before in
     le→leb (start .args .n) (2 ^ 24) (start .pre .1)
-
-divide-requires : tie.Need-divide-requires
-divide-requires c κs = search needs
-
-same-length : tie.Need-same-length
-same-length c = search needs
 
 -- the three steps, one after the other
 joined : (vectors out cleared summed divided : List Float) (n : ℕ) → cleared ≡ replicate (length out) +zero
@@ -60,9 +51,10 @@ pub mean-spec : {M : Type 1} → statement M
 mean-spec =
     tie.close
     (tie.spec
-    clear-floats-requires
+    -- clear_floats
+    (λ c κs. search needs)
     sum-rows-requires
     int-to-float-divide
-    divide-requires
-    same-length
+    -- divide, lengths stay
+    (λ c κs. search needs) (λ c. search needs)
     returns)

@@ -5,23 +5,11 @@ use borrow.Author.Needs.{needs}
 use Rattle.norm.proofs.normalize.Statement.{statement}
 use Rattle.norm.proofs.normalize.Tie as tie
 
-norm-requires : tie.Need-norm-requires
-norm-requires c κs = search needs
-
-divide-requires : tie.Need-divide-requires
-divide-requires c κs = search needs
-
-same-length : tie.Need-same-length
-same-length c = search needs
-
 returns : tie.Need-returns
 returns c =
     let v = c .before .before .before .before .before .before .before .before .args .v .now in
     let n = c .before .before .before .before .before .norm in
     c .before .before .divide .ensures ∙ scaled-long (n .result) v (n .ensures) (c .before .before .before .before .if1 .taken)
-
-same-length-2 : tie.Need-same-length-2
-same-length-2 c = search needs
 
 returns-2 : tie.Need-returns-2
 returns-2 c =
@@ -30,4 +18,10 @@ returns-2 c =
 
 pub normalize-spec : {M : Type 1} → statement M
 normalize-spec =
-    tie.close (tie.spec norm-requires divide-requires same-length returns same-length-2 returns-2)
+    tie.close (tie.spec
+    -- norm, divide, lengths stay
+    (λ c κs. search needs) (λ c κs. search needs) (λ c. search needs)
+    returns
+    -- lengths stay
+    (λ c. search needs)
+    returns-2)

@@ -8,18 +8,9 @@ use Rattle.order.specs.Order.{valueOf}
 use Rattle.order.proofs.value.Statement.{statement}
 use Rattle.order.proofs.value.Tie as tie
 
-f32-from-requires : tie.Need-f32-from-requires
-f32-from-requires c κs = search needs
-
 returns : tie.Need-returns
 unfolding valueOf
 returns c = c .f32-from .ensures ∙ ap (ofBits binary32) (sym (pick-true _ _ (le-leb _ _ (c .before .if1 .taken))))
-
-sub-f32-from : tie.Need-sub-f32-from
-sub-f32-from c = search needs
-
-f32-from-requires-2 : tie.Need-f32-from-requires-2
-f32-from-requires-2 c κs = search needs
 
 returns-2 : tie.Need-returns-2
 unfolding valueOf
@@ -27,4 +18,10 @@ returns-2 c = c .f32-from2 .ensures ∙ ap (ofBits binary32) (sym (pick-false _ 
 
 pub value-spec : {M : Type 1} → statement M
 value-spec =
-    tie.close (tie.spec f32-from-requires returns sub-f32-from f32-from-requires-2 returns-2)
+    tie.close (tie.spec
+    -- f32_from
+    (λ c κs. search needs)
+    returns
+    -- f32_from
+    (λ c. search needs) (λ c κs. search needs)
+    returns-2)

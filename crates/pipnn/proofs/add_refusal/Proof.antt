@@ -46,28 +46,16 @@ passed-3 c =
     let t = passed-2 (c .before .before) in
     (t .0, (t .1 .0, (ap not (sym (c .before .all-finite .ensures) ∙ not-false _ (c .if4 .left)), tt)))
 
-opening-refusal-requires : tie.Need-opening-refusal-requires
-opening-refusal-requires c κs = search needs
-
 returns : tie.Need-returns
 unfolding addChecks
 returns c =
     c .before .opening-refusal .ensures
     ∙ sym (then-first (First (c .before .before .before .before .before)) (Own (c .before .before .before .before .before)) (λ e. c .if1 .taken (c .before .opening-refusal .ensures ∙ e)))
 
-word-at-requires : tie.Need-word-at-requires
-word-at-requires c κs = search needs
-
 returns-2 : tie.Need-returns-2
 unfolding ownChecks
 returns-2 c =
     turned-at 0 (Own (c .before .before .before .before .before .before .before)) tt (eq-eqb _ _ (sym (c .before .word-at .ensures) ∙ c .if2 .taken)) ∙ own (c .before .before)
-
-word-at-requires-2 : tie.Need-word-at-requires-2
-word-at-requires-2 c κs = search needs
-
-cast-if3 : tie.Need-cast-if3
-cast-if3 c = search needs
 
 returns-3 : tie.Need-returns-3
 unfolding ownChecks
@@ -76,21 +64,12 @@ returns-3 c =
     (ap not (ne-eqb _ _ (λ e. c .if3 .taken (e ∙ sym (c .before .word-at2 .ensures)))))
     ∙ own (c .before .before .before .before)
 
-all-finite-requires : tie.Need-all-finite-requires
-all-finite-requires c κs = search needs
-
 returns-4 : tie.Need-returns-4
 unfolding ownChecks
 returns-4 c =
     turned-at 2 (Own (c .before .before .before .before .before .before .before .before .before .before .before)) (passed-2 (c .before .before))
     (ap not (sym (c .before .all-finite .ensures) ∙ not-true _ (c .if4 .taken)))
     ∙ own (c .before .before .before .before .before .before)
-
-word-at-requires-3 : tie.Need-word-at-requires-3
-word-at-requires-3 c κs = search needs
-
-word-at-requires-4 : tie.Need-word-at-requires-4
-word-at-requires-4 c κs = search needs
 
 returns-5 : tie.Need-returns-5
 unfolding ownChecks
@@ -111,16 +90,19 @@ pub add-refusal-spec : {M : Type 1} → statement M
 add-refusal-spec =
     tie.close
     (tie.spec
-    opening-refusal-requires
+    -- opening_refusal
+    (λ c κs. search needs)
     returns
-    word-at-requires
+    -- word_at
+    (λ c κs. search needs)
     returns-2
-    word-at-requires-2
-    cast-if3
+    -- word_at, if3
+    (λ c κs. search needs) (λ c. search needs)
     returns-3
-    all-finite-requires
+    -- all_finite
+    (λ c κs. search needs)
     returns-4
-    word-at-requires-3
-    word-at-requires-4
+    -- word_at
+    (λ c κs. search needs) (λ c κs. search needs)
     returns-5
     returns-6)

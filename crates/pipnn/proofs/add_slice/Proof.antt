@@ -25,34 +25,13 @@ Taken s = AddTaken (s .args .words .now) (s .args .floats .now) (s .args .vector
 taken : (c : tie.Else1) → Taken (c .before .before .before .before .before .before .before)
 taken c = add-taken _ _ _ (zero c)
 
-add-refusal-requires : tie.Need-add-refusal-requires
-add-refusal-requires c κs = search needs
-
-same-length : tie.Need-same-length
-same-length c = search needs
-
-same-length-2 : tie.Need-same-length-2
-same-length-2 c = search needs
-
 returns : tie.Need-returns
 unfolding addSpec
 returns c = left-alone (refusal (c .before .before .before .before .before .before .before)) _ _ _ _ _ (c .before .add-refusal .ensures) (c .if1 .taken)
 
-word-at-requires : tie.Need-word-at-requires
-word-at-requires c κs = search needs
-
-word-at-requires-2 : tie.Need-word-at-requires-2
-word-at-requires-2 c κs = search needs
-
-floats-size-requires : tie.Need-floats-size-requires
-floats-size-requires c κs = search needs
-
 put-vector-requires : tie.Need-put-vector-requires
 put-vector-requires c κs =
     rw (c .before .floats-size .ensures, c .before .before .word-at2 .ensures, c .before .before .before .before .word-at .ensures) (taken (c .before .before .before .before .before .before) .vector)
-
-put-doc-requires : tie.Need-put-doc-requires
-put-doc-requires c κs = search needs
 
 add-words : tie.Need-add-words
 add-words c =
@@ -63,12 +42,6 @@ slice-write-words : tie.Need-slice-write-words
 slice-write-words c =
     let t = taken (c .before .before .before .before .before .before .before .before .before .before .before .before .before) in
     omega (arith, c .before .before .put-doc .kept .0, t .stores .long)
-
-same-length-3 : tie.Need-same-length-3
-same-length-3 c = search needs
-
-same-length-4 : tie.Need-same-length-4
-same-length-4 c = search needs
 
 returns-2 : tie.Need-returns-2
 unfolding addSpec addedWords addedFloats
@@ -88,17 +61,16 @@ pub add-slice-spec : {M : Type 1} → statement M
 add-slice-spec =
     tie.close
     (tie.spec
-    add-refusal-requires
-    same-length
-    same-length-2
+    -- add_refusal, lengths stay
+    (λ c κs. search needs) (λ c. search needs) (λ c. search needs)
     returns
-    word-at-requires
-    word-at-requires-2
-    floats-size-requires
+    -- word_at, floats_size
+    (λ c κs. search needs) (λ c κs. search needs) (λ c κs. search needs)
     put-vector-requires
-    put-doc-requires
+    -- put_doc
+    (λ c κs. search needs)
     add-words
     slice-write-words
-    same-length-3
-    same-length-4
+    -- lengths stay
+    (λ c. search needs) (λ c. search needs)
     returns-2)

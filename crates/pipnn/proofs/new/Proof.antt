@@ -24,15 +24,6 @@ zero c = sym (c .before .new-refusal .ensures) ∙ c .if1 .left
 taken : (c : tie.Else1) → Taken (c .before .before .before .before .before .before)
 taken c = new-taken _ _ _ _ _ (zero c)
 
-new-refusal-requires : tie.Need-new-refusal-requires
-new-refusal-requires c κs = search needs
-
-same-length : tie.Need-same-length
-same-length c = search needs
-
-same-length-2 : tie.Need-same-length-2
-same-length-2 c = search needs
-
 returns : tie.Need-returns
 unfolding newSpec
 returns c = left-alone (refusal (c .before .before .before .before .before .before)) _ _ _ _ _ (c .before .new-refusal .ensures) (c .if1 .taken)
@@ -40,26 +31,11 @@ returns c = left-alone (refusal (c .before .before .before .before .before .befo
 cast-degree : tie.Need-cast-degree
 cast-degree c = let t = taken (c .before) in omega (arith, t .params .degree-most)
 
-words-size-requires : tie.Need-words-size-requires
-words-size-requires c κs = search needs
-
-floats-size-requires : tie.Need-floats-size-requires
-floats-size-requires c κs = search needs
-
 put-header-requires : tie.Need-put-header-requires
 put-header-requires c κs = let t = taken (c .before .before .before .before) in (omega arith, t .limits)
 
-sub-clear-words : tie.Need-sub-clear-words
-sub-clear-words c = search needs
-
-part-clear-words-start : tie.Need-part-clear-words-start
-part-clear-words-start c = search needs
-
 part-clear-words-end : tie.Need-part-clear-words-end
 part-clear-words-end c = let t = taken (c .before .before .before .before .before .before .before) in omega arith
-
-clear-words-requires : tie.Need-clear-words-requires
-clear-words-requires c κs = search needs
 
 slice-relend-prefix-clear-floats : tie.Need-slice-relend-prefix-clear-floats
 slice-relend-prefix-clear-floats c =
@@ -70,15 +46,6 @@ slice-aggregate-clear-floats : tie.Need-slice-aggregate-clear-floats
 slice-aggregate-clear-floats c =
     let t = taken (c .before .before .before .before .before .before .before .before .before .before .before .before) in
     sym (length-take-le _ _ (rw (c .before .before .before .before .before .before .before .before .before .floats-size .ensures) (t .floats)))
-
-clear-floats-requires : tie.Need-clear-floats-requires
-clear-floats-requires c κs = search needs
-
-same-length-3 : tie.Need-same-length-3
-same-length-3 c = search needs
-
-same-length-4 : tie.Need-same-length-4
-same-length-4 c = search needs
 
 returns-2 : tie.Need-returns-2
 unfolding newSpec
@@ -100,21 +67,20 @@ pub new-spec : {M : Type 1} → statement M
 new-spec =
     tie.close
     (tie.spec
-    new-refusal-requires
-    same-length
-    same-length-2
+    -- new_refusal, lengths stay
+    (λ c κs. search needs) (λ c. search needs) (λ c. search needs)
     returns
     cast-degree
-    words-size-requires
-    floats-size-requires
+    -- words_size, floats_size
+    (λ c κs. search needs) (λ c κs. search needs)
     put-header-requires
-    sub-clear-words
-    part-clear-words-start
+    -- clear_words, part-clear-words-start
+    (λ c. search needs) (λ c. search needs)
     part-clear-words-end
-    clear-words-requires
+    -- clear_words
+    (λ c κs. search needs)
     slice-relend-prefix-clear-floats
     slice-aggregate-clear-floats
-    clear-floats-requires
-    same-length-3
-    same-length-4
+    -- clear_floats, lengths stay
+    (λ c κs. search needs) (λ c. search needs) (λ c. search needs)
     returns-2)

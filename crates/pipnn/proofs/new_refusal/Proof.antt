@@ -37,18 +37,9 @@ passed-2 : (c : tie.Else2) → Pass (take 2 (K (c .before .before .before .befor
 unfolding newChecks
 passed-2 c = (passed-1 (c .before .before .before) .0, (ap not (taken c), tt))
 
-dimension-within-requires : tie.Need-dimension-within-requires
-dimension-within-requires c κs = search needs
-
 returns : tie.Need-returns
 unfolding newChecks
 returns c = turned-at 0 (K (c .before .before .before .before)) tt (ap not (sym (c .before .dimension-within .ensures) ∙ not-true _ (c .if1 .taken)))
-
-within-limits-requires : tie.Need-within-limits-requires
-within-limits-requires c κs = search needs
-
-capacity-within-requires : tie.Need-capacity-within-requires
-capacity-within-requires c κs = search needs
 
 returns-2 : tie.Need-returns-2
 unfolding newChecks
@@ -58,9 +49,6 @@ returns-2 c =
 
 cast-degree : tie.Need-cast-degree
 cast-degree c = let limits = within _ (both-true _ _ (taken (c .before)) .0) in omega arith
-
-store-short-requires : tie.Need-store-short-requires
-store-short-requires c κs = search needs
 
 returns-3 : tie.Need-returns-3
 unfolding newChecks
@@ -79,12 +67,14 @@ pub new-refusal-spec : {M : Type 1} → statement M
 new-refusal-spec =
     tie.close
     (tie.spec
-    dimension-within-requires
+    -- dimension_within
+    (λ c κs. search needs)
     returns
-    within-limits-requires
-    capacity-within-requires
+    -- within_limits, capacity_within
+    (λ c κs. search needs) (λ c κs. search needs)
     returns-2
     cast-degree
-    store-short-requires
+    -- store_short
+    (λ c κs. search needs)
     returns-3
     returns-4)

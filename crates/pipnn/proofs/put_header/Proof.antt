@@ -25,9 +25,6 @@ flag false = refl
 float-to-bits-fraction : tie.Need-float-to-bits-fraction
 float-to-bits-fraction c = at-most-number _ _ (within _ (c .before .pre .1) .fraction-most)
 
-slice-write-words : tie.Need-slice-write-words
-slice-write-words c = search needs
-
 slice-write-words-2 : tie.Need-slice-write-words-2
 slice-write-words-2 c = simp length-set (omega arith)
 
@@ -45,9 +42,6 @@ slice-write-words-6 c = simp length-set (omega arith)
 
 slice-write-words-7 : tie.Need-slice-write-words-7
 slice-write-words-7 c = simp length-set (omega arith)
-
-cast-words : tie.Need-cast-words
-cast-words c = search needs
 
 slice-write-words-8 : tie.Need-slice-write-words-8
 slice-write-words-8 c = simp length-set (omega arith)
@@ -69,9 +63,6 @@ cast-words-2 c = omega (arith, toBits-lt binary64 _ (c .struct-known2 .given .1 
 
 slice-write-words-13 : tie.Need-slice-write-words-13
 slice-write-words-13 c = simp length-set (omega arith)
-
-cast-words-3 : tie.Need-cast-words-3
-cast-words-3 c = search needs
 
 slice-write-words-14 : tie.Need-slice-write-words-14
 slice-write-words-14 c = simp length-set (omega arith)
@@ -99,14 +90,16 @@ put-header-spec =
     tie.close
     (tie.spec
     float-to-bits-fraction
-    slice-write-words
+    -- words
+    (λ c. search needs)
     slice-write-words-2
     slice-write-words-3
     slice-write-words-4
     slice-write-words-5
     slice-write-words-6
     slice-write-words-7
-    cast-words
+    -- words
+    (λ c. search needs)
     slice-write-words-8
     slice-write-words-9
     slice-write-words-10
@@ -114,7 +107,8 @@ put-header-spec =
     slice-write-words-12
     cast-words-2
     slice-write-words-13
-    cast-words-3
+    -- words
+    (λ c. search needs)
     slice-write-words-14
     float-to-bits-words
     slice-write-words-15

@@ -8,42 +8,6 @@ use Rattle.pipnn.proofs.AddLaws.{scaled-put}
 use Rattle.pipnn.proofs.put_vector.Statement.{statement}
 use Rattle.pipnn.proofs.put_vector.Tie as tie
 
-add-end : tie.Need-add-end
-add-end c = search needs
-
-mul-copy-floats : tie.Need-mul-copy-floats
-mul-copy-floats c = search needs
-
-sub-copy-floats : tie.Need-sub-copy-floats
-sub-copy-floats c = search needs
-
-part-copy-floats-start : tie.Need-part-copy-floats-start
-part-copy-floats-start c = search needs
-
-part-copy-floats-end : tie.Need-part-copy-floats-end
-part-copy-floats-end c = search needs
-
-copy-floats-requires : tie.Need-copy-floats-requires
-copy-floats-requires c κs = search needs
-
-mul-normalize : tie.Need-mul-normalize
-mul-normalize c = search needs
-
-sub-normalize : tie.Need-sub-normalize
-sub-normalize c = search needs
-
-part-normalize-start : tie.Need-part-normalize-start
-part-normalize-start c = search needs
-
-part-normalize-end : tie.Need-part-normalize-end
-part-normalize-end c = search needs
-
-normalize-requires : tie.Need-normalize-requires
-normalize-requires c κs = search needs
-
-same-length : tie.Need-same-length
-same-length c = search needs
-
 returns : tie.Need-returns
 returns c =
     let s = c .before .before .before .before .before .before .before .before .before .before in
@@ -56,16 +20,9 @@ pub put-vector-spec : {M : Type 1} → statement M
 put-vector-spec =
     tie.close
     (tie.spec
-    add-end
-    mul-copy-floats
-    sub-copy-floats
-    part-copy-floats-start
-    part-copy-floats-end
-    copy-floats-requires
-    mul-normalize
-    sub-normalize
-    part-normalize-start
-    part-normalize-end
-    normalize-requires
-    same-length
+    -- end, copy_floats, part-copy-floats-start, part-copy-floats-end, normalize
+    (λ c. search needs) (λ c. search needs) (λ c. search needs) (λ c. search needs) (λ c. search needs) (λ c κs. search needs) (λ c. search needs)
+    (λ c. search needs)
+    -- part-normalize-start, part-normalize-end, normalize, lengths stay
+    (λ c. search needs) (λ c. search needs) (λ c κs. search needs) (λ c. search needs)
     returns)

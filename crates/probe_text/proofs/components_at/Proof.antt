@@ -13,47 +13,11 @@ Inv-loop line at vector₀ count₀ i₀ vector count i = length vector ≡ leng
 abbrev μ-loop : tie.MeasureT-loop
 μ-loop line at vector₀ count₀ i₀ vector count i = length line - i
 
-loop-holds : tie.Need-loop-holds Inv-loop μ-loop
-loop-holds c = search needs
-
-component-at-requires : tie.Need-component-at-requires Inv-loop μ-loop
-component-at-requires c κs = search needs
-
-enum-known-bits : tie.Need-enum-known-bits Inv-loop μ-loop
-enum-known-bits c = search needs
-
-enum-told : tie.Need-enum-told Inv-loop μ-loop
-enum-told c = search needs
-
-same-length : tie.Need-same-length Inv-loop μ-loop
-same-length c = search needs
-
-returns : tie.Need-returns Inv-loop μ-loop
-returns c = search needs
-
-word-requires : tie.Need-word-requires Inv-loop μ-loop
-word-requires c κs = search needs
-
-f32-from-requires : tie.Need-f32-from-requires Inv-loop μ-loop
-f32-from-requires c κs = search needs
-
-keep-requires : tie.Need-keep-requires Inv-loop μ-loop
-keep-requires c κs = search needs
-
 loop-less : tie.Need-loop-less Inv-loop μ-loop
 loop-less c =
     let known = c .before .before .before .before .before .before .before in
     let ends = rw (known .bits .given .1) at (known .before .before .component-at .ensures) in
     omega arith
-
-loop-again : tie.Need-loop-again Inv-loop μ-loop
-loop-again c = search needs
-
-same-length-2 : tie.Need-same-length-2 Inv-loop μ-loop
-same-length-2 c = search needs
-
-returns-2 : tie.Need-returns-2 Inv-loop μ-loop
-returns-2 c = search needs
 
 pub components-at-spec : {M : Type 1} → statement M
 components-at-spec =
@@ -61,16 +25,11 @@ components-at-spec =
     (tie.spec
     Inv-loop
     μ-loop
-    loop-holds
-    component-at-requires
-    enum-known-bits
-    enum-told
-    same-length
-    returns
-    word-requires
-    f32-from-requires
-    keep-requires
+    -- the loop begins, component_at, bits, enum-told, the return, word, f32_from, lengths stay
+    (λ c. search needs) (λ c κs. search needs) (λ c. search needs) (λ c. search needs) (λ c. search needs) (λ c. search needs) (λ c κs. search needs)
+    (λ c κs. search needs)
+    -- keep
+    (λ c κs. search needs)
     loop-less
-    loop-again
-    same-length-2
-    returns-2)
+    -- the loop goes on, the return, lengths stay
+    (λ c. search needs) (λ c. search needs) (λ c. search needs))

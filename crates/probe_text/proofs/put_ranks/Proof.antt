@@ -12,73 +12,14 @@ Inv-loop out₀ from count docs distances at₀ i₀ out at i = (length out ≡ 
 abbrev μ-loop : tie.MeasureT-loop
 μ-loop out₀ from count docs distances at₀ i₀ out at i = count - i
 
-loop-holds : tie.Need-loop-holds Inv-loop μ-loop
-loop-holds c = search needs
-
-same-length : tie.Need-same-length Inv-loop μ-loop
-same-length c = search needs
-
-returns : tie.Need-returns Inv-loop μ-loop
-returns c = search needs
-
-same-length-2 : tie.Need-same-length-2 Inv-loop μ-loop
-same-length-2 c = search needs
-
-returns-2 : tie.Need-returns-2 Inv-loop μ-loop
-returns-2 c = search needs
-
-add-put-rank : tie.Need-add-put-rank Inv-loop μ-loop
-add-put-rank c = search needs
-
-mul-put-rank : tie.Need-mul-put-rank Inv-loop μ-loop
-mul-put-rank c = search needs
-
-shared-slice-read-put-rank : tie.Need-shared-slice-read-put-rank Inv-loop μ-loop
-shared-slice-read-put-rank c = search needs
-
-mul-put-rank-2 : tie.Need-mul-put-rank-2 Inv-loop μ-loop
-mul-put-rank-2 c = search needs
-
-shared-slice-read-put-rank-2 : tie.Need-shared-slice-read-put-rank-2 Inv-loop μ-loop
-shared-slice-read-put-rank-2 c = search needs
-
-put-rank-requires : tie.Need-put-rank-requires Inv-loop μ-loop
-put-rank-requires c κs = search needs
-
-add-i : tie.Need-add-i Inv-loop μ-loop
-add-i c = search needs
-
-loop-less : tie.Need-loop-less Inv-loop μ-loop
-loop-less c = search needs
-
-loop-again : tie.Need-loop-again Inv-loop μ-loop
-loop-again c = search needs
-
-same-length-3 : tie.Need-same-length-3 Inv-loop μ-loop
-same-length-3 c = search needs
-
-returns-3 : tie.Need-returns-3 Inv-loop μ-loop
-returns-3 c = search needs
-
 pub put-ranks-spec : {M : Type 1} → statement M
 put-ranks-spec =
     tie.close
     (tie.spec
     Inv-loop
     μ-loop
-    loop-holds
-    same-length
-    returns
-    same-length-2
-    returns-2
-    add-put-rank
-    mul-put-rank
-    shared-slice-read-put-rank
-    mul-put-rank-2
-    shared-slice-read-put-rank-2
-    put-rank-requires
-    add-i
-    loop-less
-    loop-again
-    same-length-3
-    returns-3)
+    -- the loop begins, the return, put_rank, i, lengths stay
+    (λ c. search needs) (λ c. search needs) (λ c. search needs) (λ c. search needs) (λ c. search needs) (λ c. search needs) (λ c. search needs)
+    (λ c. search needs) (λ c. search needs) (λ c. search needs) (λ c κs. search needs) (λ c. search needs)
+    -- the loop measure, the loop goes on, the return, lengths stay
+    (λ c. search needs) (λ c. search needs) (λ c. search needs) (λ c. search needs))

@@ -11,15 +11,6 @@ use borrow.Author.Needs.{needs}
 use Rattle.queues.proofs.distance_of.Statement.{statement}
 use Rattle.queues.proofs.distance_of.Tie as tie
 
-cast-at : tie.Need-cast-at
-cast-at c = search needs
-
-mul-result : tie.Need-mul-result
-mul-result c = search needs
-
-shared-slice-read-result : tie.Need-shared-slice-read-result
-shared-slice-read-result c = search needs
-
 at-either : (l : List Float) (i : ℕ) → i < length l → getD l i nan ≡ getD l i (inf false)
 at-either [] i h = absurd (omega arith)
 at-either (x ∷ l) zero h = refl
@@ -39,4 +30,9 @@ returns-2 c = sym (List·getD-eq-default (c .before .before .args .floats .now) 
 pub distance-of-spec : {M : Type 1} → statement M
 distance-of-spec =
     tie.close
-    (tie.spec cast-at mul-result shared-slice-read-result returns float-from-bits-result returns-2)
+    (tie.spec
+    -- at, result
+    (λ c. search needs) (λ c. search needs) (λ c. search needs)
+    returns
+    float-from-bits-result
+    returns-2)

@@ -7,22 +7,13 @@ use borrow.Author.Needs.{needs}
 use Rattle.queues.proofs.hold.Statement.{statement}
 use Rattle.queues.proofs.hold.Tie as tie
 
-key-requires : tie.Need-key-requires
-key-requires c κs = search needs
-
-sub-put : tie.Need-sub-put
-sub-put c = search needs
-
-put-requires : tie.Need-put-requires
-put-requires c κs = search needs
-
-same-length : tie.Need-same-length
-same-length c = search needs
-
 returns : tie.Need-returns
 returns c =
     let a = c .before .before .before .before .before .before .args in
     subst (λ (k : ℕ). Putting (a .place) (heldRank k (a .place)) (a .tree .now) (c .before .before .put .last .0)) (c .before .before .before .key .ensures) (c .before .before .put .ensures)
 
 pub hold-spec : {M : Type 1} → statement M
-hold-spec = tie.close (tie.spec key-requires sub-put put-requires same-length returns)
+hold-spec = tie.close (tie.spec
+    -- key, put, lengths stay
+    (λ c κs. search needs) (λ c. search needs) (λ c κs. search needs) (λ c. search needs)
+    returns)

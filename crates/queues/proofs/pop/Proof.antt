@@ -7,25 +7,10 @@ use borrow.Author.Needs.{needs}
 use Rattle.queues.proofs.pop.Statement.{statement}
 use Rattle.queues.proofs.pop.Tie as tie
 
-first-requires : tie.Need-first-requires
-first-requires c κs = search needs
-
-same-length : tie.Need-same-length
-same-length c = search needs
-
 returns : tie.Need-returns
 returns c =
     let a = (c .before .before .before .before .before) .args in
     pop-empty (a .floats .now) (a .tree .now) (a .tree .now) (c .before .first .result .id) (ap (λ (p : Pair). p .id) (c .before .first .ensures)) (omega (arith, c .before .before .before .before .slice-known .given 3)) (omega (arith, c .before .before .before .before .slice-known .given 2)) (c .if1 .taken)
-
-put-requires : tie.Need-put-requires
-put-requires c κs = search needs
-
-distance-of-requires : tie.Need-distance-of-requires
-distance-of-requires c κs = search needs
-
-same-length-2 : tie.Need-same-length-2
-same-length-2 c = search needs
 
 returns-2 : tie.Need-returns-2
 returns-2 c =
@@ -36,10 +21,9 @@ pub pop-spec : {M : Type 1} → statement M
 pop-spec =
     tie.close
     (tie.spec
-    first-requires
-    same-length
+    -- first, lengths stay
+    (λ c κs. search needs) (λ c. search needs)
     returns
-    put-requires
-    distance-of-requires
-    same-length-2
+    -- put, distance_of, lengths stay
+    (λ c κs. search needs) (λ c κs. search needs) (λ c. search needs)
     returns-2)

@@ -6,9 +6,6 @@ use borrow.Author.Needs.{needs}
 use Rattle.queues.proofs.worst_of.Statement.{statement}
 use Rattle.queues.proofs.worst_of.Tie as tie
 
-first-requires : tie.Need-first-requires
-first-requires c κs = search needs
-
 float-from-bits-result : tie.Need-float-from-bits-result
 unfolding nanBits
 float-from-bits-result c = tt
@@ -20,12 +17,6 @@ returns c =
     let words = c .before .before .before .shared-slice-known .given in
     worst-none (c .before .before .before .before .args .tree .now) (first .result) (first .ensures) (omega (arith, words 3)) (omega (arith, words 2)) (c .if1 .taken)
 
-sub-value : tie.Need-sub-value
-sub-value c = search needs
-
-value-requires : tie.Need-value-requires
-value-requires c κs = search needs
-
 returns-2 : tie.Need-returns-2
 returns-2 c =
     let first = c .before .before .before .before .first in
@@ -35,4 +26,11 @@ returns-2 c =
 pub worst-of-spec : {M : Type 1} → statement M
 worst-of-spec =
     tie.close
-    (tie.spec first-requires float-from-bits-result returns sub-value value-requires returns-2)
+    (tie.spec
+    -- first
+    (λ c κs. search needs)
+    float-from-bits-result
+    returns
+    -- value
+    (λ c. search needs) (λ c κs. search needs)
+    returns-2)

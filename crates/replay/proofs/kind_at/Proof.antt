@@ -11,53 +11,14 @@ Inv-loop names text at kind₀ from₀ kind from = (kind ≤ from) × (from ≤ 
 abbrev μ-loop : tie.MeasureT-loop
 μ-loop names text at kind₀ from₀ kind from = length names - from
 
-loop-holds : tie.Need-loop-holds Inv-loop μ-loop
-loop-holds c = search needs
-
-past-name-requires : tie.Need-past-name-requires Inv-loop μ-loop
-past-name-requires c κs = search needs
-
-sub-starts : tie.Need-sub-starts Inv-loop μ-loop
-sub-starts c = search needs
-
-part-starts-start : tie.Need-part-starts-start Inv-loop μ-loop
-part-starts-start c = search needs
-
-part-starts-end : tie.Need-part-starts-end Inv-loop μ-loop
-part-starts-end c = search needs
-
-starts-requires : tie.Need-starts-requires Inv-loop μ-loop
-starts-requires c κs = search needs
-
-returns : tie.Need-returns Inv-loop μ-loop
-returns c = search needs
-
-add-kind : tie.Need-add-kind Inv-loop μ-loop
-add-kind c = search needs
-
-loop-less : tie.Need-loop-less Inv-loop μ-loop
-loop-less c = search needs
-
-loop-again : tie.Need-loop-again Inv-loop μ-loop
-loop-again c = search needs
-
-returns-2 : tie.Need-returns-2 Inv-loop μ-loop
-returns-2 c = search needs
-
 pub kind-at-spec : {M : Type 1} → statement M
 kind-at-spec =
     tie.close
     (tie.spec
     Inv-loop
     μ-loop
-    loop-holds
-    past-name-requires
-    sub-starts
-    part-starts-start
-    part-starts-end
-    starts-requires
-    returns
-    add-kind
-    loop-less
-    loop-again
-    returns-2)
+    -- the loop begins, past_name, starts, part-starts-start, part-starts-end, the return, kind
+    (λ c. search needs) (λ c κs. search needs) (λ c. search needs) (λ c. search needs) (λ c. search needs) (λ c κs. search needs) (λ c. search needs)
+    (λ c. search needs)
+    -- the loop measure, the loop goes on, the return
+    (λ c. search needs) (λ c. search needs) (λ c. search needs))

@@ -12,53 +12,12 @@ Inv-loop text₀ from end kept i₀ text i = (i ≤ kept) × (from + kept ≤ le
 abbrev μ-loop : tie.MeasureT-loop
 μ-loop text₀ from end kept i₀ text i = kept - i
 
-returns : tie.Need-returns Inv-loop μ-loop
-returns c = search needs
-
-returns-2 : tie.Need-returns-2 Inv-loop μ-loop
-returns-2 c = search needs
-
-loop-holds : tie.Need-loop-holds Inv-loop μ-loop
-loop-holds c = search needs
-
-add-text : tie.Need-add-text Inv-loop μ-loop
-add-text c = search needs
-
-slice-read-text : tie.Need-slice-read-text Inv-loop μ-loop
-slice-read-text c = search needs
-
-slice-write-text : tie.Need-slice-write-text Inv-loop μ-loop
-slice-write-text c = search needs
-
-add-i : tie.Need-add-i Inv-loop μ-loop
-add-i c = search needs
-
-loop-less : tie.Need-loop-less Inv-loop μ-loop
-loop-less c = search needs
-
-loop-again : tie.Need-loop-again Inv-loop μ-loop
-loop-again c = search needs
-
-same-length : tie.Need-same-length Inv-loop μ-loop
-same-length c = search needs
-
-returns-3 : tie.Need-returns-3 Inv-loop μ-loop
-returns-3 c = search needs
-
 pub shift-spec : {M : Type 1} → statement M
 shift-spec =
     tie.close
     (tie.spec
     Inv-loop
     μ-loop
-    returns
-    returns-2
-    loop-holds
-    add-text
-    slice-read-text
-    slice-write-text
-    add-i
-    loop-less
-    loop-again
-    same-length
-    returns-3)
+    -- the return, the loop begins, text, i, the loop measure, the loop goes on, lengths stay
+    (λ c. search needs) (λ c. search needs) (λ c. search needs) (λ c. search needs) (λ c. search needs) (λ c. search needs) (λ c. search needs)
+    (λ c. search needs) (λ c. search needs) (λ c. search needs) (λ c. search needs))

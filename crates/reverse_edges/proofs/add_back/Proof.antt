@@ -8,12 +8,6 @@ use borrow.Author.Needs.{needs}
 use Rattle.reverse_edges.proofs.add_back.Statement.{statement}
 use Rattle.reverse_edges.proofs.add_back.Tie as tie
 
-add-size : tie.Need-add-size
-add-size c = search needs
-
-cast-at : tie.Need-cast-at
-cast-at c = search needs
-
 mul-at : tie.Need-mul-at
 mul-at c = omega (arith, place-fits (c .before .before .args .nb .0) (1 + c .before .before .args .degree) (omega arith) (omega arith))
 
@@ -23,23 +17,8 @@ add-end c = omega (arith, place-fits (c .before .before .args .nb .0) (1 + c .be
 returns : tie.Need-returns
 returns c = let x = c .before .before .before .args in back-none (x .degree) (x .node .0) (x .nb .0) (x .rows .now) (c .if1 .taken)
 
-mul-add-entry : tie.Need-mul-add-entry
-mul-add-entry c = search needs
-
-sub-add-entry : tie.Need-sub-add-entry
-sub-add-entry c = search needs
-
-part-add-entry-start : tie.Need-part-add-entry-start
-part-add-entry-start c = search needs
-
-part-add-entry-end : tie.Need-part-add-entry-end
-part-add-entry-end c = search needs
-
 add-entry-requires : tie.Need-add-entry-requires
 add-entry-requires c κs = simp (length-take, length-drop) (omega arith)
-
-same-length : tie.Need-same-length
-same-length c = search needs
 
 returns-2 : tie.Need-returns-2
 returns-2 c =
@@ -52,15 +31,14 @@ pub add-back-spec : {M : Type 1} → statement M
 add-back-spec =
     tie.close
     (tie.spec
-    add-size
-    cast-at
+    -- size, at
+    (λ c. search needs) (λ c. search needs)
     mul-at
     add-end
     returns
-    mul-add-entry
-    sub-add-entry
-    part-add-entry-start
-    part-add-entry-end
+    -- add_entry, part-add-entry-start, part-add-entry-end
+    (λ c. search needs) (λ c. search needs) (λ c. search needs) (λ c. search needs)
     add-entry-requires
-    same-length
+    -- lengths stay
+    (λ c. search needs)
     returns-2)

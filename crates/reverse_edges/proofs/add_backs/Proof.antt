@@ -15,25 +15,10 @@ Inv-loop rows₀ degree node count e₀ rows e = (length rows ≡ length rows₀
 abbrev μ-loop : tie.MeasureT-loop
 μ-loop rows₀ degree node count e₀ rows e = count - e
 
-row-of-requires : tie.Need-row-of-requires Inv-loop μ-loop
-row-of-requires c κs = search needs
-
 loop-holds : tie.Need-loop-holds Inv-loop μ-loop
 loop-holds c =
     let x = c .before .before .before .args in
     (refl, turn-first (x .degree) (x .node .0) (x .rows .now))
-
-entry-of-requires : tie.Need-entry-of-requires Inv-loop μ-loop
-entry-of-requires c κs = search needs
-
-add-back-requires : tie.Need-add-back-requires Inv-loop μ-loop
-add-back-requires c κs = search needs
-
-add-e : tie.Need-add-e Inv-loop μ-loop
-add-e c = search needs
-
-loop-less : tie.Need-loop-less Inv-loop μ-loop
-loop-less c = search needs
 
 loop-again : tie.Need-loop-again Inv-loop μ-loop
 loop-again c =
@@ -62,12 +47,11 @@ add-backs-spec =
     (tie.spec
     Inv-loop
     μ-loop
-    row-of-requires
+    -- row_of
+    (λ c κs. search needs)
     loop-holds
-    entry-of-requires
-    add-back-requires
-    add-e
-    loop-less
+    -- entry_of, add_back, e, the loop measure
+    (λ c κs. search needs) (λ c κs. search needs) (λ c. search needs) (λ c. search needs)
     loop-again
     same-length
     returns)

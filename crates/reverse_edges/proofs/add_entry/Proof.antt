@@ -19,9 +19,6 @@ found node ws r e = let k : 1 + getD ws 0 0 - 1 ≡ getD ws 0 0 = omega arith in
 returns : tie.Need-returns
 returns c = entry-full _ _ (omega arith)
 
-slice-read-count : tie.Need-slice-read-count
-slice-read-count c = search needs
-
 cast-last : tie.Need-cast-last
 cast-last c = omega (arith, c .slice-known2 .given 0)
 
@@ -31,43 +28,16 @@ add-last c = omega (arith, c .slice-known2 .given 0)
 returns-2 : tie.Need-returns-2
 returns-2 c = entry-full _ _ (c .if2 .taken)
 
-mul-has-node : tie.Need-mul-has-node
-mul-has-node c = search needs
-
-sub-has-node : tie.Need-sub-has-node
-sub-has-node c = search needs
-
-part-has-node-start : tie.Need-part-has-node-start
-part-has-node-start c = search needs
-
-part-has-node-end : tie.Need-part-has-node-end
-part-has-node-end c = search needs
-
-has-node-requires : tie.Need-has-node-requires
-has-node-requires c κs = search needs
-
-same-length : tie.Need-same-length
-same-length c = search needs
-
 returns-3 : tie.Need-returns-3
 returns-3 c =
     let x = c .before .before .before .before .before .before .before .before .args in
     entry-had (x .node) (x .row .now) (sym (found (x .node) (x .row .now) (c .before .has-node .result) (c .before .has-node .ensures)) ∙ c .if3 .taken)
-
-mul-row : tie.Need-mul-row
-mul-row c = search needs
-
-slice-write-row : tie.Need-slice-write-row
-slice-write-row c = search needs
 
 cast-row : tie.Need-cast-row
 cast-row c = omega arith
 
 slice-write-row-2 : tie.Need-slice-write-row-2
 slice-write-row-2 c = simp length-set (omega arith)
-
-same-length-2 : tie.Need-same-length-2
-same-length-2 c = search needs
 
 returns-4 : tie.Need-returns-4
 returns-4 c =
@@ -79,20 +49,18 @@ add-entry-spec =
     tie.close
     (tie.spec
     returns
-    slice-read-count
+    -- count
+    (λ c. search needs)
     cast-last
     add-last
     returns-2
-    mul-has-node
-    sub-has-node
-    part-has-node-start
-    part-has-node-end
-    has-node-requires
-    same-length
+    -- has_node, part-has-node-start, part-has-node-end, lengths stay
+    (λ c. search needs) (λ c. search needs) (λ c. search needs) (λ c. search needs) (λ c κs. search needs) (λ c. search needs)
     returns-3
-    mul-row
-    slice-write-row
+    -- row
+    (λ c. search needs) (λ c. search needs)
     cast-row
     slice-write-row-2
-    same-length-2
+    -- lengths stay
+    (λ c. search needs)
     returns-4)

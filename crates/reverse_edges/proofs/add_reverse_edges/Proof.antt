@@ -14,31 +14,10 @@ Inv-loop rows₀ degree size n i₀ rows i = (i ≤ n) × (length rows ≡ lengt
 abbrev μ-loop : tie.MeasureT-loop
 μ-loop rows₀ degree size n i₀ rows i = n - i
 
-add-size : tie.Need-add-size Inv-loop μ-loop
-add-size c = search needs
-
-div-lesser : tie.Need-div-lesser Inv-loop μ-loop
-div-lesser c = search needs
-
-lesser-requires : tie.Need-lesser-requires Inv-loop μ-loop
-lesser-requires c κs = search needs
-
-cast-n : tie.Need-cast-n Inv-loop μ-loop
-cast-n c = search needs
-
 loop-holds : tie.Need-loop-holds Inv-loop μ-loop
 loop-holds c =
     let x = c .before .before .args in
     (omega arith, refl, reverse-first (x .degree) (x .rows .now))
-
-add-backs-requires : tie.Need-add-backs-requires Inv-loop μ-loop
-add-backs-requires c κs = search needs
-
-add-i : tie.Need-add-i Inv-loop μ-loop
-add-i c = search needs
-
-loop-less : tie.Need-loop-less Inv-loop μ-loop
-loop-less c = search needs
 
 loop-again : tie.Need-loop-again Inv-loop μ-loop
 loop-again c =
@@ -64,14 +43,11 @@ add-reverse-edges-spec =
     (tie.spec
     Inv-loop
     μ-loop
-    add-size
-    div-lesser
-    lesser-requires
-    cast-n
+    -- size, lesser, n
+    (λ c. search needs) (λ c. search needs) (λ c κs. search needs) (λ c. search needs)
     loop-holds
-    add-backs-requires
-    add-i
-    loop-less
+    -- add_backs, i, the loop measure
+    (λ c κs. search needs) (λ c. search needs) (λ c. search needs)
     loop-again
     same-length
     returns)

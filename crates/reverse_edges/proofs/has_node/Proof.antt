@@ -20,13 +20,7 @@ loop-holds : tie.Need-loop-holds Inv-loop μ-loop
 loop-holds c = (omega arith, refl)
 
 -- src/lib.rt:93:12
-mul-if1 : tie.Need-mul-if1 Inv-loop μ-loop
-mul-if1 c = search needs
-
 -- src/lib.rt:93:12
-shared-slice-read-if1 : tie.Need-shared-slice-read-if1 Inv-loop μ-loop
-shared-slice-read-if1 c = search needs
-
 -- src/lib.rt:94:13
 returns : tie.Need-returns Inv-loop μ-loop
 returns c =
@@ -35,13 +29,7 @@ returns c =
     sym (has-here (x .node) (x .row .now) (l .i) (omega arith) (c .if1 .taken)) ∙ l .inv .1
 
 -- src/lib.rt:96:9
-add-i : tie.Need-add-i Inv-loop μ-loop
-add-i c = search needs
-
 -- src/lib.rt:92:5
-loop-less : tie.Need-loop-less Inv-loop μ-loop
-loop-less c = search needs
-
 -- src/lib.rt:92:5
 loop-again : tie.Need-loop-again Inv-loop μ-loop
 loop-again c =
@@ -63,10 +51,10 @@ has-node-spec =
     Inv-loop
     μ-loop
     loop-holds
-    mul-if1
-    shared-slice-read-if1
+    -- if1
+    (λ c. search needs) (λ c. search needs)
     returns
-    add-i
-    loop-less
+    -- i, the loop measure
+    (λ c. search needs) (λ c. search needs)
     loop-again
     returns-2)

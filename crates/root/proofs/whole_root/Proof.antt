@@ -45,12 +45,6 @@ Inv-loop n r₀ k₀ r k = J n r k
 abbrev μ-loop : tie.MeasureT-loop
 μ-loop n r₀ k₀ r k = k
 
-loop-holds : tie.Need-loop-holds Inv-loop μ-loop
-loop-holds c = search needs
-
-sub-k : tie.Need-sub-k Inv-loop μ-loop
-sub-k c = search needs
-
 shl-t : tie.Need-shl-t Inv-loop μ-loop
 shl-t c = omega arith
 
@@ -67,18 +61,12 @@ mul-if1 c =
     let h = fits-t n (l .r) (l .k) (c .loop-test .taken) (l .inv) in
     subst (λ (x : ℕ). Fits w64 ((l .r + x) * (l .r + x))) (sym (shifted (l .k) (c .loop-test .taken) (l .inv .0))) (fits-below {n = 2 ^ 25 * 2 ^ 25} tt (mul-le-mul h h))
 
-loop-less : tie.Need-loop-less Inv-loop μ-loop
-loop-less c = search needs
-
 loop-again : tie.Need-loop-again Inv-loop μ-loop
 loop-again c =
     let l = c .before .before .loop in
     let n = c .before .before .before .args .n in
     let e = shifted (l .k) (c .before .loop-test .taken) (l .inv .0) in
     subst (λ (x : ℕ). J n (l .r + x) (l .k - 1)) (sym e) (take n (l .r) (l .k) (c .before .loop-test .taken) (l .inv) (subst (λ (x : ℕ). (l .r + x) * (l .r + x) ≤ n) e (c .if1 .taken)))
-
-loop-less-2 : tie.Need-loop-less-2 Inv-loop μ-loop
-loop-less-2 c = search needs
 
 loop-again-2 : tie.Need-loop-again-2 Inv-loop μ-loop
 loop-again-2 c =
@@ -100,13 +88,15 @@ whole-root-spec =
     (tie.spec
     Inv-loop
     μ-loop
-    loop-holds
-    sub-k
+    -- the loop begins, k
+    (λ c. search needs) (λ c. search needs)
     shl-t
     add-t
     mul-if1
-    loop-less
+    -- the loop measure
+    (λ c. search needs)
     loop-again
-    loop-less-2
+    -- the loop measure
+    (λ c. search needs)
     loop-again-2
     returns)

@@ -22,21 +22,6 @@ few b h = div-lt-iff-lt-mul (pow-pos (150 - b / 2 ^ 23)) .1 (lt-of-lt-of-le (und
 returns : tie.Need-returns
 returns c = sym (near-pattern (c .before .args .b) (c .before .pre .0) (c .if1 .taken))
 
-add-q : tie.Need-add-q
-add-q c = search needs
-
-sub-s : tie.Need-sub-s
-sub-s c = search needs
-
-mul-result : tie.Need-mul-result
-mul-result c = search needs
-
-sub-result : tie.Need-sub-result
-sub-result c = search needs
-
-shr-result : tie.Need-shr-result
-shr-result c = search needs
-
 sub-result-2 : tie.Need-sub-result-2
 sub-result-2 c = omega (arith, few (c .before .args .b) (c .before .pre .1))
 
@@ -46,4 +31,9 @@ returns-2 c = sym (inside-pattern (c .before .args .b) (c .if1 .left) (c .before
 pub score-bits-spec : {M : Type 1} → statement M
 score-bits-spec =
     tie.close
-    (tie.spec returns add-q sub-s mul-result sub-result shr-result sub-result-2 returns-2)
+    (tie.spec
+    returns
+    -- q, s, result
+    (λ c. search needs) (λ c. search needs) (λ c. search needs) (λ c. search needs) (λ c. search needs)
+    sub-result-2
+    returns-2)

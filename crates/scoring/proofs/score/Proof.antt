@@ -20,27 +20,12 @@ abbrev μ-loop : tie.MeasureT-loop
 loop-holds : tie.Need-loop-holds Inv-loop μ-loop
 loop-holds c = (omega arith, refl, refl)
 
-sub-loop : tie.Need-sub-loop Inv-loop μ-loop
-sub-loop c = search needs
-
-score-eight-requires : tie.Need-score-eight-requires Inv-loop μ-loop
-score-eight-requires c κs = search needs
-
-add-i : tie.Need-add-i Inv-loop μ-loop
-add-i c = search needs
-
-loop-less : tie.Need-loop-less Inv-loop μ-loop
-loop-less c = search needs
-
 loop-again : tie.Need-loop-again Inv-loop μ-loop
 loop-again c =
     let a = (c .before .before .before .before .before .before .before .before .before .before) .args in
     let l = c .before .before .before .before .before .loop in
     let s = c .before .before .score-eight in
     (omega (arith, c .before .before .before .before .loop-test .taken), s .kept .0 ∙ l .inv .1, eight-step (farFrom (a .query .now) (vectorsIn (a .dimension) (a .vectors .now))) (a .nodes .now) (l .i) (l .floats) (s .last .0) (s .ensures) ∙ l .inv .2)
-
-score-rest-requires : tie.Need-score-rest-requires Inv-loop μ-loop
-score-rest-requires c κs = search needs
 
 same-length : tie.Need-same-length Inv-loop μ-loop
 same-length c = c .before .before .score-rest .kept .0 ∙ c .before .before .before .before .before .loop .inv .1
@@ -55,11 +40,10 @@ score-spec =
     Inv-loop
     μ-loop
     loop-holds
-    sub-loop
-    score-eight-requires
-    add-i
-    loop-less
+    -- loop, score_eight, i, the loop measure
+    (λ c. search needs) (λ c κs. search needs) (λ c. search needs) (λ c. search needs)
     loop-again
-    score-rest-requires
+    -- score_rest
+    (λ c κs. search needs)
     same-length
     returns)

@@ -9,15 +9,6 @@ use borrow.Author.Needs.{needs}
 use Rattle.scoring.proofs.score_eight.Statement.{statement}
 use Rattle.scoring.proofs.score_eight.Tie as tie
 
-eight-requires : tie.Need-eight-requires
-eight-requires c κs = search needs
-
-place-eight-requires : tie.Need-place-eight-requires
-place-eight-requires c κs = search needs
-
-same-length : tie.Need-same-length
-same-length c = search needs
-
 returns : tie.Need-returns
 returns c =
     let a = (c .before .before .before .before .before .before .before .before .before) .args in
@@ -26,4 +17,7 @@ returns c =
     ∙ eight-are (farFrom (a .query .now) (vectorsIn (a .dimension) (a .vectors .now))) (a .nodes .now) (a .at) (a .floats .now) ((c .before .before .before .before .before .before .before .before .before) .pre)
 
 pub score-eight-spec : {M : Type 1} → statement M
-score-eight-spec = tie.close (tie.spec eight-requires place-eight-requires same-length returns)
+score-eight-spec = tie.close (tie.spec
+    -- eight, place_eight, lengths stay
+    (λ c κs. search needs) (λ c κs. search needs) (λ c. search needs)
+    returns)

@@ -19,21 +19,6 @@ abbrev μ-loop : tie.MeasureT-loop
 loop-holds : tie.Need-loop-holds Inv-loop μ-loop
 loop-holds c = (refl, refl)
 
-mul-score-one : tie.Need-mul-t8 Inv-loop μ-loop
-mul-score-one c = search needs
-
-shared-slice-read-score-one : tie.Need-shared-slice-read-t14 Inv-loop μ-loop
-shared-slice-read-score-one c = search needs
-
-score-one-requires : tie.Need-score-one-requires Inv-loop μ-loop
-score-one-requires c κs = search needs
-
-add-i : tie.Need-add-i Inv-loop μ-loop
-add-i c = search needs
-
-loop-less : tie.Need-loop-less Inv-loop μ-loop
-loop-less c = search needs
-
 loop-again : tie.Need-loop-again Inv-loop μ-loop
 loop-again c =
     let a = (c .before .before .before .before .before .before .before .before .before .before .before) .args in
@@ -59,11 +44,8 @@ score-rest-spec =
     Inv-loop
     μ-loop
     loop-holds
-    mul-score-one
-    shared-slice-read-score-one
-    score-one-requires
-    add-i
-    loop-less
+    -- score_one, i, the loop measure
+    (λ c. search needs) (λ c. search needs) (λ c κs. search needs) (λ c. search needs) (λ c. search needs)
     loop-again
     same-length
     returns)

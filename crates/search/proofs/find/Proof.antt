@@ -38,18 +38,6 @@ find-scaled-requires c κs =
     let a = s .args in
     ready _ _ (a .words .now) (a .floats .now) (a .query .now) (a .k) (a .ef) (a .docs .now) (a .distances .now) (s .pre) _ (room-length _ _ _ (c .before .before .before .before .before .before .scale-into .ensures))
 
-same-length : tie.Need-same-length
-same-length c = search needs
-
-same-length-2 : tie.Need-same-length-2
-same-length-2 c = search needs
-
-same-length-3 : tie.Need-same-length-3
-same-length-3 c = search needs
-
-same-length-4 : tie.Need-same-length-4
-same-length-4 c = search needs
-
 returns : tie.Need-returns
 returns c =
     let s = c .before .before .before .before .before .before .before .before .before .before .before .before .before .before .before .before .before .before .before .before .before .before .before .before in
@@ -68,8 +56,6 @@ find-spec =
     array-share-prefix-room
     slice-aggregate-find-scaled
     find-scaled-requires
-    same-length
-    same-length-2
-    same-length-3
-    same-length-4
+    -- lengths stay
+    (λ c. search needs) (λ c. search needs) (λ c. search needs) (λ c. search needs)
     returns)

@@ -27,23 +27,11 @@ Fit c =
 fit : (c : tie.After-parts-of) → Fit c
 fit c = replying.parts-fit _ _ _ _ _ _ _ _ _ _ (c .parts-of .result) (c .parts-of .ensures)
 
-wanted-requires : tie.Need-wanted-requires
-wanted-requires c κs = search needs
-
-larger-requires : tie.Need-larger-requires
-larger-requires c κs = search needs
-
 slice-aggregate-beam-search : tie.Need-slice-aggregate-beam-search
 slice-aggregate-beam-search c = sym (length-take-le _ _ (fit (c .before .before .before) .vectors-end))
 
 mul-beam-search : tie.Need-mul-beam-search
 mul-beam-search c = omega (arith, fit (c .before .before .before) .rows-small)
-
-sub-beam-search : tie.Need-sub-beam-search
-sub-beam-search c = search needs
-
-part-beam-search-start : tie.Need-part-beam-search-start
-part-beam-search-start c = search needs
 
 part-beam-search-end : tie.Need-part-beam-search-end
 part-beam-search-end c = fit (c .before .before .before) .rows-end
@@ -51,20 +39,11 @@ part-beam-search-end c = fit (c .before .before .before) .rows-end
 mul-beam-search-2 : tie.Need-mul-beam-search-2
 mul-beam-search-2 c = omega (arith, fit (c .before .before .before .before) .bridges-small)
 
-sub-beam-search-2 : tie.Need-sub-beam-search-2
-sub-beam-search-2 c = search needs
-
-part-beam-search-start-2 : tie.Need-part-beam-search-start-2
-part-beam-search-start-2 c = search needs
-
 part-beam-search-end-2 : tie.Need-part-beam-search-end-2
 part-beam-search-end-2 c = fit (c .before .before .before .before) .bridges-end
 
 array-borrow-prefix-nodes : tie.Need-array-borrow-prefix-nodes
 array-borrow-prefix-nodes c = let s = c .before .before .before .before .before .before .before .before .before .before .before .before .before in omega (arith, c .before .before .before .before .wanted .ensures, replying.few _ _ _ (s .args .k) (s .args .ef) _ _ _ _ (s .pre))
-
-slice-relend-prefix-beam-search : tie.Need-slice-relend-prefix-beam-search
-slice-relend-prefix-beam-search c = search needs
 
 slice-aggregate-beam-search-2 : tie.Need-slice-aggregate-beam-search-2
 slice-aggregate-beam-search-2 c =
@@ -76,16 +55,10 @@ slice-aggregate-beam-search-3 c =
     let s = c .before .before .before .before .before .before .before .before .before .before .before .before .before .before .before in
     sym (length-take-le _ _ (omega (arith, c .before .before .before .before .before .before .wanted .ensures, s .pre .distances-room)))
 
-beam-search-requires : tie.Need-beam-search-requires
-beam-search-requires c κs = search needs
-
 slice-aggregate-put-docs : tie.Need-slice-aggregate-put-docs
 slice-aggregate-put-docs c =
     let beam = c .before .before .before .before .before .before .before .before .beam-search in
     sym (length-front zeroes (beam .last .1 .1 .1 .1 .1 .1 .1 .0) (c .before .before .before .before .before .before .before .before .before .before .before .before .before .before .before .before .before .wanted .result) (beam .kept .1 .1 .1 .1 .1 .1 .1 .0) ∙ length-replicate {A = ℕ} 1024 0)
-
-cast-put-docs : tie.Need-cast-put-docs
-cast-put-docs c = search needs
 
 put-docs-requires : tie.Need-put-docs-requires
 put-docs-requires c κs =
@@ -102,18 +75,6 @@ put-docs-requires c κs =
     zeroes (beam .last .1 .1 .1 .1 .1 .1 .1 .0) (omega (arith, replying.few _ _ _ (s .args .k) (s .args .ef) _ _ _ _ (s .pre), length-replicate {A = ℕ} 1024 0)) (beam .last .1 .1 .1 .1 .1 .1 .1 .1 .0) (beam .result) (beam .ensures) in
     (omega (arith, stands), omega (arith, fits))
 
-same-length : tie.Need-same-length
-same-length c = search needs
-
-same-length-2 : tie.Need-same-length-2
-same-length-2 c = search needs
-
-same-length-3 : tie.Need-same-length-3
-same-length-3 c = search needs
-
-same-length-4 : tie.Need-same-length-4
-same-length-4 c = search needs
-
 returns : tie.Need-returns
 returns c =
     let s = c .before .before .before .before .before .before .before .before .before .before .before .before .before .before .before .before .before .before .before .before .before .before .before .before .before .before .before .before .before .before .before in
@@ -129,27 +90,28 @@ find-scaled-spec =
     tie.close
     (tie.spec
     parts-of-requires
-    wanted-requires
-    larger-requires
+    -- wanted, larger
+    (λ c κs. search needs) (λ c κs. search needs)
     slice-aggregate-beam-search
     mul-beam-search
-    sub-beam-search
-    part-beam-search-start
+    -- beam_search, part-beam-search-start
+    (λ c. search needs) (λ c. search needs)
     part-beam-search-end
     mul-beam-search-2
-    sub-beam-search-2
-    part-beam-search-start-2
+    -- beam_search, part-beam-search-start
+    (λ c. search needs) (λ c. search needs)
     part-beam-search-end-2
     array-borrow-prefix-nodes
     slice-aggregate-beam-search-2
-    slice-relend-prefix-beam-search
+    -- slice-relend-prefix-beam-search
+    (λ c. search needs)
     slice-aggregate-beam-search-3
-    beam-search-requires
+    -- beam_search
+    (λ c κs. search needs)
     slice-aggregate-put-docs
-    cast-put-docs
+    -- put_docs
+    (λ c. search needs)
     put-docs-requires
-    same-length
-    same-length-2
-    same-length-3
-    same-length-4
+    -- lengths stay
+    (λ c. search needs) (λ c. search needs) (λ c. search needs) (λ c. search needs)
     returns)

@@ -31,27 +31,6 @@ abbrev μ-loop : tie.MeasureT-loop
 loop-holds : tie.Need-loop-holds Inv-loop μ-loop
 loop-holds c = (omega arith, refl, refl)
 
-mul-t7 : tie.Need-mul-t8 Inv-loop μ-loop
-mul-t7 c = search needs
-
-slice-read-t9 : tie.Need-shared-slice-read-t10 Inv-loop μ-loop
-slice-read-t9 c = search needs
-
-doc-of-requires : tie.Need-doc-of-requires Inv-loop μ-loop
-doc-of-requires c κs = search needs
-
-mul-docs : tie.Need-mul-docs Inv-loop μ-loop
-mul-docs c = search needs
-
-slice-write-docs : tie.Need-slice-write-docs Inv-loop μ-loop
-slice-write-docs c = search needs
-
-add-i : tie.Need-add-i Inv-loop μ-loop
-add-i c = search needs
-
-loop-less : tie.Need-loop-less Inv-loop μ-loop
-loop-less c = search needs
-
 loop-again : tie.Need-loop-again Inv-loop μ-loop
 loop-again c =
     let l = c .before .before .before .loop in
@@ -63,9 +42,6 @@ loop-again c =
           ∙ ap (λ (w : List ℕ). set w (l .i) (g (getD (a .nodes .now) (l .i) 0))) (l .inv .2)
           ∙ one-more g (a .nodes .now) (a .docs .now) (l .i) (omega arith) (omega arith),
     )
-
-same-length : tie.Need-same-length Inv-loop μ-loop
-same-length c = search needs
 
 returns : tie.Need-returns Inv-loop μ-loop
 returns c =
@@ -81,13 +57,9 @@ put-docs-spec =
     Inv-loop
     μ-loop
     loop-holds
-    mul-t7
-    slice-read-t9
-    doc-of-requires
-    mul-docs
-    slice-write-docs
-    add-i
-    loop-less
+    -- doc_of, docs, i, the loop measure
+    (λ c. search needs) (λ c. search needs) (λ c κs. search needs) (λ c. search needs) (λ c. search needs) (λ c. search needs) (λ c. search needs)
     loop-again
-    same-length
+    -- lengths stay
+    (λ c. search needs)
     returns)

@@ -8,15 +8,6 @@ use borrow.Author.Needs.{needs}
 use Rattle.search.proofs.scale_into.Statement.{statement}
 use Rattle.search.proofs.scale_into.Tie as tie
 
-copy-floats-requires : tie.Need-copy-floats-requires
-copy-floats-requires c κs = search needs
-
-normalize-requires : tie.Need-normalize-requires
-normalize-requires c κs = search needs
-
-same-length : tie.Need-same-length
-same-length c = search needs
-
 returns : tie.Need-returns
 returns c =
     let a = c .before .before .before .before .before .before .before .before .before .before .args in
@@ -24,4 +15,7 @@ returns c =
     c .before .before .normalize .ensures ∙ ap (scaledOf binary32) (copy .ensures ∙ copied-whole (a .out .now) (a .query .now) (omega arith))
 
 pub scale-into-spec : {M : Type 1} → statement M
-scale-into-spec = tie.close (tie.spec copy-floats-requires normalize-requires same-length returns)
+scale-into-spec = tie.close (tie.spec
+    -- copy_floats, normalize, lengths stay
+    (λ c κs. search needs) (λ c κs. search needs) (λ c. search needs)
+    returns)

@@ -60,28 +60,16 @@ passed-4 c =
 rooms : (docs : List ℕ) (n : ℕ) (k k′ : ℕ) (b : Bool) → k ≡ k′ → (ltb (length docs) k || ltb n k) ≡ b → (ltb (length docs) k′ || ltb n k′) ≡ b
 rooms docs n k k′ b e h = ap (λ (m : ℕ). ltb (length docs) m || ltb n m) (sym e) ∙ h
 
-opening-refusal-requires : tie.Need-opening-refusal-requires
-opening-refusal-requires c κs = search needs
-
 returns : tie.Need-returns
 unfolding searchChecks
 returns c =
     c .before .opening-refusal .ensures
     ∙ sym (then-first (First (c .before .before .before .before .before .before .before)) (Own (c .before .before .before .before .before .before .before)) (λ e. c .if1 .taken (c .before .opening-refusal .ensures ∙ e)))
 
-word-at-requires : tie.Need-word-at-requires
-word-at-requires c κs = search needs
-
 returns-2 : tie.Need-returns-2
 unfolding ownSearchChecks
 returns-2 c =
     turned-at 0 (Own (c .before .before .before .before .before .before .before .before .before)) tt (ap not (ne-eqb _ _ (λ e. c .if2 .taken (c .before .word-at .ensures ∙ e)))) ∙ own (c .before .before)
-
-word-at-requires-2 : tie.Need-word-at-requires-2
-word-at-requires-2 c κs = search needs
-
-cast-if3 : tie.Need-cast-if3
-cast-if3 c = search needs
 
 returns-3 : tie.Need-returns-3
 unfolding ownSearchChecks
@@ -89,9 +77,6 @@ returns-3 c =
     turned-at 1 (Own (c .before .before .before .before .before .before .before .before .before .before .before)) (passed-1 (c .before .before))
     (ap not (ne-eqb _ _ (λ e. c .if3 .taken (e ∙ sym (c .before .word-at2 .ensures)))))
     ∙ own (c .before .before .before .before)
-
-all-finite-requires : tie.Need-all-finite-requires
-all-finite-requires c κs = search needs
 
 returns-4 : tie.Need-returns-4
 unfolding ownSearchChecks
@@ -103,9 +88,6 @@ returns-4 c =
 returns-5 : tie.Need-returns-5
 unfolding ownSearchChecks
 returns-5 c = turned-at 3 (Own (c .before .before .before .before .before .before .before .before .before .before .before .before .before .before)) (passed-3 (c .before)) (c .if5 .taken) ∙ own (c .before .before .before .before .before .before .before)
-
-wanted-requires : tie.Need-wanted-requires
-wanted-requires c κs = search needs
 
 returns-6 : tie.Need-returns-6
 unfolding ownSearchChecks
@@ -126,16 +108,20 @@ pub search-refusal-spec : {M : Type 1} → statement M
 search-refusal-spec =
     tie.close
     (tie.spec
-    opening-refusal-requires
+    -- opening_refusal
+    (λ c κs. search needs)
     returns
-    word-at-requires
+    -- word_at
+    (λ c κs. search needs)
     returns-2
-    word-at-requires-2
-    cast-if3
+    -- word_at, if3
+    (λ c κs. search needs) (λ c. search needs)
     returns-3
-    all-finite-requires
+    -- all_finite
+    (λ c κs. search needs)
     returns-4
     returns-5
-    wanted-requires
+    -- wanted
+    (λ c κs. search needs)
     returns-6
     returns-7)

@@ -11,12 +11,6 @@ use borrow.Author.Needs.{needs}
 use Rattle.simd.proofs.dot.Statement.{statement}
 use Rattle.simd.proofs.dot.Tie as tie
 
-dot-within-requires : tie.Need-dot-within-requires
-dot-within-requires c κs = search needs
-
-returns : tie.Need-returns
-returns c = search needs
-
 slice-aggregate-dot-within : tie.Need-slice-aggregate-dot-within
 slice-aggregate-dot-within c =
     let x = c .before .before .before .before .args in
@@ -37,8 +31,8 @@ pub dot-spec : {M : Type 1} → statement M
 dot-spec =
     tie.close
     (tie.spec
-    dot-within-requires
-    returns
+    -- dot_within, the return
+    (λ c κs. search needs) (λ c. search needs)
     slice-aggregate-dot-within
     dot-within-requires-2
     returns-2)

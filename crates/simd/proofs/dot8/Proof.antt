@@ -10,33 +10,6 @@ dot8-within-requires c κs =
     let long = eight-true _ _ _ _ _ _ _ _ (c .if1 .taken) in
     (leb-true _ _ (long .0), leb-true _ _ (long .1), leb-true _ _ (long .2), leb-true _ _ (long .3), leb-true _ _ (long .4), leb-true _ _ (long .5), leb-true _ _ (long .6), leb-true _ _ (long .7))
 
-returns : tie.Need-returns
-returns c = search needs
-
-dot-requires : tie.Need-dot-requires
-dot-requires c κs = search needs
-
-dot-requires-2 : tie.Need-dot-requires-2
-dot-requires-2 c κs = search needs
-
-dot-requires-3 : tie.Need-dot-requires-3
-dot-requires-3 c κs = search needs
-
-dot-requires-4 : tie.Need-dot-requires-4
-dot-requires-4 c κs = search needs
-
-dot-requires-5 : tie.Need-dot-requires-5
-dot-requires-5 c κs = search needs
-
-dot-requires-6 : tie.Need-dot-requires-6
-dot-requires-6 c κs = search needs
-
-dot-requires-7 : tie.Need-dot-requires-7
-dot-requires-7 c κs = search needs
-
-dot-requires-8 : tie.Need-dot-requires-8
-dot-requires-8 c κs = search needs
-
 returns-2 : tie.Need-returns-2
 returns-2 c =
     λ i. record {
@@ -55,13 +28,7 @@ dot8-spec =
     tie.close
     (tie.spec
     dot8-within-requires
-    returns
-    dot-requires
-    dot-requires-2
-    dot-requires-3
-    dot-requires-4
-    dot-requires-5
-    dot-requires-6
-    dot-requires-7
-    dot-requires-8
+    -- the return, dot
+    (λ c. search needs) (λ c κs. search needs) (λ c κs. search needs) (λ c κs. search needs) (λ c κs. search needs) (λ c κs. search needs)
+    (λ c κs. search needs) (λ c κs. search needs) (λ c κs. search needs)
     returns-2)

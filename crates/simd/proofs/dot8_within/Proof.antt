@@ -27,45 +27,6 @@ loop-holds c =
     let x = c .before .before .before .before .before .before .before .before .before .args in
     (omega arith, left-start (x .q .now) (x .a .now), left-start (x .q .now) (x .b .now), left-start (x .q .now) (x .c .now), left-start (x .q .now) (x .d .now), left-start (x .q .now) (x .e .now), left-start (x .q .now) (x .f .now), left-start (x .q .now) (x .g .now), left-start (x .q .now) (x .h .now))
 
-sub-loop : tie.Need-sub-loop Inv-loop μ-loop
-sub-loop c = search needs
-
-add-next : tie.Need-add-next Inv-loop μ-loop
-add-next c = search needs
-
-mul-x : tie.Need-mul-x Inv-loop μ-loop
-mul-x c = search needs
-
-shared-slice-read-x : tie.Need-shared-slice-read-x Inv-loop μ-loop
-shared-slice-read-x c = search needs
-
-add-y : tie.Need-add-y Inv-loop μ-loop
-add-y c = search needs
-
-mul-y : tie.Need-mul-y Inv-loop μ-loop
-mul-y c = search needs
-
-shared-slice-read-y : tie.Need-shared-slice-read-y Inv-loop μ-loop
-shared-slice-read-y c = search needs
-
-add-z : tie.Need-add-z Inv-loop μ-loop
-add-z c = search needs
-
-mul-z : tie.Need-mul-z Inv-loop μ-loop
-mul-z c = search needs
-
-shared-slice-read-z : tie.Need-shared-slice-read-z Inv-loop μ-loop
-shared-slice-read-z c = search needs
-
-add-w : tie.Need-add-w Inv-loop μ-loop
-add-w c = search needs
-
-mul-w : tie.Need-mul-w Inv-loop μ-loop
-mul-w c = search needs
-
-shared-slice-read-w : tie.Need-shared-slice-read-w Inv-loop μ-loop
-shared-slice-read-w c = search needs
-
 add-four-requires : tie.Need-add-four-requires Inv-loop μ-loop
 add-four-requires c κs = omega (arith, more (c .before .before .before .before), c .before .before .before .before .before .before .before .before .before .before .before .before .before .before .before .pre .0)
 
@@ -111,9 +72,6 @@ loop-again c =
       subst (λ (s : Float). Left (x .q .now) (x .h .now) s (l .i + 4)) (sym (c .add-four8 .ensures)) (left-four (x .q .now) (x .h .now) (l .sum-h) (l .i) h (start .pre .7) (l .inv .8)),
     )
 
-dot8-rest-requires : tie.Need-dot8-rest-requires Inv-loop μ-loop
-dot8-rest-requires c κs = search needs
-
 returns : tie.Need-returns Inv-loop μ-loop
 returns c =
     let l = c .before .before .loop in
@@ -135,19 +93,11 @@ dot8-within-spec =
     Inv-loop
     μ-loop
     loop-holds
-    sub-loop
-    add-next
-    mul-x
-    shared-slice-read-x
-    add-y
-    mul-y
-    shared-slice-read-y
-    add-z
-    mul-z
-    shared-slice-read-z
-    add-w
-    mul-w
-    shared-slice-read-w
+    -- loop, next, x, y, z, w
+    (λ c. search needs) (λ c. search needs) (λ c. search needs) (λ c. search needs) (λ c. search needs) (λ c. search needs) (λ c. search needs)
+    (λ c. search needs) (λ c. search needs) (λ c. search needs) (λ c. search needs) (λ c. search needs)
+    -- w
+    (λ c. search needs)
     add-four-requires
     add-four-requires-2
     add-four-requires-3
@@ -158,5 +108,6 @@ dot8-within-spec =
     add-four-requires-8
     loop-less
     loop-again
-    dot8-rest-requires
+    -- dot8_rest
+    (λ c κs. search needs)
     returns)

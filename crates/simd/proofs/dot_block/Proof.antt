@@ -15,12 +15,6 @@ use borrow.Author.Needs.{needs}
 use Rattle.simd.proofs.dot_block.Statement.{statement}
 use Rattle.simd.proofs.dot_block.Tie as tie
 
-dot-block-within-requires : tie.Need-dot-block-within-requires
-dot-block-within-requires c κs = search needs
-
-returns : tie.Need-returns
-returns c = search needs
-
 slice-aggregate-dot-block-within : tie.Need-slice-aggregate-dot-block-within
 slice-aggregate-dot-block-within c = sym (length-take-le _ _ (omega arith))
 
@@ -52,8 +46,8 @@ pub dot-block-spec : {M : Type 1} → statement M
 dot-block-spec =
     tie.close
     (tie.spec
-    dot-block-within-requires
-    returns
+    -- dot_block_within, the return
+    (λ c κs. search needs) (λ c. search needs)
     slice-aggregate-dot-block-within
     dot-block-within-requires-2
     returns-2)

@@ -22,9 +22,6 @@ returns : tie.Need-returns
 unfolding ofBits
 returns c = let a = c .before .args in sym (no-dimension (a .planes .now) (a .dimension) (a .bits) (a .k) (c .if1 .taken))
 
-div-plane : tie.Need-div-plane
-div-plane c = search needs
-
 mul-plane : tie.Need-mul-plane
 mul-plane c = let a = c .before .args in omega (arith, div-le-self (a .k / 8) (a .dimension))
 
@@ -41,9 +38,6 @@ mul-at c =
     let a = s .args in
     omega (arith, place (planeAt (a .dimension) (a .k)) (a .dimension) (a .bits) (c .if2 .left) (omega arith) (omega arith))
 
-rem-at : tie.Need-rem-at
-rem-at c = search needs
-
 add-at : tie.Need-add-at
 add-at c =
     let a = c .before .before .args in
@@ -55,12 +49,6 @@ unfolding ofBits
 returns-3 c =
     let a = c .before .before .before .args in
     sym (past-numbers (a .planes .now) (a .dimension) (a .bits) (a .k) (c .if3 .taken))
-
-mul-result : tie.Need-mul-result
-mul-result c = search needs
-
-shared-slice-read-result : tie.Need-shared-slice-read-result
-shared-slice-read-result c = search needs
 
 returns-4 : tie.Need-returns-4
 returns-4 c =
@@ -74,14 +62,16 @@ block-number-spec =
     tie.close
     (tie.spec
     returns
-    div-plane
+    -- plane
+    (λ c. search needs)
     mul-plane
     add-plane
     returns-2
     mul-at
-    rem-at
+    -- at
+    (λ c. search needs)
     add-at
     returns-3
-    mul-result
-    shared-slice-read-result
+    -- result
+    (λ c. search needs) (λ c. search needs)
     returns-4)

@@ -12,12 +12,6 @@ use borrow.Author.Needs.{needs}
 use Rattle.simhash.proofs.hash_block.Statement.{statement}
 use Rattle.simhash.proofs.hash_block.Tie as tie
 
-hash-block-within-requires : tie.Need-hash-block-within-requires
-hash-block-within-requires c κs = search needs
-
-returns : tie.Need-returns
-returns c = search needs
-
 slice-aggregate-hash-block-within : tie.Need-slice-aggregate-hash-block-within
 slice-aggregate-hash-block-within c = sym (length-take-le _ _ (omega arith))
 
@@ -35,8 +29,8 @@ pub hash-block-spec : {M : Type 1} → statement M
 hash-block-spec =
     tie.close
     (tie.spec
-    hash-block-within-requires
-    returns
+    -- hash_block_within, the return
+    (λ c κs. search needs) (λ c. search needs)
     slice-aggregate-hash-block-within
     hash-block-within-requires-2
     returns-2)

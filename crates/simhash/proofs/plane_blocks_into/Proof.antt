@@ -21,21 +21,6 @@ loop-holds : tie.Need-loop-holds Inv-loop μ-loop
 unfolding planeBlocks
 loop-holds c = (omega arith, refl, refl)
 
-block-number-requires : tie.Need-block-number-requires Inv-loop μ-loop
-block-number-requires c κs = search needs
-
-mul-out : tie.Need-mul-out Inv-loop μ-loop
-mul-out c = search needs
-
-slice-write-out : tie.Need-slice-write-out Inv-loop μ-loop
-slice-write-out c = search needs
-
-add-k : tie.Need-add-k Inv-loop μ-loop
-add-k c = search needs
-
-loop-less : tie.Need-loop-less Inv-loop μ-loop
-loop-less c = search needs
-
 loop-again : tie.Need-loop-again Inv-loop μ-loop
 loop-again c =
     let l = c .before .before .loop in
@@ -63,11 +48,8 @@ plane-blocks-into-spec =
     Inv-loop
     μ-loop
     loop-holds
-    block-number-requires
-    mul-out
-    slice-write-out
-    add-k
-    loop-less
+    -- block_number, out, k, the loop measure
+    (λ c κs. search needs) (λ c. search needs) (λ c. search needs) (λ c. search needs) (λ c. search needs)
     loop-again
     same-length
     returns)

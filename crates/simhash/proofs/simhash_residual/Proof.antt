@@ -9,12 +9,6 @@ use Rattle.simhash.proofs.Bytes.{one-byte, low-byte, two-bytes}
 use Rattle.simhash.proofs.simhash_residual.Statement.{statement}
 use Rattle.simhash.proofs.simhash_residual.Tie as tie
 
-hash-block-requires : tie.Need-hash-block-requires
-hash-block-requires c κs = search needs
-
-low-bits-requires : tie.Need-low-bits-requires
-low-bits-requires c κs = search needs
-
 returns : tie.Need-returns
 returns c =
     let a = c .before .before .before .before .before .args in
@@ -24,24 +18,6 @@ returns c =
     ∙ ap (λ (h : ℕ). h % 2 ^ min (a .bits) 16) (c .before .before .hash-block .ensures ∙ low-byte r l)
     ∙ bits-cut (bitIn r l) (min (a .bits) 16) 8 (omega arith)
 
-second-block-requires : tie.Need-second-block-requires
-second-block-requires c κs = search needs
-
-mul-hash-block : tie.Need-mul-hash-block
-mul-hash-block c = search needs
-
-sub-hash-block : tie.Need-sub-hash-block
-sub-hash-block c = search needs
-
-part-hash-block-start : tie.Need-part-hash-block-start
-part-hash-block-start c = search needs
-
-part-hash-block-end : tie.Need-part-hash-block-end
-part-hash-block-end c = search needs
-
-hash-block-requires-2 : tie.Need-hash-block-requires-2
-hash-block-requires-2 c κs = search needs
-
 mul-low-bits : tie.Need-mul-low-bits
 mul-low-bits c = let h = one-byte _ _ (c .hash-block2 .ensures) in omega arith
 
@@ -50,9 +26,6 @@ add-low-bits c =
     let h = one-byte _ _ (c .hash-block2 .ensures) in
     let l = one-byte _ _ (c .before .before .before .before .hash-block .ensures) in
     omega arith
-
-low-bits-requires-2 : tie.Need-low-bits-requires-2
-low-bits-requires-2 c κs = search needs
 
 returns-2 : tie.Need-returns-2
 returns-2 c =
@@ -69,16 +42,13 @@ pub simhash-residual-spec : {M : Type 1} → statement M
 simhash-residual-spec =
     tie.close
     (tie.spec
-    hash-block-requires
-    low-bits-requires
+    -- hash_block, low_bits
+    (λ c κs. search needs) (λ c κs. search needs)
     returns
-    second-block-requires
-    mul-hash-block
-    sub-hash-block
-    part-hash-block-start
-    part-hash-block-end
-    hash-block-requires-2
+    -- second_block, hash_block, part-hash-block-start, part-hash-block-end
+    (λ c κs. search needs) (λ c. search needs) (λ c. search needs) (λ c. search needs) (λ c. search needs) (λ c κs. search needs)
     mul-low-bits
     add-low-bits
-    low-bits-requires-2
+    -- low_bits
+    (λ c κs. search needs)
     returns-2)

@@ -17,21 +17,6 @@ Inv-loop entries n ok₀ i₀ ok i = (i ≤ length entries) × ((ok && every (is
 abbrev μ-loop : tie.MeasureT-loop
 μ-loop entries n ok₀ i₀ ok i = length entries - i
 
-loop-holds : tie.Need-loop-holds Inv-loop μ-loop
-loop-holds c = search needs
-
-mul-ok : tie.Need-mul-ok Inv-loop μ-loop
-mul-ok c = search needs
-
-shared-slice-read-ok : tie.Need-shared-slice-read-ok Inv-loop μ-loop
-shared-slice-read-ok c = search needs
-
-add-i : tie.Need-add-i Inv-loop μ-loop
-add-i c = search needs
-
-loop-less : tie.Need-loop-less Inv-loop μ-loop
-loop-less c = search needs
-
 loop-again : tie.Need-loop-again Inv-loop μ-loop
 loop-again c =
     let entries = c .before .before .before .args .entries .now in
@@ -51,10 +36,7 @@ all-nodes-spec =
     (tie.spec
     Inv-loop
     μ-loop
-    loop-holds
-    mul-ok
-    shared-slice-read-ok
-    add-i
-    loop-less
+    -- the loop begins, ok, i, the loop measure
+    (λ c. search needs) (λ c. search needs) (λ c. search needs) (λ c. search needs) (λ c. search needs)
     loop-again
     returns)

@@ -6,17 +6,13 @@ use Rattle.store.proofs.Sizes.{product-le}
 use Rattle.store.proofs.bridge_at.Statement.{statement}
 use Rattle.store.proofs.bridge_at.Tie as tie
 
-bridges-at-requires : tie.Need-bridges-at-requires
-bridges-at-requires c κs = search needs
-
-mul-result : tie.Need-mul-result
-mul-result c = search needs
-
 add-result : tie.Need-add-result
 add-result c = omega (arith, product-le (c .before .args .capacity) (rowSize (c .before .args .degree)) 4294967295 65536 (omega arith) (omega arith))
 
-returns : tie.Need-returns
-returns c = search needs
-
 pub bridge-at-spec : {M : Type 1} → statement M
-bridge-at-spec = tie.close (tie.spec bridges-at-requires mul-result add-result returns)
+bridge-at-spec = tie.close (tie.spec
+    -- bridges_at, result
+    (λ c κs. search needs) (λ c. search needs)
+    add-result
+    -- the return
+    (λ c. search needs))

@@ -5,12 +5,6 @@ use Rattle.store.proofs.Sizes.{product-le}
 use Rattle.store.proofs.bridges_at.Statement.{statement}
 use Rattle.store.proofs.bridges_at.Tie as tie
 
-rows-at-requires : tie.Need-rows-at-requires
-rows-at-requires c κs = search needs
-
-row-size-requires : tie.Need-row-size-requires
-row-size-requires c κs = search needs
-
 mul-result : tie.Need-mul-result
 mul-result c = omega (arith, product-le (c .before .before .args .capacity) (c .row-size .result) 4294967295 65536 (omega arith) (omega arith))
 
@@ -22,4 +16,9 @@ returns c = cc
 
 pub bridges-at-spec : {M : Type 1} → statement M
 bridges-at-spec =
-    tie.close (tie.spec rows-at-requires row-size-requires mul-result add-result returns)
+    tie.close (tie.spec
+    -- rows_at, row_size
+    (λ c κs. search needs) (λ c κs. search needs)
+    mul-result
+    add-result
+    returns)

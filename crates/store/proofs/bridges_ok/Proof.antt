@@ -36,30 +36,6 @@ loop-holds : tie.Need-loop-holds Inv-loop μ-loop
 loop-holds c =
     (omega arith, omega arith, gather-first (bridgeOk (c .args .n)) (c .args .words .now) bridgeSize (c .args .count) (c .args .from))
 
-mul-near : tie.Need-mul-near Inv-loop μ-loop
-mul-near c = search needs
-
-shared-slice-read-near : tie.Need-shared-slice-read-near Inv-loop μ-loop
-shared-slice-read-near c = search needs
-
-add-far : tie.Need-add-far Inv-loop μ-loop
-add-far c = search needs
-
-mul-far : tie.Need-mul-far Inv-loop μ-loop
-mul-far c = search needs
-
-shared-slice-read-far : tie.Need-shared-slice-read-far Inv-loop μ-loop
-shared-slice-read-far c = search needs
-
-add-at : tie.Need-add-at Inv-loop μ-loop
-add-at c = search needs
-
-add-i : tie.Need-add-i Inv-loop μ-loop
-add-i c = search needs
-
-loop-less : tie.Need-loop-less Inv-loop μ-loop
-loop-less c = search needs
-
 loop-again : tie.Need-loop-again Inv-loop μ-loop
 loop-again c =
     let words = c .before .before .before .before .args .words .now in
@@ -84,13 +60,8 @@ bridges-ok-spec =
     Inv-loop
     μ-loop
     loop-holds
-    mul-near
-    shared-slice-read-near
-    add-far
-    mul-far
-    shared-slice-read-far
-    add-at
-    add-i
-    loop-less
+    -- near, far, at, i, the loop measure
+    (λ c. search needs) (λ c. search needs) (λ c. search needs) (λ c. search needs) (λ c. search needs) (λ c. search needs) (λ c. search needs)
+    (λ c. search needs)
     loop-again
     returns)

@@ -38,9 +38,6 @@ fits c =
     let s = c .before .before .before .before in
     omega (arith, product-le (c .before .loop .i + 1) (rowSize (s .args .degree)) (s .args .n) (rowSize (s .args .degree)) (omega arith) (omega arith))
 
-row-size-requires : tie.Need-row-size-requires Inv-loop μ-loop
-row-size-requires c κs = search needs
-
 loop-holds : tie.Need-loop-holds Inv-loop μ-loop
 loop-holds c =
     let s = c .before .before in
@@ -54,12 +51,6 @@ shared-slice-read-ok c = omega (arith, fits (c .before))
 
 add-at : tie.Need-add-at Inv-loop μ-loop
 add-at c = omega (arith, fits (c .before))
-
-add-i : tie.Need-add-i Inv-loop μ-loop
-add-i c = search needs
-
-loop-less : tie.Need-loop-less Inv-loop μ-loop
-loop-less c = search needs
 
 loop-again : tie.Need-loop-again Inv-loop μ-loop
 loop-again c =
@@ -84,12 +75,13 @@ counts-ok-spec =
     (tie.spec
     Inv-loop
     μ-loop
-    row-size-requires
+    -- row_size
+    (λ c κs. search needs)
     loop-holds
     mul-ok
     shared-slice-read-ok
     add-at
-    add-i
-    loop-less
+    -- i, the loop measure
+    (λ c. search needs) (λ c. search needs)
     loop-again
     returns)

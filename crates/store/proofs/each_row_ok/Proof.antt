@@ -27,9 +27,6 @@ fits c =
     let s = c .before .before .before .before in
     omega (arith, product-le (c .before .loop .i + 1) (rowSize (s .args .degree)) (s .args .n) (rowSize (s .args .degree)) (omega arith) (omega arith))
 
-row-size-requires : tie.Need-row-size-requires Inv-loop μ-loop
-row-size-requires c κs = search needs
-
 loop-holds : tie.Need-loop-holds Inv-loop μ-loop
 loop-holds c =
     let s = c .before .before in
@@ -41,23 +38,11 @@ add-end c = omega (arith, fits c)
 mul-row-ok : tie.Need-mul-row-ok Inv-loop μ-loop
 mul-row-ok c = omega (arith, fits c)
 
-sub-row-ok : tie.Need-sub-row-ok Inv-loop μ-loop
-sub-row-ok c = search needs
-
-part-row-ok-start : tie.Need-part-row-ok-start Inv-loop μ-loop
-part-row-ok-start c = search needs
-
 part-row-ok-end : tie.Need-part-row-ok-end Inv-loop μ-loop
 part-row-ok-end c = fits c
 
 row-ok-requires : tie.Need-row-ok-requires Inv-loop μ-loop
 row-ok-requires c κs = simp (length-take, length-drop) (omega (arith, fits (c .before)))
-
-add-i : tie.Need-add-i Inv-loop μ-loop
-add-i c = search needs
-
-loop-less : tie.Need-loop-less Inv-loop μ-loop
-loop-less c = search needs
 
 loop-again : tie.Need-loop-again Inv-loop μ-loop
 loop-again c =
@@ -83,15 +68,16 @@ each-row-ok-spec =
     (tie.spec
     Inv-loop
     μ-loop
-    row-size-requires
+    -- row_size
+    (λ c κs. search needs)
     loop-holds
     add-end
     mul-row-ok
-    sub-row-ok
-    part-row-ok-start
+    -- row_ok, part-row-ok-start
+    (λ c. search needs) (λ c. search needs)
     part-row-ok-end
     row-ok-requires
-    add-i
-    loop-less
+    -- i, the loop measure
+    (λ c. search needs) (λ c. search needs)
     loop-again
     returns)

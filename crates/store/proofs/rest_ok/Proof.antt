@@ -16,29 +16,8 @@ head s = header (s .args .words .now) (s .pre .0)
 within : (s : tie.Start) → Room (s .args .words .now) (s .args .floats .now)
 within s = room (s .args .words .now) (s .args .floats .now) (head s) (s .pre .1 .0) (s .pre .1 .1)
 
-word-at-requires : tie.Need-word-at-requires
-word-at-requires c κs = search needs
-
-word-at-requires-2 : tie.Need-word-at-requires-2
-word-at-requires-2 c κs = search needs
-
-word-at-requires-3 : tie.Need-word-at-requires-3
-word-at-requires-3 c κs = search needs
-
 cast-degree : tie.Need-cast-degree
 cast-degree c = let h = head (c .before .before .before .before .before) in omega arith
-
-word-at-requires-4 : tie.Need-word-at-requires-4
-word-at-requires-4 c κs = search needs
-
-word-at-requires-5 : tie.Need-word-at-requires-5
-word-at-requires-5 c κs = search needs
-
-floats-size-requires : tie.Need-floats-size-requires
-floats-size-requires c κs = search needs
-
-rows-at-requires : tie.Need-rows-at-requires
-rows-at-requires c κs = search needs
 
 rows-ok-requires : tie.Need-rows-ok-requires
 rows-ok-requires c κs =
@@ -47,9 +26,6 @@ rows-ok-requires c κs =
     let capacity = c .before .before .before .before .before .word-at2 in
     let degree = c .before .before .before .before .word-at3 in
     rw (c .rows-at .ensures, degree .ensures, capacity .ensures, n .ensures) (within s .rows)
-
-bridges-at-requires : tie.Need-bridges-at-requires
-bridges-at-requires c κs = search needs
 
 bridges-ok-requires : tie.Need-bridges-ok-requires
 bridges-ok-requires c κs =
@@ -66,9 +42,6 @@ slice-aggregate-all-finite c =
     let dimension = c .before .before .before .before .before .before .word-at5 in
     let end = c .before .before .before .before .before .floats-size in
     sym (length-take-le _ _ (rw (end .ensures, dimension .ensures, n .ensures) (within s .vectors)))
-
-all-finite-requires : tie.Need-all-finite-requires
-all-finite-requires c κs = search needs
 
 returns : tie.Need-returns
 unfolding restOk rowWords bridgeWords
@@ -91,17 +64,16 @@ pub rest-ok-spec : {M : Type 1} → statement M
 rest-ok-spec =
     tie.close
     (tie.spec
-    word-at-requires
-    word-at-requires-2
-    word-at-requires-3
+    -- word_at
+    (λ c κs. search needs) (λ c κs. search needs) (λ c κs. search needs)
     cast-degree
-    word-at-requires-4
-    word-at-requires-5
-    floats-size-requires
-    rows-at-requires
+    -- word_at, floats_size, rows_at
+    (λ c κs. search needs) (λ c κs. search needs) (λ c κs. search needs) (λ c κs. search needs)
     rows-ok-requires
-    bridges-at-requires
+    -- bridges_at
+    (λ c κs. search needs)
     bridges-ok-requires
     slice-aggregate-all-finite
-    all-finite-requires
+    -- all_finite
+    (λ c κs. search needs)
     returns)

@@ -5,15 +5,6 @@ use Rattle.store.proofs.Sizes.{product-le}
 use Rattle.store.proofs.row_at.Statement.{statement}
 use Rattle.store.proofs.row_at.Tie as tie
 
-rows-at-requires : tie.Need-rows-at-requires
-rows-at-requires c κs = search needs
-
-cast-result : tie.Need-cast-result
-cast-result c = search needs
-
-row-size-requires : tie.Need-row-size-requires
-row-size-requires c κs = search needs
-
 mul-result : tie.Need-mul-result
 mul-result c = omega (arith, product-le (c .before .before .before .args .node .0) (c .row-size .result) 4294967295 65536 (omega (arith, c .before .struct-known .given)) (omega arith))
 
@@ -26,4 +17,9 @@ returns c = cc
 pub row-at-spec : {M : Type 1} → statement M
 row-at-spec =
     tie.close
-    (tie.spec rows-at-requires cast-result row-size-requires mul-result add-result returns)
+    (tie.spec
+    -- rows_at, result, row_size
+    (λ c κs. search needs) (λ c. search needs) (λ c κs. search needs)
+    mul-result
+    add-result
+    returns)

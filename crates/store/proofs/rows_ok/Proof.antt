@@ -17,32 +17,14 @@ use Rattle.store.proofs.rows_ok.Tie as tie
 fits : (c : tie.After-row-size) → c .before .before .args .from + c .before .before .args .n * c .row-size .result ≤ length (c .before .before .args .words .now)
 fits c = let s = c .before .before in omega (arith, s .pre, ap (λ (k : ℕ). s .args .n * k) (c .row-size .ensures))
 
-row-size-requires : tie.Need-row-size-requires
-row-size-requires c κs = search needs
-
 mul-end : tie.Need-mul-end
 mul-end c = omega (arith, fits c)
 
 add-end : tie.Need-add-end
 add-end c = omega (arith, fits c)
 
-counts-ok-requires : tie.Need-counts-ok-requires
-counts-ok-requires c κs = search needs
-
-mul-nodes-by-fours : tie.Need-mul-nodes-by-fours
-mul-nodes-by-fours c = search needs
-
-sub-nodes-by-fours : tie.Need-sub-nodes-by-fours
-sub-nodes-by-fours c = search needs
-
-part-nodes-by-fours-start : tie.Need-part-nodes-by-fours-start
-part-nodes-by-fours-start c = search needs
-
 part-nodes-by-fours-end : tie.Need-part-nodes-by-fours-end
 part-nodes-by-fours-end c = fits (c .before)
-
-nodes-by-fours-requires : tie.Need-nodes-by-fours-requires
-nodes-by-fours-requires c κs = search needs
 
 returns : tie.Need-returns
 returns c =
@@ -53,9 +35,6 @@ returns c =
     sym (rows-flat (a .degree) (a .n) (rowSize (a .degree)) (a .n) (drop (a .from) (a .words .now)) (sym (c .before .before .before .counts-ok .ensures) ∙ t .0)
     (ap (λ (k : ℕ). every (isNode (a .n)) (take k (drop (a .from) (a .words .now)))) (sym many) ∙ c .before .nodes-by-fours .ensures (t .1)))
 
-each-row-ok-requires : tie.Need-each-row-ok-requires
-each-row-ok-requires c κs = search needs
-
 returns-2 : tie.Need-returns-2
 returns-2 c = c .each-row-ok .ensures
 
@@ -63,15 +42,16 @@ pub rows-ok-spec : {M : Type 1} → statement M
 rows-ok-spec =
     tie.close
     (tie.spec
-    row-size-requires
+    -- row_size
+    (λ c κs. search needs)
     mul-end
     add-end
-    counts-ok-requires
-    mul-nodes-by-fours
-    sub-nodes-by-fours
-    part-nodes-by-fours-start
+    -- counts_ok, nodes_by_fours, part-nodes-by-fours-start
+    (λ c κs. search needs) (λ c. search needs) (λ c. search needs) (λ c. search needs)
     part-nodes-by-fours-end
-    nodes-by-fours-requires
+    -- nodes_by_fours
+    (λ c κs. search needs)
     returns
-    each-row-ok-requires
+    -- each_row_ok
+    (λ c κs. search needs)
     returns-2)

@@ -6,17 +6,17 @@ use Rattle.store.proofs.Sizes.{product-le}
 use Rattle.store.proofs.words_size.Statement.{statement}
 use Rattle.store.proofs.words_size.Tie as tie
 
-add-result : tie.Need-add-result
-add-result c = search needs
-
 mul-result : tie.Need-mul-result
 mul-result c = omega (arith, product-le (c .args .capacity) (4 + c .args .degree) 4294967295 65539 (omega arith) (omega arith))
 
 add-result-2 : tie.Need-add-result-2
 add-result-2 c = omega (arith, product-le (c .args .capacity) (4 + c .args .degree) 4294967295 65539 (omega arith) (omega arith))
 
-returns : tie.Need-returns
-returns c = search needs
-
 pub words-size-spec : {M : Type 1} → statement M
-words-size-spec = tie.close (tie.spec add-result mul-result add-result-2 returns)
+words-size-spec = tie.close (tie.spec
+    -- result
+    (λ c. search needs)
+    mul-result
+    add-result-2
+    -- the return
+    (λ c. search needs))

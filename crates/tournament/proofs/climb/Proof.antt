@@ -19,23 +19,11 @@ loop-holds c = record { kept = refl; inside = c .before .pre .0; rank-is = c .be
 add-beside : tie.Need-add-beside Inv-loop μ-loop
 add-beside c = let i = c .before .loop .inv .inside in omega arith
 
-mul-beside : tie.Need-mul-beside Inv-loop μ-loop
-mul-beside c = search needs
-
-sub-beside : tie.Need-sub-beside Inv-loop μ-loop
-sub-beside c = search needs
-
 rank-at-requires : tie.Need-rank-at-requires Inv-loop μ-loop
 rank-at-requires c κs = let l = c .before .before .loop .inv in omega (arith, l .inside, l .kept)
 
-lesser-requires : tie.Need-lesser-requires Inv-loop μ-loop
-lesser-requires c κs = search needs
-
 lay-requires : tie.Need-lay-requires Inv-loop μ-loop
 lay-requires c κs = let l = c .before .before .before .before .before .loop .inv in omega (arith, l .inside, l .kept)
-
-loop-less : tie.Need-loop-less Inv-loop μ-loop
-loop-less c = search needs
 
 loop-again : tie.Need-loop-again Inv-loop μ-loop
 loop-again c =
@@ -58,12 +46,14 @@ climb-spec =
     μ-loop
     loop-holds
     add-beside
-    mul-beside
-    sub-beside
+    -- beside
+    (λ c. search needs) (λ c. search needs)
     rank-at-requires
-    lesser-requires
+    -- lesser
+    (λ c κs. search needs)
     lay-requires
-    loop-less
+    -- the loop measure
+    (λ c. search needs)
     loop-again
     same-length
     returns)

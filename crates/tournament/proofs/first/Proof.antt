@@ -11,15 +11,13 @@ returns : tie.Need-returns
 unfolding firstOf
 returns c = sym (pick-true _ _ (lt-ltb _ _ (c .if1 .taken)))
 
-shared-slice-read-t5 : tie.Need-shared-slice-read-t5
-shared-slice-read-t5 c = search needs
-
-shared-slice-read-t7 : tie.Need-shared-slice-read-t7
-shared-slice-read-t7 c = search needs
-
 returns-2 : tie.Need-returns-2
 unfolding firstOf
 returns-2 c = sym (pick-false _ _ (le-ltb _ _ (c .before .before .if1 .left)))
 
 pub first-spec : {M : Type 1} → statement M
-first-spec = tie.close (tie.spec returns shared-slice-read-t5 shared-slice-read-t7 returns-2)
+first-spec = tie.close (tie.spec
+    returns
+    -- indexes
+    (λ c. search needs) (λ c. search needs)
+    returns-2)

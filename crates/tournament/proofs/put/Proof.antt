@@ -10,18 +10,6 @@ use borrow.Author.Needs.{needs}
 use Rattle.tournament.proofs.put.Statement.{statement}
 use Rattle.tournament.proofs.put.Tie as tie
 
-returns : tie.Need-returns
-returns c = search needs
-
-add-p : tie.Need-add-p
-add-p c = search needs
-
-rank-requires : tie.Need-rank-requires
-rank-requires c κs = search needs
-
-lay-requires : tie.Need-lay-requires
-lay-requires c κs = search needs
-
 climb-requires : tie.Need-climb-requires
 climb-requires c κs =
     let t = c .before .before .before .before .before .before .before .before .args .tree .now in
@@ -46,4 +34,9 @@ returns-2 c =
 pub put-spec : {M : Type 1} → statement M
 put-spec =
     tie.close
-    (tie.spec returns add-p rank-requires lay-requires climb-requires same-length returns-2)
+    (tie.spec
+    -- the return, p, rank, lay
+    (λ c. search needs) (λ c. search needs) (λ c κs. search needs) (λ c κs. search needs)
+    climb-requires
+    same-length
+    returns-2)

@@ -14,26 +14,11 @@ use Rattle.vectors.proofs.get_vector.Lts as lts
 small : (a b : ℕ) → a ≤ 4294967295 → b ≤ 4294967295 → a * b ≤ 4294967295 * 4294967295
 small a b h k = mul-le-mul h k
 
-cast-at : tie.Need-cast-at
-cast-at c = search needs
-
 mul-at : tie.Need-mul-at
 mul-at c = omega (arith, small (c .before .args .node .0) (c .before .args .dimension) (omega arith) (omega arith))
 
 add-end : tie.Need-add-end
 add-end c = omega (arith, small (c .before .args .node .0) (c .before .args .dimension) (omega arith) (omega arith))
-
-mul-result : tie.Need-mul-result
-mul-result c = search needs
-
-sub-result : tie.Need-sub-result
-sub-result c = search needs
-
-part-result-start : tie.Need-part-result-start
-part-result-start c = search needs
-
-part-result-end : tie.Need-part-result-end
-part-result-end c = search needs
 
 returns : tie.Need-returns
 returns c =
@@ -43,22 +28,20 @@ returns c =
     let size : at + d - at ≡ d = omega arith in
     ap (λ (k : ℕ). take k (drop at (a .vectors .now))) size ∙ sym (whole-piece d (a .node .0) (a .vectors .now) (c .before .if1 .taken))
 
-mul-result-2 : tie.Need-mul-result-2
-mul-result-2 c = search needs
-
-sub-result-2 : tie.Need-sub-result-2
-sub-result-2 c = search needs
-
-part-result-start-2 : tie.Need-part-result-start-2
-part-result-start-2 c = search needs
-
-part-result-end-2 : tie.Need-part-result-end-2
-part-result-end-2 c = search needs
-
 returns-2 : tie.Need-returns-2
 returns-2 c = let a = c .before .before .before .args in sym (no-piece (a .dimension) (a .node .0) (a .vectors .now) (omega arith))
 
 pub get-vector-spec : {M : Type 1} → statement M
 get-vector-spec =
     tie.close
-    (tie.spec cast-at mul-at add-end mul-result sub-result part-result-start part-result-end returns mul-result-2 sub-result-2 part-result-start-2 part-result-end-2 returns-2)
+    (tie.spec
+    -- at
+    (λ c. search needs)
+    mul-at
+    add-end
+    -- result, part-result-start, part-result-end
+    (λ c. search needs) (λ c. search needs) (λ c. search needs) (λ c. search needs)
+    returns
+    -- result, part-result-start, part-result-end
+    (λ c. search needs) (λ c. search needs) (λ c. search needs) (λ c. search needs)
+    returns-2)
