@@ -29,7 +29,7 @@ use Rattle.queues.specs.Queues.{frontRank}
 use Rattle.queues.proofs.Laws.{empty-queue}
 use Rattle.queues.proofs.Holding.{none-held}
 use Rattle.gathering.specs.Gathering.{GatheringAll}
-use Rattle.beam_state.specs.State.{part, heldEnd, Answer, Standing}
+use Rattle.beam_state.specs.State.{part, heldEnd, AnswerHeld, Standing}
 use Rattle.beam_state.specs.declared.Walk.{Walk}
 use Rattle.beam_state.proofs.Parts.{lay, lay-length, part-here, part-before, take-before}
 use Rattle.beam_search.specs.Search.{within, Searched}
@@ -194,7 +194,7 @@ module _ (far : ℕ → Float) (n b e : ℕ) (list : ℕ → List ℕ) (words : 
   abbrev seen : List ℕ
   seen = walkOn far b list n (e ∷ []) (e ∷ [])
 
-  a : Answer far nodes (part (10 * n) (11 * n) words) nodes′ (r .kept) seen
+  a : AnswerHeld far nodes (part (10 * n) (11 * n) words) nodes′ (r .kept) seen
   a = t .standing .answer
 
   seen-few : length seen ≤ n

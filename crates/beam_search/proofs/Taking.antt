@@ -19,7 +19,7 @@ use Rattle.queues.specs.Queues.{frontRank, Queue, Held, Known}
 use Rattle.scoring.specs.Scoring.{scoredAt}
 use Rattle.scoring.proofs.Laws.{scored-known, scored-keeps}
 use Rattle.gathering.specs.Gathering.{Fresh, visitOne, gatherFresh, FreshIn, GatheringAll}
-use Rattle.beam_state.specs.State.{part, heldEnd, Answer, Standing, PushingAll, pushed}
+use Rattle.beam_state.specs.State.{part, heldEnd, AnswerHeld, Standing, PushingAll, pushed}
 use Rattle.beam_state.specs.declared.Walk.{Walk}
 use Rattle.beam_state.proofs.Parts.{part-behind}
 use Rattle.beam_state.proofs.Pushed.{pushed-append}
@@ -122,7 +122,7 @@ standing-behind {far} {n} {b} {nodes₀} {nodes} {w} {seen} {front} words words�
   held = subst (Held far (min b n) (Rattle.beam.specs.KeepClosest.heldOf far b seen)) (moved (6 * n) (heldEnd n b) (omega arith)) (t .held);
   held-count = t .held-count;
   cutoff-is = t .cutoff-is;
-  answer = subst (λ (k : List ℕ). Answer far nodes₀ k nodes (w .kept) seen) (moved (10 * n) (11 * n) (omega arith)) (t .answer);
+  answer = subst (λ (k : List ℕ). AnswerHeld far nodes₀ k nodes (w .kept) seen) (moved (10 * n) (11 * n) (omega arith)) (t .answer);
   scored-is = t .scored-is;
   once = t .once;
   inside = t .inside;

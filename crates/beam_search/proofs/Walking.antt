@@ -21,7 +21,7 @@ use Rattle.ids.specs.declared.Node.{Node}
 use Rattle.queues.specs.declared.Popped.{Popped}
 use Rattle.queues.specs.declared.Popped.the-variants.{At, Empty}
 use Rattle.gathering.specs.Gathering.{Linked}
-use Rattle.beam_state.specs.State.{part, heldEnd, Answer}
+use Rattle.beam_state.specs.State.{part, heldEnd, AnswerHeld}
 use Rattle.beam_state.specs.declared.Walk.{Walk}
 use Rattle.beam_state.proofs.Parts.{lay, part-here, part-after, take-before}
 use Rattle.beam_search.specs.Steps.{Between, Expanding, walkOn, Stepping, Walking}
@@ -46,7 +46,7 @@ module _ (bridges links : List ℕ) (far : ℕ → Float) (n b : ℕ) (list : �
       held = subst (Held far (min b n) (heldOf far b seen)) (kept (6 * n) (heldEnd n b) (omega arith)) (t .standing .held);
       held-count = t .standing .held-count;
       cutoff-is = t .standing .cutoff-is;
-      answer = subst (λ (k : List ℕ). Answer far nodes₀ k nodes (w .kept) seen) (kept (10 * n) (11 * n) (omega arith)) (t .standing .answer);
+      answer = subst (λ (k : List ℕ). AnswerHeld far nodes₀ k nodes (w .kept) seen) (kept (10 * n) (11 * n) (omega arith)) (t .standing .answer);
       scored-is = t .standing .scored-is;
       once = t .standing .once;
       inside = t .standing .inside;

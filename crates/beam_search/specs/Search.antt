@@ -24,8 +24,8 @@ abbrev pub listInWords : ℕ → ℕ → List ℕ → List ℕ → ℕ → List 
 listInWords n degree rows bridges u = within n (listOf (rowLists degree rows) (bridgeList bridges) u)
 
 -- how many rows stand in some words
-abbrev pub nodesIn : ℕ → List ℕ → ℕ
-nodesIn degree rows = length rows / (1 + degree)
+abbrev pub nodesOfWords : ℕ → List ℕ → ℕ
+nodesOfWords degree rows = length rows / (1 + degree)
 
 -- the sizes fit: bridges between nodes, one for each node at most, and so many words and floats of scratch
 pub record SearchFits (n entry : ℕ) (query : List Float) (bridges nodes : List ℕ) (distances : List Float) (words floats : ℕ) : Type 0 where
@@ -47,9 +47,9 @@ pub record Searched (far : ℕ → Float) (found scored nodes nodes′ : List �
 
 abbrev pub Searching : List Float → List Float → List ℕ → ℕ → List ℕ → ℕ → ℕ → List ℕ → List ℕ → List Float → List Float → ℕ → ℕ → Walked → Type 0
 Searching query vectors rows degree bridges entry b nodes nodes′ distances distances′ words floats r =
-    SearchFits (nodesIn degree rows) entry query bridges nodes distances words floats
+    SearchFits (nodesOfWords degree rows) entry query bridges nodes distances words floats
     → Searched (farFrom query (vectorsIn (length query) vectors))
     (answerOf (farFrom query (vectorsIn (length query) vectors)) (length nodes)
-    (beamSearch (listInWords (nodesIn degree rows) degree rows bridges) (nodesIn degree rows) entry (farFrom query (vectorsIn (length query) vectors)) b))
-    (beamSearch (listInWords (nodesIn degree rows) degree rows bridges) (nodesIn degree rows) entry (farFrom query (vectorsIn (length query) vectors)) b)
+    (beamSearch (listInWords (nodesOfWords degree rows) degree rows bridges) (nodesOfWords degree rows) entry (farFrom query (vectorsIn (length query) vectors)) b))
+    (beamSearch (listInWords (nodesOfWords degree rows) degree rows bridges) (nodesOfWords degree rows) entry (farFrom query (vectorsIn (length query) vectors)) b)
     nodes nodes′ distances distances′ r

@@ -10,7 +10,7 @@ use Rattle.sorting.specs.Sorting.{firstBy, pairs, keyIn, idIn, both, idsOf, kep
 use Rattle.sorting.proofs.Laws.{length-first, first-map}
 use Rattle.sorting.proofs.Pairs.{kept-are, pairs-put}
 use Rattle.beam.specs.KeepClosest.{keyAt}
-use Rattle.beam_state.specs.State.{pairOf, Answer}
+use Rattle.beam_state.specs.State.{pairOf, AnswerHeld}
 
 map-ids : (far : ℕ → Float) (l : List ℕ) → map idIn (map (pairOf far) l) ≡ l
 map-ids far [] = refl
@@ -18,7 +18,7 @@ map-ids far (v ∷ l) = ap (λ (r : List ℕ). v ∷ r) (map-ids far l)
 
 module _ (far : ℕ → Float) (nodes₀ keys nodes : List ℕ) (kept v key r : ℕ) (seen keys′ nodes′ : List ℕ) (same : key ≡ keyAt far v)
     (e : (r ≡ length (keptPairs kept key v keys nodes)) × (keys′ ≡ keptKeys kept key v keys nodes) × (nodes′ ≡ keptIds kept key v keys nodes))
-    (lk : length keys′ ≡ length keys) (ln : length nodes′ ≡ length nodes) (a : Answer far nodes₀ keys nodes kept seen) where
+    (lk : length keys′ ≡ length keys) (ln : length nodes′ ≡ length nodes) (a : AnswerHeld far nodes₀ keys nodes kept seen) where
   abbrev m : ℕ
   m = both keys nodes
 
@@ -72,7 +72,7 @@ module _ (far : ℕ → Float) (nodes₀ keys nodes : List ℕ) (kept v key r : 
       e .2
       ∙ ap₂ (λ (x : List ℕ) (y : List ℕ). x ++ y) (ap (map idIn) kept-best ∙ map-ids far best) (ap (λ (k : ℕ). drop k nodes) (sym (e .0)) ∙ rest)
 
-  pub answer-more : Answer far nodes₀ keys′ nodes′ r (v ∷ seen)
+  pub answer-more : AnswerHeld far nodes₀ keys′ nodes′ r (v ∷ seen)
   answer-more = record {
     pairs-are = read ∙ ap (λ (k : ℕ). firstBy keyIn k offered) (sym same-both);
     nodes-are = ids ∙ ap (λ (k : ℕ). firstBy (keyAt far) k (reverse (v ∷ seen)) ++ drop r nodes₀) (sym same-both);

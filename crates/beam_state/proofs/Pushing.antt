@@ -129,9 +129,9 @@ module _ (n b v : ℕ) (floats : List Float) (walk : Walk) (words nodes : List �
             (subst (Held far (min b n) (keepClosest far b v (heldOf far b seen))) (sym held-is) (kept .stands));
         held-count = kept .count;
         cutoff-is = kept .cutoff;
-        answer = subst (λ (k : List ℕ). Rattle.beam_state.specs.State.Answer far nodes₀ k nodes′ r (v ∷ seen)) (sym keys-is)
+        answer = subst (λ (k : List ℕ). Rattle.beam_state.specs.State.AnswerHeld far nodes₀ k nodes′ r (v ∷ seen)) (sym keys-is)
             (answer-more far nodes₀ (part (10 * n) (11 * n) w₂) nodes (walk .kept) v key r seen z nodes′ (ki ∙ ap (keyOf binary32) (di ∙ known .there v (here refl))) first lz ln
-            (subst (λ (k : List ℕ). Rattle.beam_state.specs.State.Answer far nodes₀ k nodes (walk .kept) seen) (sym keys-was) (s .answer)));
+            (subst (λ (k : List ℕ). Rattle.beam_state.specs.State.AnswerHeld far nodes₀ k nodes (walk .kept) seen) (sym keys-was) (s .answer)));
         scored-is = let few = known .few in let all = at-most n seen (s .once) (s .inside) in omega (arith, sc, s .scored-is);
         once = (out, s .once);
         inside = λ u m. below u (in-cons m);

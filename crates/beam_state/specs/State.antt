@@ -26,7 +26,7 @@ abbrev pub pairOf : (ℕ → Float) → ℕ → ℕ × ℕ
 pairOf far v = (keyAt far v, v)
 
 -- The first few of what is scored stand in two slices, the keys and the nodes, in front of what the nodes' slice had before.
-pub record Answer (far : ℕ → Float) (nodes₀ keys nodes : List ℕ) (kept : ℕ) (seen : List ℕ) : Type 0 where
+pub record AnswerHeld (far : ℕ → Float) (nodes₀ keys nodes : List ℕ) (kept : ℕ) (seen : List ℕ) : Type 0 where
   pub pairs-are : pairs (take kept keys) (take kept nodes) ≡ firstBy keyIn (both keys nodes) (map (pairOf far) (reverse seen))
   pub nodes-are : nodes ≡ firstBy (keyAt far) (both keys nodes) (reverse seen) ++ drop kept nodes₀
   pub kept-is : kept ≡ min (both keys nodes) (length seen)
@@ -38,7 +38,7 @@ pub record Standing (far : ℕ → Float) (n b : ℕ) (nodes₀ words nodes : Li
   pub held : Held far (min b n) (heldOf far b seen) (part (6 * n) (heldEnd n b) words)
   pub held-count : walk .held ≡ length (heldOf far b seen)
   pub cutoff-is : walk .cutoff ≡ cutoffOf far b seen
-  pub answer : Answer far nodes₀ (part (10 * n) (11 * n) words) nodes (walk .kept) seen
+  pub answer : AnswerHeld far nodes₀ (part (10 * n) (11 * n) words) nodes (walk .kept) seen
   pub scored-is : walk .scored ≡ length seen
   pub once : NoDup seen
   pub inside : Below n seen

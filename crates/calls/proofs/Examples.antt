@@ -15,7 +15,7 @@ use Rattle.pipnn.specs.Add.{addSpec}
 use Rattle.calls.specs.Graph.{Graph, settingsOf, graphOf}
 use Rattle.calls.specs.Build.{buildSpec}
 use Rattle.calls.specs.Search.{refused, searchWithEfSpec, searchSpec}
-use Rattle.calls.specs.Example.{minusOne, exampleOpened, added, exampleBuilt, lists, asked, told}
+use Rattle.calls.specs.Example.{minusOne, exampleOpened, added, exampleBuilt, lists, asked, printed}
 use Rattle.calls.proofs.Graph.{listFor}
 
 -- ---- build: entry 1, one bridge, from 1 to 2; its rows and bridge are written, words 0, 9 and 10, and nothing else
@@ -37,15 +37,15 @@ worked-again = refl
 
 -- ---- search
 
-pub worked-find : told (asked 3 3 (+one ∷ +zero ∷ [])) ≡ (0, 3, 3, 10 ∷ 20 ∷ 30 ∷ 7 ∷ [], 0x0000_0000 ∷ 0x3f80_0000 ∷ 0x4000_0000 ∷ 0xbf80_0000 ∷ [])
+pub worked-find : printed (asked 3 3 (+one ∷ +zero ∷ [])) ≡ (0, 3, 3, 10 ∷ 20 ∷ 30 ∷ 7 ∷ [], 0x0000_0000 ∷ 0x3f80_0000 ∷ 0x4000_0000 ∷ 0xbf80_0000 ∷ [])
 unfolding searchWithEfSpec newSpec addSpec buildSpec ofBits toBits add sub mul div lt le eq isNan ofInt toUnsigned round
 worked-find = refl
 
-pub worked-one : told (asked 1 1 (+one ∷ +zero ∷ [])) ≡ (0, 1, 3, 10 ∷ 7 ∷ 7 ∷ 7 ∷ [], 0x0000_0000 ∷ 0xbf80_0000 ∷ 0xbf80_0000 ∷ 0xbf80_0000 ∷ [])
+pub worked-one : printed (asked 1 1 (+one ∷ +zero ∷ [])) ≡ (0, 1, 3, 10 ∷ 7 ∷ 7 ∷ 7 ∷ [], 0x0000_0000 ∷ 0xbf80_0000 ∷ 0xbf80_0000 ∷ 0xbf80_0000 ∷ [])
 unfolding searchWithEfSpec newSpec addSpec buildSpec ofBits toBits add sub mul div lt le eq isNan ofInt toUnsigned round
 worked-one = refl
 
-pub worked-none : told (asked 0 0 (+one ∷ +zero ∷ [])) ≡ (0, 0, 3, replicate 4 7, replicate 4 0xbf80_0000)
+pub worked-none : printed (asked 0 0 (+one ∷ +zero ∷ [])) ≡ (0, 0, 3, replicate 4 7, replicate 4 0xbf80_0000)
 unfolding searchWithEfSpec newSpec addSpec buildSpec ofBits toBits add sub mul div lt le eq isNan ofInt toUnsigned round
 worked-none = refl
 
@@ -59,7 +59,7 @@ unfolding view listOf
 worked-lists = ap (λ (w : List ℕ). map (listIn (view w (exampleBuilt .2))) (0 ∷ 1 ∷ 2 ∷ [])) worked-words
 
 -- a query of twice that length is scaled
-scaled-find : told (asked 3 3 (fin false 1 (pos 1) ∷ +zero ∷ []))
+scaled-find : printed (asked 3 3 (fin false 1 (pos 1) ∷ +zero ∷ []))
     ≡ (0, 3, 3, 10 ∷ 20 ∷ 30 ∷ 7 ∷ [], 0x0000_0000 ∷ 0x3f80_0000 ∷ 0x4000_0000 ∷ 0xbf80_0000 ∷ [])
 unfolding searchWithEfSpec newSpec addSpec buildSpec ofBits toBits add sub mul div lt le eq isNan ofInt toUnsigned round
 scaled-find = refl
@@ -101,7 +101,7 @@ unfolding searchWithEfSpec newSpec addSpec buildSpec ofBits toBits add sub mul d
 no-room = refl
 
 -- room for min(k, n) is enough: k 4 among three nodes
-room-for-all : told (searchWithEfSpec 512 384 (exampleBuilt .1) (exampleBuilt .2) (+one ∷ +zero ∷ []) 4 3 (replicate 3 7) (replicate 3 minusOne))
+room-for-all : printed (searchWithEfSpec 512 384 (exampleBuilt .1) (exampleBuilt .2) (+one ∷ +zero ∷ []) 4 3 (replicate 3 7) (replicate 3 minusOne))
     ≡ (0, 3, 3, 10 ∷ 20 ∷ 30 ∷ [], 0x0000_0000 ∷ 0x3f80_0000 ∷ 0x4000_0000 ∷ [])
 unfolding searchWithEfSpec newSpec addSpec buildSpec ofBits toBits add sub mul div lt le eq isNan ofInt toUnsigned round
 room-for-all = refl

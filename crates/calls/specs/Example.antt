@@ -38,8 +38,8 @@ abbrev pub asked : ℕ → ℕ → List Float → Reply
 asked k ef query = searchWithEfSpec 512 384 (exampleBuilt .1) (exampleBuilt .2) query k ef (replicate 4 7) (replicate 4 minusOne)
 
 -- what it tells: number, count, scored, the doc ids, the distances' bits
-abbrev pub Told : Type 0
-Told = ℕ × ℕ × ℕ × List ℕ × List ℕ
+abbrev pub Printed : Type 0
+Printed = ℕ × ℕ × ℕ × List ℕ × List ℕ
 
-abbrev pub told : Reply → Told
-told r = (r .number, r .count, r .scored, r .docs, map (toBits binary32) (r .distances))
+abbrev pub printed : Reply → Printed
+printed r = (r .number, r .count, r .scored, r .docs, map (toBits binary32) (r .distances))

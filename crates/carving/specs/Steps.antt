@@ -23,7 +23,7 @@ unfolding zeroes
 firstSize marks = 1 + zeroes (drop 1 marks)
 
 -- room for the copy of a segment, for what dealing gathers and for its cards
-pub record Scratch (ids room cards : ℕ) : Type 0 where
+pub record DealingRoom (ids room cards : ℕ) : Type 0 where
   pub ids-size : 2048 ≤ ids
   pub room-size : 2048 ≤ room
   pub cards-size : 2048 ≤ cards
@@ -35,7 +35,7 @@ pub record Segment (maxLeaf level : ℕ) (nodes marks : List ℕ) (ids room card
   pub levels : level ≤ 21
   pub few : length nodes ≤ 2048
   pub marked : length marks ≡ length nodes
-  pub scratch : Scratch ids room cards
+  pub scratch : DealingRoom ids room cards
 
 -- a segment that is dealt over its own place
 pub record Dealing (level : ℕ) (nodes marks : List ℕ) (ids room cards : ℕ) : Type 0 where
@@ -44,7 +44,7 @@ pub record Dealing (level : ℕ) (nodes marks : List ℕ) (ids room cards : ℕ)
   pub two : 2 ≤ length nodes
   pub few : length nodes ≤ 2048
   pub marked : length marks ≡ length nodes
-  pub scratch : Scratch ids room cards
+  pub scratch : DealingRoom ids room cards
 
 module _ (maxLeaf minLeaf : ℕ) (fraction : Float) (vs : List (List Float)) (level : ℕ) where
   -- a segment marked as one is carved
@@ -61,5 +61,5 @@ pub record Carved (maxLeaf minLeaf : ℕ) (fraction : Float) (vs : List (List Fl
   pub leaves : length vs ≡ n → Holding (leavesOf maxLeaf minLeaf fraction vs) (take total nodes) (take total marks)
 
 -- the sizes that marks tell, at the front of a slice
-abbrev pub Sized : (marks sizes′ : List ℕ) (count : ℕ) → Type 0
-Sized marks sizes′ count = (leaves : List (List ℕ)) → marks ≡ marksOf leaves → (count ≡ length (nonEmpty leaves)) × (take (length (nonEmpty leaves)) sizes′ ≡ map length (nonEmpty leaves))
+abbrev pub MarkedSizes : (marks sizes′ : List ℕ) (count : ℕ) → Type 0
+MarkedSizes marks sizes′ count = (leaves : List (List ℕ)) → marks ≡ marksOf leaves → (count ≡ length (nonEmpty leaves)) × (take (length (nonEmpty leaves)) sizes′ ≡ map length (nonEmpty leaves))

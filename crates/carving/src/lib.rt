@@ -15,7 +15,7 @@ ghost use Rattle.vectors.specs.Vectors.{vectorsIn};
 ghost use Rattle.partition.specs.Partition.{bucketsOf};
 ghost use Rattle.dealing.specs.Deal.{Holding};
 ghost use Rattle.carving.specs.Carving.{Partitioned};
-ghost use Rattle.carving.specs.Steps.{firstSize, Segment, Dealing, CarvesSegment, CarvesBuckets, Carved, Sized};
+ghost use Rattle.carving.specs.Steps.{firstSize, Segment, Dealing, CarvesSegment, CarvesBuckets, Carved, MarkedSizes};
 use dealing::DealParams;
 
 // The leaves of an index of n nodes, whose vectors of `dimension` floats stand in `vectors`. Returns how
@@ -224,7 +224,7 @@ fn first_size(marks: &[u32]) -> usize
 // Lists how many nodes each marked bucket has; says how many buckets there are.
 fn sizes_of(marks: &[u32], sizes: &mut [u32]) -> usize
     requires { ⌜ (length (now marks) ≤ 2048) × (length (now marks) ≤ length (now sizes)) ⌝ }
-    ensures { λ r. ⌜ Sized (now (marks .entry)) (now (sizes .exit)) r ⌝ }
+    ensures { λ r. ⌜ MarkedSizes (now (marks .entry)) (now (sizes .exit)) r ⌝ }
     ensures { λ r. ⌜ r ≤ 2048 ⌝ }
 {
     let mut at: usize = 0;

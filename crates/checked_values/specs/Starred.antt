@@ -11,7 +11,7 @@ use Rattle.root.specs.Root.{rootOf}
 use Rattle.hyperplanes.specs.Hyperplanes.{stream, planeNumber}
 use Rattle.leaders.specs.Leaders.{drawStart, drawn, upTo}
 use Rattle.calls.specs.Search.{refused}
-use Rattle.calls.specs.Example.{minusOne, lists, asked, told}
+use Rattle.calls.specs.Example.{minusOne, lists, asked, printed}
 
 pub record Starred : Type 0 where
   -- root of 25 is 5; of 2 is 11863283/2^23
@@ -25,10 +25,10 @@ pub record Starred : Type 0 where
   -- lists here: 0:[1], 1:[0,2], 2:[1,1]
   pub worked-lists : lists ≡ (1 ∷ []) ∷ (0 ∷ 2 ∷ []) ∷ (1 ∷ 1 ∷ []) ∷ []
   -- this find: three ranks, and nothing written past them
-  pub worked-find : told (asked 3 3 (+one ∷ +zero ∷ [])) ≡ (0, 3, 3, 10 ∷ 20 ∷ 30 ∷ 7 ∷ [], 0x0000_0000 ∷ 0x3f80_0000 ∷ 0x4000_0000 ∷ 0xbf80_0000 ∷ [])
+  pub worked-find : printed (asked 3 3 (+one ∷ +zero ∷ [])) ≡ (0, 3, 3, 10 ∷ 20 ∷ 30 ∷ 7 ∷ [], 0x0000_0000 ∷ 0x3f80_0000 ∷ 0x4000_0000 ∷ 0xbf80_0000 ∷ [])
   -- k 1, ef 1: doc 10, scored 3
-  pub worked-one : told (asked 1 1 (+one ∷ +zero ∷ [])) ≡ (0, 1, 3, 10 ∷ 7 ∷ 7 ∷ 7 ∷ [], 0x0000_0000 ∷ 0xbf80_0000 ∷ 0xbf80_0000 ∷ 0xbf80_0000 ∷ [])
+  pub worked-one : printed (asked 1 1 (+one ∷ +zero ∷ [])) ≡ (0, 1, 3, 10 ∷ 7 ∷ 7 ∷ 7 ∷ [], 0x0000_0000 ∷ 0xbf80_0000 ∷ 0xbf80_0000 ∷ 0xbf80_0000 ∷ [])
   -- k 0, ef 0: none, scored 3
-  pub worked-none : told (asked 0 0 (+one ∷ +zero ∷ [])) ≡ (0, 0, 3, replicate 4 7, replicate 4 0xbf80_0000)
+  pub worked-none : printed (asked 0 0 (+one ∷ +zero ∷ [])) ≡ (0, 0, 3, replicate 4 7, replicate 4 0xbf80_0000)
   -- three components: 6
   pub three-components : asked 3 3 (+one ∷ +zero ∷ +zero ∷ []) ≡ refused 6 (replicate 4 7) (replicate 4 minusOne)

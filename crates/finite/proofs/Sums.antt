@@ -12,7 +12,7 @@ use lib.Ieee.Scale.{finite}
 use Rattle.basics.specs.Lists.{every}
 use Rattle.basics.proofs.Pieces.{every-at}
 use Rattle.basics.proofs.EqualParts.{parts-none, parts-all}
-use Rattle.finite.specs.Sums.{Added}
+use Rattle.finite.specs.Sums.{AddedUp}
 
 infinite : (b s : Bool) → finite (cond b (inf s) nan) ≡ true → ⊥
 infinite true s e = false≢true e
@@ -34,7 +34,7 @@ both-finite f (fin s m c) (fin t n d) e = (refl, refl)
 pub record Adding (sums₀ components sums : List Float) (k : ℕ) : Type 0 where
   pub within : k ≤ 32
   pub long : length sums ≡ length sums₀
-  pub done : Added k sums₀ components sums
+  pub done : AddedUp k sums₀ components sums
   pub left : (c : ℕ) → k ≤ c → getD sums c nan ≡ getD sums₀ c nan
 
 pub adding-none : (sums components : List Float) → Adding sums components sums 0
@@ -82,7 +82,7 @@ pub record Summed (v sums : List Float) (j : ℕ) : Type 0 where
 pub summed-none : (v sums : List Float) → length sums ≡ 32 → Summed v sums 0
 summed-none v sums long = record { long = long; tells = λ k h e i l. absurd (omega arith) }
 
-pub summed-more : (v sums sums′ : List Float) (j n : ℕ) → n ≡ 32 → Summed v sums j → length sums′ ≡ length sums → Added 32 sums (take n (drop (j * 32) v)) sums′
+pub summed-more : (v sums sums′ : List Float) (j n : ℕ) → n ≡ 32 → Summed v sums j → length sums′ ≡ length sums → AddedUp 32 sums (take n (drop (j * 32) v)) sums′
     → Summed v sums′ (j + 1)
 summed-more v sums sums′ j n all s long added = record {
   long = long ∙ s .long;

@@ -6,5 +6,5 @@ use lib.ListN.{getD}
 use lib.Ieee.{Float, binary32, nan, add}
 
 -- each of the first n sums has a component more
-abbrev pub Added : ℕ → List Float → List Float → List Float → Type 0
-Added n sums components sums′ = (k : ℕ) → k < n → getD sums′ k nan ≡ add binary32 (getD sums k nan) (getD components k nan)
+abbrev pub AddedUp : ℕ → List Float → List Float → List Float → Type 0
+AddedUp n sums components sums′ = (k : ℕ) → k < n → getD sums′ k nan ≡ add binary32 (getD sums k nan) (getD components k nan)

@@ -13,7 +13,7 @@ ghost use mathlib.Core.Bool.{true};
 ghost use lib.ListN.{length};
 ghost use lib.Ieee.Scale.{finite};
 ghost use Rattle.basics.specs.Lists.{every};
-ghost use Rattle.finite.specs.Sums.{Added};
+ghost use Rattle.finite.specs.Sums.{AddedUp};
 
 // Whether x is finite.
 pub fn is_finite(x: f32) -> bool
@@ -39,7 +39,7 @@ fn each_finite(v: &[f32]) -> bool
 // Adds 32 components to 32 sums, each to its own.
 fn add_to(sums: &mut [f32], components: &[f32])
     requires { ⌜ (length (now sums) ≡ 32) × (length (now components) ≡ 32) ⌝ }
-    ensures { λ _. ⌜ Added 32 (now (sums .entry)) (now (components .entry)) (now (sums .exit)) ⌝ }
+    ensures { λ _. ⌜ AddedUp 32 (now (sums .entry)) (now (components .entry)) (now (sums .exit)) ⌝ }
 {
     let mut k: usize = 0;
     while k < 32 {

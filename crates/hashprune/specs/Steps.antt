@@ -44,7 +44,7 @@ abbrev pub farAt : List Float → ℕ → Float
 farAt far i = getD far i nan
 
 -- room for one cell more, whose candidate has a distance, as all that hold cells have
-pub record Room (held place : ℕ) (hashes places : List ℕ) (far : List Float) : Type 0 where
+pub record ContestRoom (held place : ℕ) (hashes places : List ℕ) (far : List Float) : Type 0 where
   pub hashes-room : held < length hashes
   pub places-room : held < length places
   pub place-inside : place < length far
@@ -148,7 +148,7 @@ pub record TurnRoom (candidates : List ℕ) (far : List Float) (row : List ℕ) 
   pub short : length row ≤ 33
 
 -- room for 32 entries and 64 nodes that hold cells, and for the cells
-pub record Scratch (keys ids hashes places : List ℕ) : Type 0 where
+pub record TurnScratch (keys ids hashes places : List ℕ) : Type 0 where
   pub keys-room : 96 ≤ length keys
   pub ids-room : 96 ≤ length ids
   pub hashes-room : 64 ≤ length hashes

@@ -24,8 +24,8 @@ ghost use Rattle.vectors.specs.Vectors.{vectorsIn, vectorOf};
 ghost use Rattle.sorting.specs.Sorting.{pairs, keysOf, idsOf, sortedKeys, sortedIds};
 ghost use Rattle.leaf.specs.Leaf.{putCell, dedup};
 ghost use Rattle.store.specs.View.{rowBlock};
-ghost use Rattle.hashprune.specs.Steps.{cellIn, cellsIn, Placed, insertedAt, farAt, Room, hashBy, cellsOf};
-ghost use Rattle.hashprune.specs.Steps.{CellRoom, PlaceRoom, RowRoom, SortRoom, SelectRoom, Selected, MergeRoom, TurnRoom, Scratch, rowAfter};
+ghost use Rattle.hashprune.specs.Steps.{cellIn, cellsIn, Placed, insertedAt, farAt, ContestRoom, hashBy, cellsOf};
+ghost use Rattle.hashprune.specs.Steps.{CellRoom, PlaceRoom, RowRoom, SortRoom, SelectRoom, Selected, MergeRoom, TurnRoom, TurnScratch, rowAfter};
 ghost use Rattle.hashprune.specs.Steps.{rankedPlace, selectedPairs, oldPairs, mergedPairs};
 ghost use Rattle.hashprune.specs.Hashprune.{Inserted};
 use ids::Node;
@@ -100,7 +100,7 @@ fn put_cell(
     place: u32,
     far: &[f32],
 ) -> usize
-    requires { ⌜ Room held place (now hashes) (now places) (now far) ⌝ }
+    requires { ⌜ ContestRoom held place (now hashes) (now places) (now far) ⌝ }
     ensures { λ r. ⌜ (r ≤ held + 1)
         × (cellsIn r (now (hashes .exit)) (now (places .exit)) ≡ putCell (farAt (now (far .entry))) (cellIn (hash, place)) (cellsIn held (now (hashes .entry)) (now (places .entry)))) ⌝ }
 {
@@ -328,7 +328,7 @@ fn insert_with(
     places: &mut [u32],
 )
     requires { ⌜ TurnRoom (now candidates) (now far) (now row) ⌝ }
-    requires { ⌜ Scratch (now keys) (now ids) (now hashes) (now places) ⌝ }
+    requires { ⌜ TurnScratch (now keys) (now ids) (now hashes) (now places) ⌝ }
     ensures { λ _. ⌜ now (row .exit) ≡ rowAfter (now (vectors .entry)) dimension bits (now (planes .entry)) (now (p .entry)) (now (candidates .entry)) (now (far .entry)) (now (row .entry)) ⌝ }
 {
     let old = rank_row(vectors, dimension, p, row, keys, ids);

@@ -18,7 +18,7 @@ use Rattle.sorting.proofs.Laws.{first-map, first-in}
 use Rattle.sorting.proofs.Pairs.{front-ids}
 use Rattle.vectors.specs.Vectors.{between, rank}
 use Rattle.leaf.specs.Leaf.{candidatesAt}
-use Rattle.leaf_candidates.specs.Candidates.{LaneFits, nodeIn, farInLane, placesFrom, offer, otherPlaces, Nearest, NodesAt, LaneReady, CandidatesAre, Candidates}
+use Rattle.leaf_candidates.specs.Candidates.{LaneFits, nodeIn, farInLane, placesFrom, offer, otherPlaces, NearestPlaces, NodesAt, LaneReady, CandidatesAre, Candidates}
 
 map-same-in : {A : Type 0} (f g : ℕ → A) (l : List ℕ) → ((j : ℕ) → In j l → f j ≡ g j) → map f l ≡ map g l
 map-same-in f g [] h = refl
@@ -73,7 +73,7 @@ others-nodes leaf i h =
 
 -- ---- the first places
 
-module _ (floats : List Float) (lane size i r : ℕ) (keys places : List ℕ) (h : i < size) (n : Nearest floats lane size i r keys places) where
+module _ (floats : List Float) (lane size i r : ℕ) (keys places : List ℕ) (h : i < size) (n : NearestPlaces floats lane size i r keys places) where
   -- the places that are held
   pub held-places : take r places ≡ firstBy (λ (j : ℕ). keyOf binary32 (farInLane floats lane j)) (both keys places) (otherPlaces size i)
   held-places =
@@ -96,7 +96,7 @@ module _ (leaf : List ℕ) (floats : List Float) (lane i D room room′ : ℕ) (
 
   pub candidates-are : (r : ℕ) (keys places candidates candidates′ : List ℕ) (far far′ : List Float)
       → both keys places ≡ 2 * min D (length leaf - 1) → r ≤ length places
-      → Nearest floats lane (length leaf) i r keys places → NodesAt leaf floats lane (take r places) candidates far candidates′ far′
+      → NearestPlaces floats lane (length leaf) i r keys places → NodesAt leaf floats lane (take r places) candidates far candidates′ far′
       → CandidatesAre leaf i D vs r candidates′ far′
   unfolding candidatesAt rank
   candidates-are r keys places candidates candidates′ far far′ many few n g =
@@ -131,7 +131,7 @@ module _ (leaf : List ℕ) (floats : List Float) (lane i D room room′ : ℕ) (
 
 -- the same where the places are the front of a longer slice
 module _ (leaf : List ℕ) (floats : List Float) (lane i D r most : ℕ) (keys places rest : List ℕ) (h : i < length leaf)
-    (a : length keys ≡ most) (b : length places ≡ most) (n : Nearest floats lane (length leaf) i r keys places) where
+    (a : length keys ≡ most) (b : length places ≡ most) (n : NearestPlaces floats lane (length leaf) i r keys places) where
   held-few : r ≤ most
   held-few = omega (arith, n .few)
 

@@ -10,7 +10,7 @@ use lib.Ieee.{Float}
 use Rattle.basics.proofs.Loops.{front-set, front-length}
 use Rattle.sorting.specs.Sorting.{firstBy, pairs, keyIn, both, keptPairs, keptKeys, keptIds, insertedPairs}
 use Rattle.sorting.proofs.Pairs.{kept-are, none-kept}
-use Rattle.leaf_candidates.specs.Candidates.{placesFrom, offer, Offered, Nearest}
+use Rattle.leaf_candidates.specs.Candidates.{placesFrom, offer, Offered, NearestPlaces}
 
 -- ---- offering
 
@@ -53,7 +53,7 @@ pub nearest-of : (floats : List Float) (lane size i held r : ℕ) (keys places k
     → length keys₁ ≡ length keys → length places₁ ≡ length places → length keys₂ ≡ length keys₁ → length places₂ ≡ length places₁
     → Offered floats lane 0 (i - 0) keys places 0 keys₁ places₁ held
     → Offered floats lane (i + 1) (size - (i + 1)) keys₁ places₁ held keys₂ places₂ r
-    → Nearest floats lane size i r keys₂ places₂
+    → NearestPlaces floats lane size i r keys₂ places₂
 nearest-of floats lane size i held r keys places keys₁ places₁ keys₂ places₂ a b c d one two =
     let m : ℕ = both keys places in
     let m₁ : both keys₁ places₁ ≡ m = ap₂ (λ (x : ℕ) (y : ℕ). min x y) a b in

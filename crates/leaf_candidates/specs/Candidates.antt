@@ -32,7 +32,7 @@ abbrev pub otherPlaces : ℕ → ℕ → List ℕ
 otherPlaces size i = placesFrom 0 i ++ placesFrom (i + 1) (size - (i + 1))
 
 -- the distances of `size` places stand in a lane, and places are numbers of a word
-pub record Sized (lane size : ℕ) (floats : List Float) : Type 0 where
+pub record LanesSized (lane size : ℕ) (floats : List Float) : Type 0 where
   pub lane-is : lane < 8
   pub fits : 8 * size ≤ length floats
   pub few : size ≤ 4294967295
@@ -44,7 +44,7 @@ pub record Offered (floats : List Float) (lane from k : ℕ) (keys places : List
       → pairs (take r keys′) (take r places′) ≡ firstBy keyIn (both keys places) (before ++ map (offer floats lane) (placesFrom from k))
 
 -- the pairs held are the first of all other places
-pub record Nearest (floats : List Float) (lane size i r : ℕ) (keys places : List ℕ) : Type 0 where
+pub record NearestPlaces (floats : List Float) (lane size i r : ℕ) (keys places : List ℕ) : Type 0 where
   pub few : r ≤ both keys places
   pub first : pairs (take r keys) (take r places) ≡ firstBy keyIn (both keys places) (map (offer floats lane) (otherPlaces size i))
 

@@ -10,7 +10,7 @@
 ghost use Prim.Native.Nat.{_+_, _-_, _*_, _≤_, _<_};
 ghost use lib.ListN.{length};
 ghost use Rattle.basics.specs.Nodes.{Below};
-ghost use Rattle.leaf_candidates.specs.Candidates.{Offered, Nearest, NodesAt, Candidates, Sized, LaneFits};
+ghost use Rattle.leaf_candidates.specs.Candidates.{Offered, NearestPlaces, NodesAt, Candidates, LanesSized, LaneFits};
 
 // The candidates of place i, whose distances stand in a lane, and how far they are. Says how many: 64 at
 // most, and none where the sizes do not fit.
@@ -85,8 +85,8 @@ fn nearest(
     keys: &mut [u32],
     places: &mut [u32],
 ) -> usize
-    requires { ⌜ Sized lane size (now floats) × (i < size) ⌝ }
-    ensures { λ r. ⌜ Nearest (now (floats .entry)) lane size i r (now (keys .exit)) (now (places .exit)) ⌝ }
+    requires { ⌜ LanesSized lane size (now floats) × (i < size) ⌝ }
+    ensures { λ r. ⌜ NearestPlaces (now (floats .entry)) lane size i r (now (keys .exit)) (now (places .exit)) ⌝ }
 {
     let held = offer(floats, lane, 0, i, keys, places, 0);
     offer(floats, lane, i + 1, size, keys, places, held)
@@ -102,7 +102,7 @@ fn offer(
     places: &mut [u32],
     held: usize,
 ) -> usize
-    requires { ⌜ Sized lane to (now floats) × (from ≤ to) ⌝ }
+    requires { ⌜ LanesSized lane to (now floats) × (from ≤ to) ⌝ }
     ensures { λ r. ⌜ Offered (now (floats .entry)) lane from (to - from) (now (keys .entry)) (now (places .entry)) held (now (keys .exit)) (now (places .exit)) r ⌝ }
 {
     let mut kept = held;
@@ -124,7 +124,7 @@ fn gather(
     candidates: &mut [u32],
     far: &mut [f32],
 )
-    requires { ⌜ Sized lane (length (now leaf)) (now floats) × Below (length (now leaf)) (now places)
+    requires { ⌜ LanesSized lane (length (now leaf)) (now floats) × Below (length (now leaf)) (now places)
         × (length (now places) ≤ length (now candidates)) × (length (now places) ≤ length (now far)) ⌝ }
     ensures { λ _. ⌜ NodesAt (now (leaf .entry)) (now (floats .entry)) lane (now (places .entry)) (now (candidates .entry)) (now (far .entry)) (now (candidates .exit)) (now (far .exit)) ⌝ }
 {

@@ -11,7 +11,7 @@ use lib.Seq.{take-suc, take-all, drop-cons, getD-at, length-take-le, drop-drop}
 use lib.Ieee.{Float, Format, binary32, nan, add}
 use Rattle.basics.specs.Lists.{pieces}
 use Rattle.basics.proofs.Loops.{front-set}
-use Rattle.medoid.specs.Centroid.{addTo, sumsFrom}
+use Rattle.medoid.specs.Centroid.{addTo, rowSumsFrom}
 
 pub length-addTo : (f : Format) (s v : List Float) → length (addTo f s v) ≡ length s
 unfolding addTo
@@ -59,23 +59,23 @@ module _ (sums row : List Float) (e : length row ≡ length sums) where
 
 -- what is left to add from row i on, which starts at `at`, completes the whole
 abbrev pub Summing : List Float → ℕ → ℕ → List Float → ℕ → ℕ → List Float → Type 0
-Summing vectors d n sums₀ at i sums = sumsFrom binary32 sums (pieces d (n - i) (drop at vectors)) ≡ sumsFrom binary32 sums₀ (pieces d n vectors)
+Summing vectors d n sums₀ at i sums = rowSumsFrom binary32 sums (pieces d (n - i) (drop at vectors)) ≡ rowSumsFrom binary32 sums₀ (pieces d n vectors)
 
 pub summing-none : (vectors : List Float) (d n : ℕ) (sums : List Float) → Summing vectors d n sums 0 0 sums
-summing-none vectors d n sums = let e : n - 0 ≡ n = omega arith in ap (λ (k : ℕ). sumsFrom binary32 sums (pieces d k vectors)) e
+summing-none vectors d n sums = let e : n - 0 ≡ n = omega arith in ap (λ (k : ℕ). rowSumsFrom binary32 sums (pieces d k vectors)) e
 
 pub summing-more : (vectors : List Float) (d n : ℕ) (sums₀ : List Float) (at i : ℕ) (sums : List Float) → i < n
     → Summing vectors d n sums₀ at i sums → Summing vectors d n sums₀ (at + d) (i + 1) (addTo binary32 sums (take d (drop at vectors)))
-unfolding sumsFrom pieces
+unfolding rowSumsFrom pieces
 summing-more vectors d n sums₀ at i sums h s =
     let one : n - i ≡ suc (n - (i + 1)) = omega arith in
-    ap (λ (l : List Float). sumsFrom binary32 (addTo binary32 sums (take d (drop at vectors))) (pieces d (n - (i + 1)) l)) (sym (drop-drop d at vectors))
-    ∙ sym (ap (λ (k : ℕ). sumsFrom binary32 sums (pieces d k (drop at vectors))) one)
+    ap (λ (l : List Float). rowSumsFrom binary32 (addTo binary32 sums (take d (drop at vectors))) (pieces d (n - (i + 1)) l)) (sym (drop-drop d at vectors))
+    ∙ sym (ap (λ (k : ℕ). rowSumsFrom binary32 sums (pieces d k (drop at vectors))) one)
     ∙ s
 
 pub summing-done : (vectors : List Float) (d n : ℕ) (sums₀ : List Float) (at i : ℕ) (sums : List Float) → n ≤ i
-    → Summing vectors d n sums₀ at i sums → sums ≡ sumsFrom binary32 sums₀ (pieces d n vectors)
-unfolding sumsFrom pieces
+    → Summing vectors d n sums₀ at i sums → sums ≡ rowSumsFrom binary32 sums₀ (pieces d n vectors)
+unfolding rowSumsFrom pieces
 summing-done vectors d n sums₀ at i sums h s =
     let none : n - i ≡ 0 = omega arith in
-    sym (ap (λ (k : ℕ). sumsFrom binary32 sums (pieces d k (drop at vectors))) none) ∙ s
+    sym (ap (λ (k : ℕ). rowSumsFrom binary32 sums (pieces d k (drop at vectors))) none) ∙ s

@@ -13,14 +13,14 @@ addTo f [] v = []
 addTo f (s ∷ sums) [] = s ∷ sums
 addTo f (s ∷ sums) (x ∷ v) = add f s x ∷ addTo f sums v
 
-unfoldable pub sumsFrom : Format → List Float → List (List Float) → List Float
+unfoldable pub rowSumsFrom : Format → List Float → List (List Float) → List Float
 unfolding addTo
-sumsFrom f sums [] = sums
-sumsFrom f sums (v ∷ vs) = sumsFrom f (addTo f sums v) vs
+rowSumsFrom f sums [] = sums
+rowSumsFrom f sums (v ∷ vs) = rowSumsFrom f (addTo f sums v) vs
 
 unfoldable pub centroidOf : Format → ℕ → List (List Float) → List Float
-unfolding sumsFrom
-centroidOf f dimension vs = map (λ (s : Float). div f s (ofInt f (pos (length vs)))) (sumsFrom f (replicate dimension +zero) vs)
+unfolding rowSumsFrom
+centroidOf f dimension vs = map (λ (s : Float). div f s (ofInt f (pos (length vs)))) (rowSumsFrom f (replicate dimension +zero) vs)
 
 -- the first n rows of d components, or as many as stand whole in a list
 abbrev pub rowsIn : ℕ → ℕ → List Float → List (List Float)

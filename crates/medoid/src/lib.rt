@@ -12,7 +12,7 @@ ghost use lib.ListN.{length};
 ghost use lib.Ieee.{binary32, lt};
 ghost use Rattle.basics.specs.Choice.{pick};
 ghost use Rattle.basics.specs.Lists.{pieces};
-ghost use Rattle.medoid.specs.Centroid.{addTo, sumsFrom, centroidOf, rowsIn};
+ghost use Rattle.medoid.specs.Centroid.{addTo, rowSumsFrom, centroidOf, rowsIn};
 ghost use Rattle.medoid.specs.Medoid.{nearestTo, computeMedoid};
 use ids::Node;
 
@@ -94,7 +94,7 @@ fn nearest_row(vectors: &[f32], n: u32, centroid: &[f32]) -> Node
 // The rows added to the sums, one after the other.
 fn sum_rows(vectors: &[f32], n: usize, sums: &mut [f32])
     requires { ⌜ n * length (now sums) ≤ length (now vectors) ⌝ }
-    ensures { λ _. ⌜ now (sums .exit) ≡ sumsFrom binary32 (now (sums .entry)) (pieces (length (now (sums .entry))) n (now (vectors .entry))) ⌝ }
+    ensures { λ _. ⌜ now (sums .exit) ≡ rowSumsFrom binary32 (now (sums .entry)) (pieces (length (now (sums .entry))) n (now (vectors .entry))) ⌝ }
 {
     let dimension = sums.len();
     let mut at: usize = 0;

@@ -32,7 +32,7 @@ use Rattle.beam.specs.KeepClosest.{keyAt}
 use Rattle.beam.specs.Beam.{farFrom, placesFor, beamSearch, answerOf}
 use Rattle.beam.proofs.Laws.{scored-nodes, scored-few, answer-few}
 use Rattle.beam_search.specs.declared.Walked.{Walked}
-use Rattle.beam_search.specs.Search.{within, nodesIn, SearchFits, Searched, Searching}
+use Rattle.beam_search.specs.Search.{within, nodesOfWords, SearchFits, Searched, Searching}
 use Rattle.beam_search.specs.Search.{listInWords}
 use Rattle.calls.specs.Search.{Reply}
 use Rattle.search.specs.Docs.{docAt}
@@ -97,7 +97,7 @@ module _ (w : List ℕ) (f scaled : List Float) (k ef : ℕ) (docs : List ℕ) (
       scored-nodes (listIn (view w f)) n (word w entryAt) (built .entry) (lists-inside w f (stores .rest)) far (placesFor ef k) x
       (in-sort (keyAt far) scored (in-take k (sortBy (keyAt far) scored) m))
 
-  rows-many : nodesIn (word w degreeAt) (rowPart w f (stores .room)) ≡ n
+  rows-many : nodesOfWords (word w degreeAt) (rowPart w f (stores .room)) ≡ n
   rows-many =
       let size : length (rowPart w f (stores .room)) ≡ n * rowSize (word w degreeAt) =
       length-take-le (n * rowSize (word w degreeAt)) (drop (rowsAt (word w capacityAt)) w)

@@ -7,7 +7,7 @@ use lib.ListN.{length}
 use lib.Ieee.{Float}
 use Rattle.vectors.specs.Vectors.{vectorsIn}
 use Rattle.beam.specs.Beam.{farFrom, beamSearch, answerOf}
-use Rattle.beam_search.specs.Search.{listInWords, nodesIn, Searched}
+use Rattle.beam_search.specs.Search.{listInWords, nodesOfWords, Searched}
 use Rattle.beam_search.specs.declared.Walked.{Walked}
 use Rattle.beam_search.proofs.Ending.{Room, has-room, no-room, searched}
 use native.Mathlib.Omega.{arith}
@@ -17,30 +17,30 @@ use Rattle.beam_search.proofs.beam_search.Tie as tie
 
 -- what the test said
 abbrev Fitting : tie.Else1 → Type 0
-Fitting c = let a = (c .before .before .before .before .before .before .before .before .before) .args in Room (length (a .words .now)) (length (a .query .now)) (nodesIn (a .degree) (a .rows .now)) (length (a .bridges .now))
+Fitting c = let a = (c .before .before .before .before .before .before .before .before .before) .args in Room (length (a .words .now)) (length (a .query .now)) (nodesOfWords (a .degree) (a .rows .now)) (length (a .bridges .now))
 
 fitting : (c : tie.Else1) → Fitting c
-fitting c = let a = (c .before .before .before .before .before .before .before .before .before) .args in has-room (length (a .words .now)) (length (a .query .now)) (nodesIn (a .degree) (a .rows .now)) (length (a .bridges .now)) (c .if1 .left)
+fitting c = let a = (c .before .before .before .before .before .before .before .before .before) .args in has-room (length (a .words .now)) (length (a .query .now)) (nodesOfWords (a .degree) (a .rows .now)) (length (a .bridges .now)) (c .if1 .left)
 
 -- the dimension as a u32 is the query's length
 at-dimension : (query vectors : List Float) (rows : List ℕ) (degree : ℕ) (bridges : List ℕ) (entry b : ℕ) (nodes nodes′ : List ℕ) (distances distances′ : List Float) (r : Walked) (d : ℕ) → d ≡ length query
     → Searched (farFrom query (vectorsIn d vectors))
-    (answerOf (farFrom query (vectorsIn d vectors)) (length nodes) (beamSearch (listInWords (nodesIn degree rows) degree rows bridges) (nodesIn degree rows) entry (farFrom query (vectorsIn d vectors)) b))
-    (beamSearch (listInWords (nodesIn degree rows) degree rows bridges) (nodesIn degree rows) entry (farFrom query (vectorsIn d vectors)) b) nodes nodes′ distances distances′ r
+    (answerOf (farFrom query (vectorsIn d vectors)) (length nodes) (beamSearch (listInWords (nodesOfWords degree rows) degree rows bridges) (nodesOfWords degree rows) entry (farFrom query (vectorsIn d vectors)) b))
+    (beamSearch (listInWords (nodesOfWords degree rows) degree rows bridges) (nodesOfWords degree rows) entry (farFrom query (vectorsIn d vectors)) b) nodes nodes′ distances distances′ r
     → Searched (farFrom query (vectorsIn (length query) vectors))
-    (answerOf (farFrom query (vectorsIn (length query) vectors)) (length nodes) (beamSearch (listInWords (nodesIn degree rows) degree rows bridges) (nodesIn degree rows) entry (farFrom query (vectorsIn (length query) vectors)) b))
-    (beamSearch (listInWords (nodesIn degree rows) degree rows bridges) (nodesIn degree rows) entry (farFrom query (vectorsIn (length query) vectors)) b) nodes nodes′ distances distances′ r
+    (answerOf (farFrom query (vectorsIn (length query) vectors)) (length nodes) (beamSearch (listInWords (nodesOfWords degree rows) degree rows bridges) (nodesOfWords degree rows) entry (farFrom query (vectorsIn (length query) vectors)) b))
+    (beamSearch (listInWords (nodesOfWords degree rows) degree rows bridges) (nodesOfWords degree rows) entry (farFrom query (vectorsIn (length query) vectors)) b) nodes nodes′ distances distances′ r
 at-dimension query vectors rows degree bridges entry b nodes nodes′ distances distances′ r d e =
     subst (λ (k : ℕ). Searched (farFrom query (vectorsIn k vectors))
-    (answerOf (farFrom query (vectorsIn k vectors)) (length nodes) (beamSearch (listInWords (nodesIn degree rows) degree rows bridges) (nodesIn degree rows) entry (farFrom query (vectorsIn k vectors)) b))
-    (beamSearch (listInWords (nodesIn degree rows) degree rows bridges) (nodesIn degree rows) entry (farFrom query (vectorsIn k vectors)) b) nodes nodes′ distances distances′ r) e
+    (answerOf (farFrom query (vectorsIn k vectors)) (length nodes) (beamSearch (listInWords (nodesOfWords degree rows) degree rows bridges) (nodesOfWords degree rows) entry (farFrom query (vectorsIn k vectors)) b))
+    (beamSearch (listInWords (nodesOfWords degree rows) degree rows bridges) (nodesOfWords degree rows) entry (farFrom query (vectorsIn k vectors)) b) nodes nodes′ distances distances′ r) e
 
 returns : tie.Need-returns
 returns c =
     let a = (c .before .before .before .before .before .before .before .before .before) .args in
     λ fits.
     absurd
-    (no-room (length (a .words .now)) (length (a .query .now)) (nodesIn (a .degree) (a .rows .now)) (length (a .bridges .now)) (c .if1 .taken)
+    (no-room (length (a .words .now)) (length (a .query .now)) (nodesOfWords (a .degree) (a .rows .now)) (length (a .bridges .now)) (c .if1 .taken)
     (record { scratch = omega (arith, fits .words-room); components = omega (arith, fits .dimension); nodes = fits .few; pairs = omega (arith, fits .bridges-few) }))
 
 start-requires : tie.Need-start-requires
@@ -60,7 +60,7 @@ returns-2 c =
     let w = c .before .before .before .before .before .before .before .before .before .before .before .before .before .walk-linked in
     let told = c .before .before .before .tell in
     let room = fitting (c .before .before .before .before .before .before .before .before .before .before .before .before .before .before .before .before .before .before .before .before .before .before .before .before .before .before .before .before) in
-    let n : ℕ = nodesIn (a .degree) (a .rows .now) in
+    let n : ℕ = nodesOfWords (a .degree) (a .rows .now) in
     λ fits.
     let begun = s .ensures (fits .entry-below) (fits .few) (omega (arith, fits .floats-room)) in
     let rested = w .ensures (fits .ends-below) (a .nodes .now) (a .entry .0 ∷ []) (a .entry .0 ∷ []) begun in

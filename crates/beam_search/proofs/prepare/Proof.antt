@@ -13,13 +13,18 @@ slice-aggregate-clear-words c = simp length-take (omega arith)
 
 returns : tie.Need-returns
 returns c =
-    let start = c .before .before .before .before .before .before .before .before .before .before .before .before .before .before in
+    let at-clear2 = c .before .before in
+    let at-clear = at-clear2 .before .before .before .before in
+    let at-clear-words = at-clear .before .before .before .before in
+    let at-lesser = at-clear-words .before .before in
+    let back = at-lesser .before .before in
+    let start = back in
     let a = start .args in
-    let marks = c .before .before .before .before .before .before .before .before .before .before .clear-words in
-    let front = c .before .before .before .before .before .before .clear in
-    let held = c .before .before .clear2 in
+    let marks = at-clear-words .clear-words in
+    let front = at-clear .clear in
+    let held = at-clear2 .clear2 in
     prepared (a .size) (a .places) (a .words .now) (marks .last .0) (front .last .0) (held .last .0) (start .pre) (marks .ensures) (front .kept .0) _
-    (ap (λ (m : ℕ). 6 * a .size + 4 * m) (c .before .before .before .before .before .before .before .before .before .before .before .before .lesser .ensures)) (held .kept .0) (front .ensures) (held .ensures)
+    (ap (λ (m : ℕ). 6 * a .size + 4 * m) (at-lesser .lesser .ensures)) (held .kept .0) (front .ensures) (held .ensures)
 
 pub prepare-spec : {M : Type 1} → statement M
 prepare-spec =

@@ -10,9 +10,12 @@ use Rattle.beam_search.proofs.walk_linked.Tie as tie
 
 returns : tie.Need-returns
 returns c ends =
-    let start = c .before .before .before .before .before .before .before .before .before .before .before .before .before .before .before .before .before .before .before in
+    let at-walk-on = c .before .before .before .before .before .before in
+    let at-if1 = at-walk-on .before .before .before .before .before in
+    let back = at-if1 .before .before .before .before .before .before .before .before in
+    let start = back in
     let a = start .args in
-    c .before .before .before .before .before .before .walk-on .ensures (none-linked (a .size) (a .bridges .now) _ (start .pre .1 .0) (c .before .before .before .before .before .before .before .before .before .before .before .if1 .taken) (λ i h. refl))
+    at-walk-on .walk-on .ensures (none-linked (a .size) (a .bridges .now) _ (start .pre .1 .0) (at-if1 .if1 .taken) (λ i h. refl))
 
 returns-2 : tie.Need-returns-2
 returns-2 c ends =

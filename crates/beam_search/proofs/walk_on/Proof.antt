@@ -24,19 +24,36 @@ step-requires : tie.Need-step-requires Inv-loop μ-loop
 step-requires c κs = let o = c .before .before .before .before .loop .inv .words-kept in omega (arith, (c .before .before .before .before .before .before .before .before .before .before .before .before .before) .pre)
 
 same-length : tie.Need-same-length Inv-loop μ-loop
-same-length c = c .before .before .before .before .before .before .before .before .step .kept .0 ∙ c .before .before .before .before .before .before .before .before .before .before .before .before .before .loop .inv .words-kept
+same-length c =
+    let at-step = c .before .before .before .before .before .before .before .before in
+    let at-loop = at-step .before .before .before .before .before in
+    at-step .step .kept .0 ∙ at-loop .loop .inv .words-kept
 
 same-length-2 : tie.Need-same-length-2 Inv-loop μ-loop
-same-length-2 c = c .before .before .before .before .before .before .before .before .step .kept .1 .0 ∙ c .before .before .before .before .before .before .before .before .before .before .before .before .before .loop .inv .floats-kept
+same-length-2 c =
+    let at-step = c .before .before .before .before .before .before .before .before in
+    let at-loop = at-step .before .before .before .before .before in
+    at-step .step .kept .1 .0 ∙ at-loop .loop .inv .floats-kept
 
 same-length-3 : tie.Need-same-length-3 Inv-loop μ-loop
-same-length-3 c = c .before .before .before .before .before .before .before .before .step .kept .1 .1 .0 ∙ c .before .before .before .before .before .before .before .before .before .before .before .before .before .loop .inv .nodes-kept
+same-length-3 c =
+    let at-step = c .before .before .before .before .before .before .before .before in
+    let at-loop = at-step .before .before .before .before .before in
+    at-step .step .kept .1 .1 .0 ∙ at-loop .loop .inv .nodes-kept
 
 returns : tie.Need-returns Inv-loop μ-loop
-returns c = let l = c .before .before .before .before .before .before .before .before .before .before .before .before .before .loop in let s = c .before .before .before .before .before .before .before .before .step in onward-ends (l .inv) (s .last .0) (s .last .1 .0) (s .last .1 .1 .0) (s .result .walk) (s .result .done) (c .before .before .before .before .before .before .before .before .before .before .before .before .loop-test .taken) (s .ensures) (c .if1 .taken)
+returns c =
+    let at-step = c .before .before .before .before .before .before .before .before in
+    let at-loop-test = at-step .before .before .before .before in
+    let at-loop = at-loop-test .before in
+    let l = at-loop .loop in let s = at-step .step in onward-ends (l .inv) (s .last .0) (s .last .1 .0) (s .last .1 .1 .0) (s .result .walk) (s .result .done) (at-loop-test .loop-test .taken) (s .ensures) (c .if1 .taken)
 
 loop-again : tie.Need-loop-again Inv-loop μ-loop
-loop-again c = let l = c .before .before .before .before .before .before .before .before .before .before .before .before .before .loop in let s = c .before .before .before .before .before .before .before .before .step in onward-more (l .inv) (s .last .0) (s .last .1 .0) (s .last .1 .1 .0) (s .result .walk) (s .result .done) (c .before .before .before .before .before .before .before .before .before .before .before .before .loop-test .taken) (s .ensures) (c .if1 .left) (s .kept .0) (s .kept .1 .0) (s .kept .1 .1 .0)
+loop-again c =
+    let at-step = c .before .before .before .before .before .before .before .before in
+    let at-loop-test = at-step .before .before .before .before in
+    let at-loop = at-loop-test .before in
+    let l = at-loop .loop in let s = at-step .step in onward-more (l .inv) (s .last .0) (s .last .1 .0) (s .last .1 .1 .0) (s .result .walk) (s .result .done) (at-loop-test .loop-test .taken) (s .ensures) (c .if1 .left) (s .kept .0) (s .kept .1 .0) (s .kept .1 .1 .0)
 
 same-length-4 : tie.Need-same-length-4 Inv-loop μ-loop
 same-length-4 c = c .before .loop .inv .words-kept

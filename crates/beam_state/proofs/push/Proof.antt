@@ -8,14 +8,21 @@ use Rattle.beam_state.proofs.push.Tie as tie
 
 returns : tie.Need-returns
 returns c =
-    let start = c .before .before .before .before .before .before .before .before .before .before .before .before .before .before .before .before .before .before .before .before .before .before in
+    let at-keep-first = c .before .before .before .before .before in
+    let at-key = at-keep-first .before .before .before in
+    let at-distance-of = at-key .before in
+    let at-keep-closest = at-distance-of .before .before .before in
+    let at-enter = at-keep-closest .before .before .before .before in
+    let at-lesser = at-enter .before .before in
+    let back = at-lesser .before .before .before .before in
+    let start = back in
     let a = start .args in
-    let enter = c .before .before .before .before .before .before .before .before .before .before .before .before .before .before .before .before .enter in
-    let keep = c .before .before .before .before .before .before .before .before .before .before .before .before .keep-closest in
-    let far = c .before .before .before .before .before .before .before .before .before .distance-of in
-    let key = c .before .before .before .before .before .before .before .before .key in
-    let first = c .before .before .before .before .before .keep-first in
-    let end = ap (λ (m : ℕ). 6 * a .size + 4 * m) (c .before .before .before .before .before .before .before .before .before .before .before .before .before .before .before .before .before .before .lesser .ensures) in (
+    let enter = at-enter .enter in
+    let keep = at-keep-closest .keep-closest in
+    let far = at-distance-of .distance-of in
+    let key = at-key .key in
+    let first = at-keep-first .keep-first in
+    let end = ap (λ (m : ℕ). 6 * a .size + 4 * m) (at-lesser .lesser .ensures) in (
       push-frame (a .size) (a .places) (a .node .0) (a .floats .now) (a .walk) (a .words .now) (a .nodes .now) (start .pre) (enter .last .0) (keep .last .0) (first .last .0) (first .last .1 .0)
           (enter .kept .0) _ end (keep .kept .0) (first .kept .0),
       push-is (a .size) (a .places) (a .node .0) (a .floats .now) (a .walk) (a .words .now) (a .nodes .now) (start .pre) (enter .last .0) (keep .last .0) (first .last .0) (first .last .1 .0)

@@ -103,11 +103,14 @@ repair-requires c κs =
 
 returns : tie.Need-returns
 returns c =
-    let r = c .before .before .before .before .before .before .before .before .before .before .before .before .before .before .before .before .before .before .before .before .before .before .before .before in
-    let put = c .before .before .before .before .before .before .before .before .before .before .before .before .before .before .before .before .before .before .before .put-rows in
+    let at-repair = c .before .before .before .before .before .before .before in
+    let at-put-rows = at-repair .before .before .before .before .before .before .before .before .before .before .before .before in
+    let back = at-put-rows .before .before .before .before .before in
+    let r = back in
+    let put = at-put-rows .put-rows in
     let full = put .kept .0 ∙ length-take-le _ _ (part-within r) in
     graph-built-at _ _ (w r) (f r) (taken (start r)) _ _ _ _ _ _ _ _ (put .last .0) _ (n-is r) (C-is r) (D-is r) (d-is r) (p-is r) (vectors-are r) (from-is r) (sym full)
-    (put .ensures) (c .before .before .before .before .before .before .before .repair .ensures)
+    (put .ensures) (at-repair .repair .ensures)
 
 pub build-graph-spec : {M : Type 1} → statement M
 build-graph-spec =

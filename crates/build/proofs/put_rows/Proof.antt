@@ -18,11 +18,16 @@ put-leaves-requires c κs =
 
 returns : tie.Need-returns
 returns c =
-    let s = c .before .before .before .before .before .before .before .before .before .before .before .before .before .before .before .before .before .before .before .before .before .before .before .before .before in
+    let at-add-reverse-edges = c .before .before in
+    let at-put-leaves = at-add-reverse-edges .before .before .before .before .before .before in
+    let at-partition = at-put-leaves .before .before .before .before .before .before in
+    let at-clear-words = at-partition .before .before .before .before in
+    let back = at-clear-words .before .before .before .before .before .before .before in
+    let s = back in
     let a = s .args in
-    let carve = c .before .before .before .before .before .before .before .before .before .before .before .before .before .before .partition in
+    let carve = at-partition .partition in
     rows-made (a .n) (a .dimension) (a .p) (a .vectors .now) (a .rows .now) (a .scratch-words .now) _ (carve .result) _ (s .pre) (carve .ensures)
-    _ _ _ (c .before .before .before .before .before .before .before .before .before .before .before .before .before .before .before .before .before .before .clear-words .ensures) (c .before .before .before .before .before .before .before .before .put-leaves .ensures) (c .before .before .add-reverse-edges .ensures)
+    _ _ _ (at-clear-words .clear-words .ensures) (at-put-leaves .put-leaves .ensures) (at-add-reverse-edges .add-reverse-edges .ensures)
 
 pub put-rows-spec : {M : Type 1} → statement M
 put-rows-spec =

@@ -32,9 +32,12 @@ same-length-2 c = c .before .before .before .loop .inv .3
 
 returns : tie.Need-returns Inv-loop μ-loop
 returns c =
-    let l = c .before .before .before .loop in
-    let x = c .before .before .before .before .before .before .before .before .before .before .args in
-    leaves-cut (x .vectors .now) (x .dimension) (x .degree) (x .bits) (x .planes .now) (x .nodes .now) (x .sizes .now) (length (x .floats .now)) (x .rows .now) (l .k) (l .at) _ (l .rows) (c .before .before .loop-test .taken) refl (c .if1 .taken) (l .inv .4)
+    let at-loop-test = c .before .before in
+    let at-loop = at-loop-test .before in
+    let start = at-loop .before .before .before .before .before .before .before in
+    let l = at-loop .loop in
+    let x = start .args in
+    leaves-cut (x .vectors .now) (x .dimension) (x .degree) (x .bits) (x .planes .now) (x .nodes .now) (x .sizes .now) (length (x .floats .now)) (x .rows .now) (l .k) (l .at) _ (l .rows) (at-loop-test .loop-test .taken) refl (c .if1 .taken) (l .inv .4)
 
 loop-again : tie.Need-loop-again Inv-loop μ-loop
 loop-again c =

@@ -20,9 +20,12 @@ slice-aggregate-put-row-2 c = simp length-take (omega (arith, c .before .before 
 
 returns : tie.Need-returns
 returns c =
-    let x = c .before .before .before .before .before .before .before .before .before .before .before .before .before .before .before .before .before .args in
-    let k = c .before .before .before .before .before .before .before .before .before .candidates-at in
-    place-put (x .vectors .now) (x .dimension) (x .degree) (x .bits) (x .planes .now) (x .leaf .now) (x .i) (x .lane) (x .floats .now) (x .rows .now) _ (k .result) _ _ (c .before .before .before .before .before .before .before .before .before .before .before .before .before .before .before .before .before .pre) (k .ensures) (c .before .before .put-row .ensures)
+    let at-put-row = c .before .before in
+    let at-candidates-at = at-put-row .before .before .before .before .before .before .before in
+    let start = at-candidates-at .before .before .before .before .before .before .before .before in
+    let x = start .args in
+    let k = at-candidates-at .candidates-at in
+    place-put (x .vectors .now) (x .dimension) (x .degree) (x .bits) (x .planes .now) (x .leaf .now) (x .i) (x .lane) (x .floats .now) (x .rows .now) _ (k .result) _ _ (start .pre) (k .ensures) (at-put-row .put-row .ensures)
 
 pub one-place-spec : {M : Type 1} → statement M
 one-place-spec =

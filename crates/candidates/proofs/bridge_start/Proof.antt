@@ -11,11 +11,16 @@ use Rattle.candidates.proofs.bridge_start.Tie as tie
 
 returns : tie.Need-returns
 returns c =
-    let a = c .before .before .before .before .before .before .before .before .before .before .before .args in
-    let d = c .before .before .before .cosine-distance-normalized in
-    let query = c .before .before .before .before .before .get-vector in
-    start-is (a .state .now) (a .n) (vectorsIn (a .dimension) (a .vectors .now)) (listWords (a .degree) (a .n) (a .rows .now) (a .bridges .now) (a .links .now)) (a .entry .0) (a .i .0) _ (d .result) (c .before .before .around-list .result) (c .before .around-list2 .result) (query .ensures)
-    (d .ensures ∙ ap (distanceOf binary32 _) (c .before .before .before .before .get-vector2 .ensures)) (c .before .before .around-list .ensures) (c .before .around-list2 .ensures)
+    let at-around-list = c .before .before in
+    let at-cosine-distance-normalized = at-around-list .before in
+    let at-get-vector2 = at-cosine-distance-normalized .before in
+    let at-get-vector = at-get-vector2 .before in
+    let start = at-get-vector .before .before .before .before .before .before in
+    let a = start .args in
+    let d = at-cosine-distance-normalized .cosine-distance-normalized in
+    let query = at-get-vector .get-vector in
+    start-is (a .state .now) (a .n) (vectorsIn (a .dimension) (a .vectors .now)) (listWords (a .degree) (a .n) (a .rows .now) (a .bridges .now) (a .links .now)) (a .entry .0) (a .i .0) _ (d .result) (at-around-list .around-list .result) (c .before .around-list2 .result) (query .ensures)
+    (d .ensures ∙ ap (distanceOf binary32 _) (at-get-vector2 .get-vector2 .ensures)) (at-around-list .around-list .ensures) (c .before .around-list2 .ensures)
 
 pub bridge-start-spec : {M : Type 1} → statement M
 bridge-start-spec =

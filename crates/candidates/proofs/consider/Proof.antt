@@ -16,19 +16,29 @@ returns c =
 
 returns-2 : tie.Need-returns-2
 returns-2 c =
-    let a = c .before .before .before .before .before .before .before .before .before .before .before .args in
-    let w = c .before .before .before .before .before .before .word-at in
-    let d = c .before .before .cosine-distance-normalized in
-    is-nearer (a .state .now) (a .n) (vectorsIn (a .dimension) (a .vectors .now)) (a .query .now) (a .c .0) (w .result) (a .best) (d .result) (w .ensures) (c .before .before .before .before .if1 .left)
-    (d .ensures ∙ ap (distanceOf binary32 (a .query .now)) (c .before .before .before .get-vector .ensures)) (c .if2 .taken)
+    let at-cosine-distance-normalized = c .before .before in
+    let at-get-vector = at-cosine-distance-normalized .before in
+    let at-if1 = at-get-vector .before in
+    let at-word-at = at-if1 .before .before in
+    let start = at-word-at .before .before .before .before .before in
+    let a = start .args in
+    let w = at-word-at .word-at in
+    let d = at-cosine-distance-normalized .cosine-distance-normalized in
+    is-nearer (a .state .now) (a .n) (vectorsIn (a .dimension) (a .vectors .now)) (a .query .now) (a .c .0) (w .result) (a .best) (d .result) (w .ensures) (at-if1 .if1 .left)
+    (d .ensures ∙ ap (distanceOf binary32 (a .query .now)) (at-get-vector .get-vector .ensures)) (c .if2 .taken)
 
 returns-3 : tie.Need-returns-3
 returns-3 c =
-    let a = c .before .before .before .before .before .before .before .before .before .before .before .args in
-    let w = c .before .before .before .before .before .before .word-at in
-    let d = c .before .before .cosine-distance-normalized in
-    not-nearer (a .state .now) (a .n) (vectorsIn (a .dimension) (a .vectors .now)) (a .query .now) (a .c .0) (w .result) (a .best) (d .result) (w .ensures) (c .before .before .before .before .if1 .left)
-    (d .ensures ∙ ap (distanceOf binary32 (a .query .now)) (c .before .before .before .get-vector .ensures)) (c .if2 .left)
+    let at-cosine-distance-normalized = c .before .before in
+    let at-get-vector = at-cosine-distance-normalized .before in
+    let at-if1 = at-get-vector .before in
+    let at-word-at = at-if1 .before .before in
+    let start = at-word-at .before .before .before .before .before in
+    let a = start .args in
+    let w = at-word-at .word-at in
+    let d = at-cosine-distance-normalized .cosine-distance-normalized in
+    not-nearer (a .state .now) (a .n) (vectorsIn (a .dimension) (a .vectors .now)) (a .query .now) (a .c .0) (w .result) (a .best) (d .result) (w .ensures) (at-if1 .if1 .left)
+    (d .ensures ∙ ap (distanceOf binary32 (a .query .now)) (at-get-vector .get-vector .ensures)) (c .if2 .left)
 
 pub consider-spec : {M : Type 1} → statement M
 consider-spec =

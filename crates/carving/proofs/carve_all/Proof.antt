@@ -66,15 +66,25 @@ slice-aggregate-deal : tie.Need-slice-aggregate-deal
 slice-aggregate-deal c = sym (ap length (part-is (c .before .before)) ∙ length-upTo _)
 
 slice-aggregate-deal-3 : tie.Need-slice-aggregate-deal-3
-slice-aggregate-deal-3 c = sym (first-words (c .before .before .before .before .before .before .before .before .before .before .before .before))
+slice-aggregate-deal-3 c =
+    let back = c .before .before .before .before .before .before .before .before .before .before .before .before in
+    sym (first-words (back))
 
 -- ---- its buckets
 
 slice-aggregate-carve-buckets : tie.Need-slice-aggregate-carve-buckets
-slice-aggregate-carve-buckets c = sym (array-back (c .before .before .before .before .before .before .before .before .before .before .before .before .before .before .before .before .before .before .before .before .before .before) (c .before .before .before .before .before .before .before .before .before .before .before .before .before .before .before .before .all-positions2 .last .1 .0) (c .before .before .before .before .before .before .before .before .before .before .before .before .before .before .before .before .all-positions2 .kept .1 .0))
+slice-aggregate-carve-buckets c =
+    let back-1 = c .before .before .before .before .before .before .before .before .before .before .before .before in
+    let at-all-positions2 = back-1 .before .before .before .before in
+    let back = at-all-positions2 .before .before .before .before .before .before in
+    sym (array-back (back) (at-all-positions2 .all-positions2 .last .1 .0) (at-all-positions2 .all-positions2 .kept .1 .0))
 
 slice-aggregate-carve-buckets-3 : tie.Need-slice-aggregate-carve-buckets-3
-slice-aggregate-carve-buckets-3 c = sym (array-back (c .before .before .before .before .before .before .before .before .before .before .before .before .before .before .before .before .before .before .before .before .before .before .before .before) (c .before .before .before .before .before .before .before .before .before .before .before .deal .last .1 .1 .1 .1 .1 .1 .1 .0) (c .before .before .before .before .before .before .before .before .before .before .before .deal .kept .1 .1 .1 .1 .1 .1 .1 .0))
+slice-aggregate-carve-buckets-3 c =
+    let at-deal = c .before .before .before .before .before .before .before .before .before .before .before in
+    let back-1 = at-deal .before .before .before .before .before .before .before .before .before .before .before .before in
+    let back = back-1 .before in
+    sym (array-back (back) (at-deal .deal .last .1 .1 .1 .1 .1 .1 .1 .0) (at-deal .deal .kept .1 .1 .1 .1 .1 .1 .1 .0))
 
 carve-buckets-requires : tie.Need-carve-buckets-requires
 carve-buckets-requires c κs =

@@ -44,14 +44,19 @@ slice-aggregate-deal : tie.Need-slice-aggregate-deal
 slice-aggregate-deal c = sym (ap length (part-is (c .before .before .before)))
 
 slice-aggregate-deal-2 : tie.Need-slice-aggregate-deal-2
-slice-aggregate-deal-2 c = sym (cards-fit (c .before .before .before .before .before .before .before .before .before .before .before .before .before .before .before .before))
+slice-aggregate-deal-2 c =
+    let back-1 = c .before .before .before .before .before .before .before .before .before .before .before .before in
+    let back = back-1 .before .before .before .before in
+    sym (cards-fit (back))
 
 returns : tie.Need-returns
 returns c =
-    let d = c .before .before .before .before .before .before .before .before .before .before .before .before .before .before .before .before in
+    let at-deal = c .before .before .before .before .before .before .before .before in
+    let back = at-deal .before .before .before .before .before .before .before .before in
+    let d = back in
     let s = start d in
     let x = s .args in
-    let dealt = c .before .before .before .before .before .before .before .before .deal in
+    let dealt = at-deal .deal in
     subst (λ (l : List ℕ). Holding (bucketsOf (x .p .«min_leaf») (x .p .«leader_fraction») (vectorsIn (x .p .dimension) (x .vectors .now)) (x .level) l) (dealt .last .1 .1 .1 .1 .0) (dealt .last .1 .1 .1 .1 .1 .0)) (part-is d)
     (dealt .ensures .dealt (fitting-down (x .level) _ (x .nodes .now) (x .marks .now) (length (x .ids .now)) (length (x .room .now)) (length (x .cards .now)) (s .pre) (part-is d) _ (cards-fit s)))
 

@@ -93,11 +93,14 @@ sizes-of-requires c κs =
 
 returns-4 : tie.Need-returns-4
 returns-4 c =
-    let at = c .before .before .before .before .before .before .before .before in
-    let x = c .before .before .before .before .before .before .before .before .before .before .before .before .before .before .before .before .args in
+    let at-sizes-of = c .before .before in
+    let back = at-sizes-of .before .before .before .before .before .before in
+    let start = back .before .before .before .before .before .before .before .before in
+    let at = back in
+    let x = start .args in
     let size : ℕ = 2 * x .n in
     let all = at .carve-all in
-    let made = c .before .before .sizes-of in
+    let made = at-sizes-of .sizes-of in
     let sizes : List ℕ = made .last .1 .0 in
     let front = take-append-le (all .result) (marks at) (drop size (replicate 2048 0)) (total-within at) in
     record {

@@ -11,12 +11,18 @@ use Rattle.chains.proofs.append_slot.Tie as tie
 returns : tie.Need-returns
 unfolding appendSlot
 returns c =
-    let a = c .before .before .before .before .before .before .before .before .before .before .before .before .before .before .before .before .before .before .args in
-    let three = c .before .before .put3 in
-    let two = c .before .before .before .before .before .before .before .put2 in
-    let one = c .before .before .before .before .before .before .before .before .before .before .before .put in
-    let place = c .before .before .before .before .before .before .before .before .before .before .before .before .before .link-place in
-    let tail = c .before .before .before .before .before .before .before .before .before .before .before .before .before .before .word-at in
+    let at-put3 = c .before .before in
+    let at-put2 = at-put3 .before .before .before .before .before in
+    let at-put = at-put2 .before .before .before .before in
+    let at-link-place = at-put .before .before in
+    let at-word-at = at-link-place .before in
+    let start = at-word-at .before .before .before .before in
+    let a = start .args in
+    let three = at-put3 .put3 in
+    let two = at-put2 .put2 in
+    let one = at-put .put in
+    let place = at-link-place .link-place in
+    let tail = at-word-at .word-at in
     three .ensures
     ∙ ap (λ (l : List ℕ). set l (a .n + a .node .0) (a .slot + 1))
     (two .ensures

@@ -38,7 +38,9 @@ same-length : tie.Need-same-length Inv-loop μ-loop
 same-length c = c .before .loop .inv .2
 
 same-length-2 : tie.Need-same-length-2 Inv-loop μ-loop
-same-length-2 c = c .before .loop .inv .3 ∙ c .before .before .before .before .before .before .before .before .before .before .clear-links .kept .0
+same-length-2 c =
+    let at-clear-links = c .before .before .before .before .before .before .before .before .before .before in
+    c .before .loop .inv .3 ∙ at-clear-links .clear-links .kept .0
 
 same-length-3 : tie.Need-same-length-3 Inv-loop μ-loop
 same-length-3 c = c .before .loop .inv .4 ∙ c .before .before .before .before .mark-reachable .kept .1 .1 .1 .1 .0

@@ -13,11 +13,18 @@ returns c =
 
 returns-2 : tie.Need-returns-2
 returns-2 c =
-    let a = c .before .before .before .before .before .before .before .before .before .before .before .before .before .before .before .before .before .before .before .before .before .before .before .before .before .before .args in
-    let w = c .before .before .before .before .before .before .before .before .before .before .before .before .before .before .before .before .before .before .before .word-at in
-    let near = c .before .before .before .before .before .before .before .before .before .before .before .before .before .before .bridge-start in
-    turn-bridged (a .degree) (a .rows .now) (vectorsIn (a .dimension) (a .vectors .now)) (a .entry .0) (a .n) (a .i) (a .count) (w .result) (a .bridges .now) (a .links .now) (a .state .now) (w .ensures) (near .result .0) (c .before .before .before .before .before .before .before .before .before .before .before .before .put-bridge .last .0) (c .before .before .before .before .before .before .before .before .chain-bridge .last .0)
-    (c .before .before .mark-reachable .last .1 .1 .1 .1 .0) (c .before .before .before .before .before .before .before .before .before .before .before .before .before .before .before .before .before .before .if1 .left) (near .ensures) (c .before .before .before .before .before .before .before .before .before .before .before .before .put-bridge .ensures) (c .before .before .before .before .before .before .before .before .chain-bridge .ensures) (c .before .before .mark-reachable .ensures)
+    let at-mark-reachable = c .before .before in
+    let at-chain-bridge = at-mark-reachable .before .before .before .before .before .before in
+    let at-put-bridge = at-chain-bridge .before .before .before .before in
+    let at-bridge-start = at-put-bridge .before .before in
+    let at-if1 = at-bridge-start .before .before .before .before in
+    let at-word-at = at-if1 .before in
+    let start = at-word-at .before .before .before .before .before .before .before in
+    let a = start .args in
+    let w = at-word-at .word-at in
+    let near = at-bridge-start .bridge-start in
+    turn-bridged (a .degree) (a .rows .now) (vectorsIn (a .dimension) (a .vectors .now)) (a .entry .0) (a .n) (a .i) (a .count) (w .result) (a .bridges .now) (a .links .now) (a .state .now) (w .ensures) (near .result .0) (at-put-bridge .put-bridge .last .0) (at-chain-bridge .chain-bridge .last .0)
+    (at-mark-reachable .mark-reachable .last .1 .1 .1 .1 .0) (at-if1 .if1 .left) (near .ensures) (at-put-bridge .put-bridge .ensures) (at-chain-bridge .chain-bridge .ensures) (at-mark-reachable .mark-reachable .ensures)
 
 pub turn-spec : {M : Type 1} → statement M
 turn-spec =

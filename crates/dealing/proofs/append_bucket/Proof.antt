@@ -29,11 +29,16 @@ append-if-requires c κs =
 
 loop-again : tie.Need-loop-again Inv-loop μ-loop
 loop-again c =
-    let l = c .before .before .before .before .before .before .before .before .loop in
-    let s = c .before .before .before .before .before .before .before .before .before .before .before .before in
+    let at-append-if = c .before .before in
+    let at-is-named = at-append-if .before .before .before in
+    let at-loop-test = at-is-named .before .before in
+    let at-loop = at-loop-test .before in
+    let back = at-loop .before .before .before .before in
+    let l = at-loop .loop in
+    let s = back in
     let x = s .args in
-    let done = c .before .before .append-if .ensures in
-    appended-more (x .l) (x .ids .now) (x .cards .now) (x .to .now) (x .held) (s .pre .0) (s .pre .1) (l .i) (l .at) (l .to) (l .inv) (c .before .before .before .before .before .before .before .loop-test .taken) _ (c .before .before .before .before .before .is-named .ensures) _ _ (done .0) (done .1)
+    let done = at-append-if .append-if .ensures in
+    appended-more (x .l) (x .ids .now) (x .cards .now) (x .to .now) (x .held) (s .pre .0) (s .pre .1) (l .i) (l .at) (l .to) (l .inv) (at-loop-test .loop-test .taken) _ (at-is-named .is-named .ensures) _ _ (done .0) (done .1)
 
 same-length : tie.Need-same-length Inv-loop μ-loop
 same-length c =

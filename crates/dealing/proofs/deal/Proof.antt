@@ -51,9 +51,11 @@ mul-if4 c =
 
 returns-4 : tie.Need-returns-4
 returns-4 c =
-    let x = c .before .before .before .before .before .before .before .before .before .before .before .args in
+    let at-fan-of = c .before .before .before .before in
+    let start = at-fan-of .before .before .before .before .before .before .before in
+    let x = start .args in
     record {
-      dealt = λ f. absurd (c .if4 .taken (f .nodes-size ∙ ap (λ (k : ℕ). k * length (x .ids .now)) (sym (c .before .before .before .before .fan-of .ensures))));
+      dealt = λ f. absurd (c .if4 .taken (f .nodes-size ∙ ap (λ (k : ℕ). k * length (x .ids .now)) (sym (at-fan-of .fan-of .ensures))));
       kept = λ _. (refl, refl);
     }
 
@@ -70,10 +72,16 @@ returns-8 : tie.Need-returns-8
 returns-8 c = record { dealt = λ f. absurd (c .if8 .taken (f .cards-size)); kept = λ _. (refl, refl) }
 
 deal-all-requires : tie.Need-deal-all-requires
-deal-all-requires c κs = (c .before .before .before .before .before .before .before .before .before .before .before .before .fan-of .ensures, fitting (c .before .before .before .before))
+deal-all-requires c κs =
+    let back = c .before .before .before .before in
+    let at-fan-of = back .before .before .before .before .before .before .before .before in
+    (at-fan-of .fan-of .ensures, fitting (back))
 
 returns-9 : tie.Need-returns-9
-returns-9 c = record { dealt = λ _. c .before .before .before .before .before .before .before .before .deal-all .ensures; kept = λ f. absurd (f (fitting (c .before .before .before .before .before .before .before .before .before .before .before .before .before))) }
+returns-9 c =
+    let at-deal-all = c .before .before .before .before .before .before .before .before in
+    let back = at-deal-all .before .before .before .before .before in
+    record { dealt = λ _. at-deal-all .deal-all .ensures; kept = λ f. absurd (f (fitting (back))) }
 
 pub deal-spec : {M : Type 1} → statement M
 deal-spec =

@@ -136,12 +136,18 @@ gather-requires c κs =
     )
 
 same-length-3 : tie.Need-same-length-3
-same-length-3 c = c .before .before .before .before .before .before .gather .kept .1 .1 .1 .1 .0 ∙ room-size (c .before .before .before .before .before .before .before .before .before .before .before .before .before .before .before .before .before .before .before .before .before)
+same-length-3 c =
+    let at-gather = c .before .before .before .before .before .before in
+    let back-1 = at-gather .before .before .before .before .before .before .before .before .before .before .before .before in
+    let back = back-1 .before .before .before in
+    at-gather .gather .kept .1 .1 .1 .1 .0 ∙ room-size (back)
 
 returns : tie.Need-returns
 returns c =
-    let a = c .before .before .before .before .before .before .before .before .before .before .before .before .before .before in
-    let all = c .before .before .before .before .before .before .gather in
+    let at-gather = c .before .before .before .before .before .before in
+    let back = at-gather .before .before .before .before .before .before .before .before in
+    let a = back in
+    let all = at-gather .gather in
     (all .ensures .0 ∙ ap flatten (buckets-are a), all .ensures .1 ∙ ap marksOf (buckets-are a))
 
 pub deal-all-spec : {M : Type 1} → statement M

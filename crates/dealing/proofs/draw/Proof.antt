@@ -10,10 +10,13 @@ use Rattle.dealing.proofs.draw.Tie as tie
 
 returns : tie.Need-returns
 returns c =
-    let s = c .before .before .before .before .before .before .before .before .before .before .before .before .before .before in
+    let at-nodes-at = c .before .before in
+    let at-draw-leaders = at-nodes-at .before .before .before .before .before .before in
+    let back = at-draw-leaders .before .before .before .before .before .before in
+    let s = back in
     let x = s .args in
-    c .before .before .nodes-at .ensures
-    ∙ ap (map (λ (p : ℕ). getD (x .ids .now) p 0)) (c .before .before .before .before .before .before .before .before .draw-leaders .ensures ∙ drawn-all (x .level) (length (x .ids .now)) (length (x .left .now)) (x .leaders .now) (s .pre .1) (s .pre .2))
+    at-nodes-at .nodes-at .ensures
+    ∙ ap (map (λ (p : ℕ). getD (x .ids .now) p 0)) (at-draw-leaders .draw-leaders .ensures ∙ drawn-all (x .level) (length (x .ids .now)) (length (x .left .now)) (x .leaders .now) (s .pre .1) (s .pre .2))
 
 pub draw-spec : {M : Type 1} → statement M
 draw-spec =

@@ -41,9 +41,11 @@ finish-requires c κs =
 
 returns : tie.Need-returns
 returns c =
-    let all = c .before .before .before .before .before .before .before .before .before .before .before .before .before .before in
+    let at-finish = c .before .before .before .before in
+    let back = at-finish .before .before .before .before .before .before .before .before .before .before in
+    let all = back in
     let x = start all .args in
-    let end = c .before .before .before .before .finish in (
+    let end = at-finish .finish in (
       end .ensures .0 ∙ gathered-nodes (x .min-leaf) (bucketsBy (x .leaders) (x .ids .now) (x .cards .now)) _ _ _ _ _ (all .gather-all .ensures),
       end .ensures .1 ∙ gathered-marks (x .min-leaf) (bucketsBy (x .leaders) (x .ids .now) (x .cards .now)) _ _ _ _ _ (all .gather-all .ensures) _ (length-take-le (all .gather-all .result .held) (small all) (held-fits all)),
     )

@@ -13,11 +13,15 @@ use Rattle.dealing.proofs.gather_one.Tie as tie
 
 returns : tie.Need-returns
 returns c =
-    let s = c .before .before .before .before .before .before .before .before .before .before .before .before .before .before .before .before .before .before .before in
+    let at-place = c .before .before .before .before in
+    let at-if1 = at-place .before .before .before .before .before in
+    let at-append-bucket = at-if1 .before .before .before in
+    let back = at-append-bucket .before .before .before .before .before .before .before in
+    let s = back in
     let x = s .args in
-    let found = c .before .before .before .before .before .before .before .before .before .before .before .before .append-bucket in
+    let found = at-append-bucket .append-bucket in
     let bucket : List ℕ = bucketAt (x .l) (x .ids .now) (x .cards .now) in
-    gathers-large (x .min-leaf) bucket (x .ids .now) (x .cards .now) (x .g .at) (x .g .held) (x .small .now) (x .nodes .now) (x .marks .now) _ (found .result) (s .pre) (found .ensures .0) (found .ensures .1) _ _ _ refl (c .before .before .before .before .before .before .before .before .before .if1 .taken) (c .before .before .before .before .place .ensures)
+    gathers-large (x .min-leaf) bucket (x .ids .now) (x .cards .now) (x .g .at) (x .g .held) (x .small .now) (x .nodes .now) (x .marks .now) _ (found .result) (s .pre) (found .ensures .0) (found .ensures .1) _ _ _ refl (at-if1 .if1 .taken) (at-place .place .ensures)
 
 slice-aggregate-place : tie.Need-slice-aggregate-place
 slice-aggregate-place c =

@@ -11,9 +11,12 @@ use Rattle.distance.proofs.cosine_distance_normalized8.Tie as tie
 returns : tie.Need-returns
 unfolding ofBits
 returns c =
-    let x = c .before .before .before .before .before .before .before .before .before .before .before .before .before .before .before .before .before .before .before .args in
-    let dots = c .before .before .before .before .before .before .before .before .dot8 in
-    let long = eight-true _ _ _ _ _ _ _ _ (c .before .before .before .before .before .before .before .before .before .if1 .taken) in
+    let at-dot8 = c .before .before .before .before .before .before .before .before in
+    let at-if1 = at-dot8 .before in
+    let start = at-if1 .before .before .before .before .before .before .before .before .before .before in
+    let x = start .args in
+    let dots = at-dot8 .dot8 in
+    let long = eight-true _ _ _ _ _ _ _ _ (at-if1 .if1 .taken) in
     λ i. record {
       a = from-dot binary32 (x .q .now) (x .a .now) (dots .result .a) (ap (λ (r : Eight). r .a) (dots .ensures)) (long .0) i;
       b = from-dot binary32 (x .q .now) (x .b .now) (dots .result .b) (ap (λ (r : Eight). r .b) (dots .ensures)) (long .1) i;

@@ -28,10 +28,13 @@ dot-block-requires c κs = search needs
 returns : tie.Need-returns
 unfolding ofBits
 returns c =
-    let q = c .before .before .before .before .before .before .before .before .before .before .before .before .args .q .now in
-    let b = c .before .before .before .before .before .before .before .before .before .before .before .before .args .block .now in
-    let e = c .before .before .before .before .before .before .before .before .before .if1 .taken in
-    let dots = c .before .before .before .before .before .before .before .before .dot-block in
+    let at-dot-block = c .before .before .before .before .before .before .before .before in
+    let at-if1 = at-dot-block .before in
+    let start = at-if1 .before .before .before in
+    let q = start .args .q .now in
+    let b = start .args .block .now in
+    let e = at-if1 .if1 .taken in
+    let dots = at-dot-block .dot-block in
     λ i. record {
       a = from-dot binary32 q (rowIn b 0) (dots .result .a) (ap (λ (r : Eight). r .a) (dots .ensures)) (as-long q b 0 e) i;
       b = from-dot binary32 q (rowIn b 1) (dots .result .b) (ap (λ (r : Eight). r .b) (dots .ensures)) (as-long q b 1 e) i;

@@ -20,12 +20,16 @@ params s =
 
 returns-2 : tie.Need-returns-2
 returns-2 c =
-    let s = c .before .before .before .before .before .before .before .before .before .before .before in
+    let at-new = c .before .before .before .before in
+    let at-if1 = at-new .before .before .before in
+    let at-dimension-within = at-if1 .before in
+    let back = at-dimension-within .before .before .before in
+    let s = back in
     let a = s .args in
-    let within = c .before .before .before .before .before .before .before .before .dimension-within in
+    let within = at-dimension-within .dimension-within in
     _∙_ {b = newSpec (a .dimension) (params s) (a .capacity) (a .words .now) (a .floats .now)}
-    (c .before .before .before .before .new .ensures)
-    (passed-on (a .dimension) (a .final-prune) (params s) (a .capacity) (a .words .now) (a .floats .now) (within .result) (within .ensures) (c .before .before .before .before .before .before .before .if1 .left))
+    (at-new .new .ensures)
+    (passed-on (a .dimension) (a .final-prune) (params s) (a .capacity) (a .words .now) (a .floats .now) (within .result) (within .ensures) (at-if1 .if1 .left))
 
 pub pipnn-new-spec : {M : Type 1} → statement M
 pipnn-new-spec =

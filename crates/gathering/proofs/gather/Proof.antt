@@ -21,11 +21,15 @@ returns-2 c = λ linked below long. absurd (omega (arith, c .if2 .taken, linked 
 returns-3 : tie.Need-returns-3
 unfolding listOf
 returns-3 c =
-    let a = (c .before .before .before .before .before .before .before .before .before .before .before .before .before .before .before) .args in
-    let all = c .before .before .before .before .before .before .visit-all in
-    let ends = c .before .before .visit-ends in
+    let at-visit-ends = c .before .before in
+    let at-visit-all = at-visit-ends .before .before .before .before in
+    let at-row-of = at-visit-all .before .before in
+    let back = at-row-of .before .before .before .before .before .before .before in
+    let a = (back) .args in
+    let all = at-visit-all .visit-all in
+    let ends = at-visit-ends .visit-ends in
     λ linked below long. gathering-then (getD (rowLists (a .degree) (a .rows .now)) (a .node .0) []) (otherEnds (bridgeList (a .bridges .now)) (a .node .0))
-    (subst (λ (l : List ℕ). Gathering (a .size) 0 l (a .words .now) (all .last .0) (all .result)) (c .before .before .before .before .before .before .before .before .row-of .ensures) (all .ensures))
+    (subst (λ (l : List ℕ). Gathering (a .size) 0 l (a .words .now) (all .last .0) (all .result)) (at-row-of .row-of .ensures) (all .ensures))
     (subst (λ (l : List ℕ). Gathering (a .size) (all .result) l (all .last .0) (ends .last .0) (ends .result)) (linked-ends (a .size) (a .bridges .now) (a .links .now) (a .node .0) linked below) (ends .ensures))
 
 pub gather-spec : {M : Type 1} → statement M

@@ -22,17 +22,25 @@ visit-requires c κs = let l = c .before .before .before .loop in omega (arith, 
 
 loop-less : tie.Need-loop-less Inv-loop μ-loop
 loop-less c =
-    let l = c .before .before .before .before .before .before .before .loop in
-    let a = (c .before .before .before .before .before .before .before .before .before .before .before .before) .args in
-    followed-less (a .n) (a .bridges .now) (a .links .now) (l .inv) (c .next-link .result) (c .before .before .before .before .before .before .loop-test .taken) (c .next-link .ensures)
+    let at-loop-test = c .before .before .before .before .before .before in
+    let at-loop = at-loop-test .before in
+    let back = at-loop .before .before .before .before .before in
+    let l = at-loop .loop in
+    let a = (back) .args in
+    followed-less (a .n) (a .bridges .now) (a .links .now) (l .inv) (c .next-link .result) (at-loop-test .loop-test .taken) (c .next-link .ensures)
 
 loop-again : tie.Need-loop-again Inv-loop μ-loop
 loop-again c =
-    let l = c .before .before .before .before .before .before .before .loop in
-    let a = (c .before .before .before .before .before .before .before .before .before .before .before .before) .args in
-    let v = c .before .before .before .visit in
-    followed-more (a .n) (a .bridges .now) (a .links .now) (l .inv) (c .next-link .result) (c .before .before .before .before .other-end .result .0) (v .result) (v .last .0) (c .before .before .before .before .before .before .loop-test .taken) (c .next-link .ensures)
-    (c .before .before .before .before .other-end .ensures) (v .kept .0) (v .ensures)
+    let at-visit = c .before .before .before in
+    let at-other-end = at-visit .before in
+    let at-loop-test = at-other-end .before .before in
+    let at-loop = at-loop-test .before in
+    let back = at-loop .before .before .before .before .before in
+    let l = at-loop .loop in
+    let a = (back) .args in
+    let v = at-visit .visit in
+    followed-more (a .n) (a .bridges .now) (a .links .now) (l .inv) (c .next-link .result) (at-other-end .other-end .result .0) (v .result) (v .last .0) (at-loop-test .loop-test .taken) (c .next-link .ensures)
+    (at-other-end .other-end .ensures) (v .kept .0) (v .ensures)
 
 same-length : tie.Need-same-length Inv-loop μ-loop
 same-length c = c .before .loop .inv .kept

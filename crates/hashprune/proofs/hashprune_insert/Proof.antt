@@ -24,10 +24,14 @@ returns-4 : tie.Need-returns-4
 returns-4 c = λ old t. absurd (omega (arith, c .if4 .taken, t .row-most))
 
 returns-5 : tie.Need-returns-5
-returns-5 c = λ old t.
-    let a = c .before .before .before .before .before .before .before .before .before .before .before .before .before .before .args in
-    c .before .before .insert-fitting .ensures
-    ∙ ap (λ (v : List Float). rowAfter (a .vectors .now) (a .dimension) (a .bits) (a .planes .now) v (a .candidates .now) (a .far .now) (a .row .now)) (c .before .before .before .before .get-vector .ensures)
+returns-5 c =
+    let at-insert-fitting = c .before .before in
+    let at-get-vector = at-insert-fitting .before .before in
+    let start = at-get-vector .before .before .before .before .before .before .before .before .before .before in
+    λ old t.
+    let a = start .args in
+    at-insert-fitting .insert-fitting .ensures
+    ∙ ap (λ (v : List Float). rowAfter (a .vectors .now) (a .dimension) (a .bits) (a .planes .now) v (a .candidates .now) (a .far .now) (a .row .now)) (at-get-vector .get-vector .ensures)
     ∙ turn-is (a .vectors .now) (a .dimension) (a .bits) (a .planes .now) (a .p .0) (a .candidates .now) (a .far .now) (a .row .now) old t
 
 pub hashprune-insert-spec : {M : Type 1} → statement M

@@ -121,19 +121,33 @@ same-length-3 : tie.Need-same-length-3
 same-length-3 c = omega (arith, c .before .before .before .before .before .before .before .ids3 .given, c .before .before .before .before .before .before .before .before .before .before .before .before .before .before .before .before .before .before .ids2 .given, c .before .before .before .before .before .before .before .before .before .before .before .before .before .before .before .before .before .before .before .before .before .before .before .before .before .before .before .before .before .before .before .before .before .before .rank-row .kept .1 .1 .1 .1 .1 .0)
 
 same-length-4 : tie.Need-same-length-4
-same-length-4 c = c .before .before .before .before .before .before .before .before .before .before .merge-row .kept .1 .1 .0 ∙ c .before .before .before .before .before .before .before .before .before .before .before .before .before .before .before .before .before .before .before .before .before .before .before .before .before .select .kept .1 .1 .1 .1 .1 .1 .1 .0
+same-length-4 c =
+    let at-merge-row = c .before .before .before .before .before .before .before .before .before .before in
+    let back-1 = at-merge-row .before .before .before .before .before .before .before .before .before .before .before .before in
+    let at-select = back-1 .before .before .before in
+    at-merge-row .merge-row .kept .1 .1 .0 ∙ at-select .select .kept .1 .1 .1 .1 .1 .1 .1 .0
 
 same-length-5 : tie.Need-same-length-5
-same-length-5 c = c .before .before .before .before .before .before .before .before .before .before .merge-row .kept .1 .1 .1 .0 ∙ c .before .before .before .before .before .before .before .before .before .before .before .before .before .before .before .before .before .before .before .before .before .before .before .before .before .select .kept .1 .1 .1 .1 .1 .1 .1 .1 .0
+same-length-5 c =
+    let at-merge-row = c .before .before .before .before .before .before .before .before .before .before in
+    let back-1 = at-merge-row .before .before .before .before .before .before .before .before .before .before .before .before in
+    let at-select = back-1 .before .before .before in
+    at-merge-row .merge-row .kept .1 .1 .1 .0 ∙ at-select .select .kept .1 .1 .1 .1 .1 .1 .1 .1 .0
 
 returns : tie.Need-returns
 returns c =
-    let a = c .before .before .before .before .before .before .before .before .before .before .before .before .before .before .before .before .before .before .before .before .before .before .before .before .before .before .before .before .before .before .before .before .before .before .before .before .before .before .before .before .before .before .before .before .before .before .before .before .args in
-    let r = c .before .before .before .before .before .before .before .before .before .before .before .before .before .before .before .before .before .before .before .before .before .before .before .before .before .before .before .before .before .before .before .before .before .before .rank-row in
-    let t = c .before .before .before .before .before .before .before .before .before .before .before .before .before .before .before .before .before .before .before .before .before .before .before .before .before .select in
-    let m = c .before .before .before .before .before .before .before .before .before .before .before .before .before .before .before .before .lesser in
+    let at-merge-row = c .before .before .before .before .before .before .before .before .before .before in
+    let at-lesser = at-merge-row .before .before .before .before .before .before in
+    let at-select = at-lesser .before .before .before .before .before .before .before .before .before in
+    let at-rank-row = at-select .before .before .before .before .before .before .before .before .before in
+    let back-1 = at-rank-row .before .before .before .before .before .before .before .before .before .before .before .before in
+    let start = back-1 .before .before in
+    let a = start .args in
+    let r = at-rank-row .rank-row in
+    let t = at-select .select in
+    let m = at-lesser .lesser in
     let D : ℕ = length (a .row .now) - 1 in
-    c .before .before .before .before .before .before .before .before .before .before .merge-row .ensures
+    at-merge-row .merge-row .ensures
     ∙ ap (λ (ps : List (ℕ × ℕ)). rowBlock D (mergedPairs D ps))
     (joined D (oldPairs (a .vectors .now) (a .dimension) (a .p .now) (a .row .now))
     (selectedPairs (a .vectors .now) (a .dimension) (a .bits) (a .planes .now) (a .p .now) (a .candidates .now) (a .far .now)) (r .result) (m .result)

@@ -27,10 +27,14 @@ joined level n count start left out h e k s =
 
 returns : tie.Need-returns
 returns c =
-    let draw = c .before .before .before .before .draw in
-    let lesser = c .before .before .before .before .before .before .before .lesser in
-    let up = c .before .before .before .before .before .before .before .before .before .before .count-up in
-    let start = c .before .before .before .before .before .before .before .before .before .before .before .before .before .before in
+    let at-draw = c .before .before .before .before in
+    let at-lesser = at-draw .before .before .before in
+    let at-count-up = at-lesser .before .before .before in
+    let back = at-count-up .before .before .before .before in
+    let draw = at-draw .draw in
+    let lesser = at-lesser .lesser in
+    let up = at-count-up .count-up in
+    let start = back in
     let x = start .args in
     draw .ensures ∙ joined (x .level) (length (x .left .now)) (lesser .result) _ _ (x .out .now) (start .fits .level .fits) (up .ensures) (lesser .ensures) refl
 

@@ -6,9 +6,12 @@ use Rattle.leaf_candidates.proofs.nearest.Tie as tie
 
 returns : tie.Need-returns
 returns c =
-    let x = c .before .before .before .before .before .before .before .before .before .before .before .before .before .before .before .before .before .args in
-    let a = c .before .before .before .before .before .before .before .before .before .before .before .offer in
-    let b = c .before .before .before .before .offer2 in
+    let at-offer2 = c .before .before .before .before in
+    let at-offer = at-offer2 .before .before .before .before .before .before .before in
+    let start = at-offer .before .before .before .before .before .before in
+    let x = start .args in
+    let a = at-offer .offer in
+    let b = at-offer2 .offer2 in
     nearest-of (x .floats .now) (x .lane) (x .size) (x .i) (a .result) (b .result) (x .keys .now) (x .places .now) _ _ _ _
     (a .kept .1 .1 .1 .1 .0) (a .kept .1 .1 .1 .1 .1 .0) (b .kept .1 .1 .1 .1 .0) (b .kept .1 .1 .1 .1 .1 .0) (a .ensures) (b .ensures)
 

@@ -71,12 +71,14 @@ same-length c = c .before .loop .inv .0 ∙ c .before .before .before .before .v
 
 returns : tie.Need-returns Inv-loop μ-loop
 returns c =
+    let at-visit = c .before .before .before .before in
+    let start-2 = at-visit .before .before .before .before .before .before in
     let l = c .before .loop in
-    let a = c .before .before .before .before .before .before .before .before .before .before .args in
+    let a = start-2 .args in
     let list : ℕ → List ℕ = listWords (a .degree) (a .n) (a .rows .now) (a .bridges .now) (a .links .now) in
     ended list (a .n) (l .more) (l .top) (l .state) (one-false (ltb 0 (l .top)) (ltb 0 (l .more)) (c .loop-test .left))
     ∙ l .inv .2
-    ∙ start list (a .n) (a .start .0) (a .state .now) (c .before .before .before .before .visit .last .0) (c .before .before .before .before .visit .result) (c .before .before .before .before .visit .ensures)
+    ∙ start list (a .n) (a .start .0) (a .state .now) (at-visit .visit .last .0) (at-visit .visit .result) (at-visit .visit .ensures)
 
 pub mark-reachable-spec : {M : Type 1} → statement M
 mark-reachable-spec =

@@ -18,10 +18,15 @@ add-result c =
 
 returns : tie.Need-returns
 returns c =
-    let a = c .before .before .before .before .before .before .before .before .before .before .before .before .args in
-    let w = c .before .before .before .before .before .before .before .before .before .word-at in
-    visit-new (a .n) (a .v) (a .top) (w .result) (a .state .now) _ (w .ensures) (c .before .before .before .before .before .before .before .before .if1 .taken)
-    (c .before .before .put2 .ensures ∙ ap (λ (l : List ℕ). set l (a .n + a .top) (a .v)) (c .before .before .before .before .before .before .put .ensures))
+    let at-put2 = c .before .before in
+    let at-put = at-put2 .before .before .before .before in
+    let at-if1 = at-put .before .before in
+    let at-word-at = at-if1 .before in
+    let start = at-word-at .before .before .before in
+    let a = start .args in
+    let w = at-word-at .word-at in
+    visit-new (a .n) (a .v) (a .top) (w .result) (a .state .now) _ (w .ensures) (at-if1 .if1 .taken)
+    (at-put2 .put2 .ensures ∙ ap (λ (l : List ℕ). set l (a .n + a .top) (a .v)) (at-put .put .ensures))
 
 returns-2 : tie.Need-returns-2
 returns-2 c =

@@ -14,10 +14,14 @@ use Rattle.marking.proofs.visit_list.Tie as tie
 
 returns : tie.Need-returns
 returns c =
-    let a = c .before .before .before .before .before .before .before .before .before .before .before .before .before .args in
+    let at-visit-ends = c .before .before in
+    let at-visit-row = at-visit-ends .before .before .before .before in
+    let at-row-of = at-visit-row .before .before in
+    let start = at-row-of .before .before .before .before .before in
+    let a = start .args in
     let ends : List ℕ = linkedEnds (a .n) (a .bridges .now) (a .links .now) (firstLink (a .n) (a .links .now) (a .u .0)) in
-    c .before .before .visit-ends .ensures
-    ∙ ap (visitedAll (a .n) ends) (c .before .before .before .before .before .before .visit-row .ensures ∙ ap (λ (l : List ℕ). visitedAll (a .n) l (marks (a .state .now) (a .top))) (c .before .before .before .before .before .before .before .before .row-of .ensures))
+    at-visit-ends .visit-ends .ensures
+    ∙ ap (visitedAll (a .n) ends) (at-visit-row .visit-row .ensures ∙ ap (λ (l : List ℕ). visitedAll (a .n) l (marks (a .state .now) (a .top))) (at-row-of .row-of .ensures))
     ∙ sym (visit-both (a .n) (getD (rowLists (a .degree) (a .rows .now)) (a .u .0) []) ends (marks (a .state .now) (a .top)))
 
 pub visit-list-spec : {M : Type 1} → statement M

@@ -7,15 +7,15 @@ use lib.ListN.{length}
 use lib.Ieee.{Float, binary32, div, ofInt}
 use Rattle.basics.specs.Lists.{pieces}
 use Rattle.medoid.proofs.Rows.{fit}
-use Rattle.medoid.specs.Centroid.{addTo, sumsFrom, centroidOf}
+use Rattle.medoid.specs.Centroid.{addTo, rowSumsFrom, centroidOf}
 use native.Mathlib.Omega.{arith}
 use borrow.Author.Needs.{needs}
 use Rattle.medoid.proofs.centroid.Statement.{statement}
 use Rattle.medoid.proofs.centroid.Tie as tie
 
 -- where there are no components there is no sum
-no-sums : (vs : List (List Float)) → sumsFrom binary32 [] vs ≡ []
-unfolding sumsFrom addTo
+no-sums : (vs : List (List Float)) → rowSumsFrom binary32 [] vs ≡ []
+unfolding rowSumsFrom addTo
 no-sums [] = refl
 no-sums (v ∷ vs) = no-sums vs
 

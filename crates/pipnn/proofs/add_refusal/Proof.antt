@@ -67,24 +67,35 @@ returns-3 c =
 returns-4 : tie.Need-returns-4
 unfolding ownChecks
 returns-4 c =
-    turned-at 2 (Own (c .before .before .before .before .before .before .before .before .before .before .before)) (passed-2 (c .before .before))
+    let back = c .before .before in
+    let back-2 = back .before .before .before .before in
+    let back-3 = back-2 .before .before .before .before .before in
+    turned-at 2 (Own (back-3)) (passed-2 (back))
     (ap not (sym (c .before .all-finite .ensures) ∙ not-true _ (c .if4 .taken)))
-    ∙ own (c .before .before .before .before .before .before)
+    ∙ own (back-2)
 
 returns-5 : tie.Need-returns-5
 unfolding ownChecks
 returns-5 c =
-    turned-at 3 (Own (c .before .before .before .before .before .before .before .before .before .before .before .before .before .before)) (passed-3 (c .before .before .before))
-    (eq-eqb _ _ (sym (c .before .before .word-at3 .ensures) ∙ c .if5 .taken ∙ c .before .word-at4 .ensures))
-    ∙ own (c .before .before .before .before .before .before .before .before .before)
+    let at-word-at3 = c .before .before in
+    let back = at-word-at3 .before in
+    let back-2 = back .before .before .before .before .before .before in
+    let back-3 = back-2 .before .before .before .before .before in
+    turned-at 3 (Own (back-3)) (passed-3 (back))
+    (eq-eqb _ _ (sym (at-word-at3 .word-at3 .ensures) ∙ c .if5 .taken ∙ c .before .word-at4 .ensures))
+    ∙ own (back-2)
 
 returns-6 : tie.Need-returns-6
 unfolding ownChecks
 returns-6 c =
-    let t = passed-3 (c .before .before .before) in
-    none-turned (Own (c .before .before .before .before .before .before .before .before .before .before .before .before .before .before))
-    (t .0, (t .1 .0, (t .1 .1 .0, (ne-eqb _ _ (λ e. c .if5 .left (c .before .before .word-at3 .ensures ∙ e ∙ sym (c .before .word-at4 .ensures))), tt))))
-    ∙ own (c .before .before .before .before .before .before .before .before .before)
+    let at-word-at3 = c .before .before in
+    let back = at-word-at3 .before in
+    let back-2 = back .before .before .before .before .before .before in
+    let back-3 = back-2 .before .before .before .before .before in
+    let t = passed-3 (back) in
+    none-turned (Own (back-3))
+    (t .0, (t .1 .0, (t .1 .1 .0, (ne-eqb _ _ (λ e. c .if5 .left (at-word-at3 .word-at3 .ensures ∙ e ∙ sym (c .before .word-at4 .ensures))), tt))))
+    ∙ own (back-2)
 
 pub add-refusal-spec : {M : Type 1} → statement M
 add-refusal-spec =

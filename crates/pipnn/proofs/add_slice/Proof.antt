@@ -46,16 +46,23 @@ slice-write-words c =
 returns-2 : tie.Need-returns-2
 unfolding addSpec addedWords addedFloats
 returns-2 c =
-    let s = c .before .before .before .before .before .before .before .before .before .before .before .before .before .before .before .before .before .before .before .before in
-    let n = c .before .before .before .before .before .before .before .before .before .before .before .word-at in
-    let d = c .before .before .before .before .before .before .before .before .before .word-at2 in
-    let at = c .before .before .before .before .before .before .before .before .floats-size in
-    let doc = c .before .before .put-doc in
-    let vector = c .before .before .before .before .before .before .put-vector in
+    let at-put-doc = c .before .before in
+    let at-put-vector = at-put-doc .before .before .before .before in
+    let at-floats-size = at-put-vector .before .before in
+    let at-word-at2 = at-floats-size .before in
+    let at-word-at = at-word-at2 .before .before in
+    let back = at-word-at .before .before in
+    let back-2 = back .before .before .before .before .before .before .before in
+    let s = back-2 in
+    let n = at-word-at .word-at in
+    let d = at-word-at2 .word-at2 in
+    let at = at-floats-size .floats-size in
+    let doc = at-put-doc .put-doc in
+    let vector = at-put-vector .put-vector in
     let words : set (doc .last .0) nodesAt (n .result + 1) ≡ addedWords (s .args .words .now) (s .args .doc .0) = rw (doc .ensures, n .ensures) in
     let floats : vector .last .0 ≡ addedFloats (s .args .words .now) (s .args .floats .now) (s .args .vector .now) =
     rw (vector .ensures, at .ensures, n .ensures, d .ensures) in
-    _∙_ {A = Answer} (λ i. (0, words i, floats i)) (changed (refusal s) _ _ _ _ (zero (c .before .before .before .before .before .before .before .before .before .before .before .before .before)))
+    _∙_ {A = Answer} (λ i. (0, words i, floats i)) (changed (refusal s) _ _ _ _ (zero (back)))
 
 pub add-slice-spec : {M : Type 1} → statement M
 add-slice-spec =

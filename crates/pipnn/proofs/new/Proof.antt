@@ -39,29 +39,40 @@ part-clear-words-end c = let t = taken (c .before .before .before .before .befor
 
 slice-relend-prefix-clear-floats : tie.Need-slice-relend-prefix-clear-floats
 slice-relend-prefix-clear-floats c =
-    let t = taken (c .before .before .before .before .before .before .before .before .before .before .before) in
-    rw (c .before .before .before .before .before .before .before .before .floats-size .ensures) (t .floats)
+    let at-floats-size = c .before .before .before .before .before .before .before .before in
+    let back = at-floats-size .before .before .before in
+    let t = taken (back) in
+    rw (at-floats-size .floats-size .ensures) (t .floats)
 
 slice-aggregate-clear-floats : tie.Need-slice-aggregate-clear-floats
 slice-aggregate-clear-floats c =
-    let t = taken (c .before .before .before .before .before .before .before .before .before .before .before .before) in
-    sym (length-take-le _ _ (rw (c .before .before .before .before .before .before .before .before .before .floats-size .ensures) (t .floats)))
+    let at-floats-size = c .before .before .before .before .before .before .before .before .before in
+    let back = at-floats-size .before .before .before in
+    let t = taken (back) in
+    sym (length-take-le _ _ (rw (at-floats-size .floats-size .ensures) (t .floats)))
 
 returns-2 : tie.Need-returns-2
 unfolding newSpec
 returns-2 c =
-    let s = c .before .before .before .before .before .before .before .before .before .before .before .before .before .before .before .before .before .before .before .before .before in
-    let t = taken (c .before .before .before .before .before .before .before .before .before .before .before .before .before .before .before) in
-    let put = c .before .before .before .before .before .before .before .before .before .before .put-header in
-    let words-size = c .before .before .before .before .before .before .before .before .before .before .before .before .before .words-size in
-    let floats-size = c .before .before .before .before .before .before .before .before .before .before .before .before .floats-size in
-    let words = c .before .before .before .before .before .before .clear-words in
-    let floats = c .before .before .clear-floats in
+    let at-clear-floats = c .before .before in
+    let at-clear-words = at-clear-floats .before .before .before .before in
+    let at-put-header = at-clear-words .before .before .before .before in
+    let at-floats-size = at-put-header .before .before in
+    let at-words-size = at-floats-size .before in
+    let back = at-words-size .before .before in
+    let back-2 = back .before .before .before .before .before .before in
+    let s = back-2 in
+    let t = taken (back) in
+    let put = at-put-header .put-header in
+    let words-size = at-words-size .words-size in
+    let floats-size = at-floats-size .floats-size in
+    let words = at-clear-words .clear-words in
+    let floats = at-clear-floats .clear-floats in
     let made-words = new-words-made (s .args .dimension) (s .args .params) (s .args .capacity) (s .args .words .now) (s .args .floats .now)
     (words-size .result) (put .last .0) (words .last .0) (words-size .ensures) (rw (words-size .ensures) (t .words)) (put .ensures) (words .ensures) in
     let made-floats = new-floats-made (s .args .dimension) (s .args .params) (s .args .capacity) (s .args .words .now) (s .args .floats .now)
     (floats-size .result) (floats .last .0) (floats-size .ensures) (rw (floats-size .ensures) (t .floats)) (floats .ensures) in
-    _∙_ {A = Answer} (λ i. (0, made-words i, made-floats i)) (changed (refusal s) _ _ _ _ (zero (c .before .before .before .before .before .before .before .before .before .before .before .before .before .before .before)))
+    _∙_ {A = Answer} (λ i. (0, made-words i, made-floats i)) (changed (refusal s) _ _ _ _ (zero (back)))
 
 pub new-spec : {M : Type 1} → statement M
 new-spec =

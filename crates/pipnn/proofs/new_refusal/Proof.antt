@@ -53,14 +53,18 @@ cast-degree c = let limits = within _ (both-true _ _ (taken (c .before)) .0) in 
 returns-3 : tie.Need-returns-3
 unfolding newChecks
 returns-3 c =
-    turned-at 2 (K (c .before .before .before .before .before .before .before .before .before .before)) (passed-2 (c .before .before .before))
+    let back = c .before .before .before in
+    let back-2 = back .before .before .before .before .before .before .before in
+    turned-at 2 (K (back-2)) (passed-2 (back))
     (sym (c .before .store-short .ensures) ∙ c .if3 .taken)
 
 returns-4 : tie.Need-returns-4
 unfolding newChecks
 returns-4 c =
-    let t = passed-2 (c .before .before .before) in
-    none-turned (K (c .before .before .before .before .before .before .before .before .before .before))
+    let back = c .before .before .before in
+    let back-2 = back .before .before .before .before .before .before .before in
+    let t = passed-2 (back) in
+    none-turned (K (back-2))
     (t .0, (t .1 .0, (sym (c .before .store-short .ensures) ∙ c .if3 .left, tt)))
 
 pub new-refusal-spec : {M : Type 1} → statement M

@@ -10,26 +10,41 @@ use Rattle.recognise.proofs.recognise.Tie as tie
 returns : tie.Need-returns
 unfolding recognisedValues
 returns c =
-    let a = c .before .before .before .before .before .before .before .before .before .before .before .before .before .before .before .before .before .before .args in
-    search-refused _ _ (a .words .now) (a .floats .now) (a .query .now) (a .ef) (a .limit) _ _ refl refl _ (c .before .before .before .before .before .before .before .before .search-with-ef .ensures) (c .if1 .taken)
+    let at-search-with-ef = c .before .before .before .before .before .before .before .before in
+    let start = at-search-with-ef .before .before .before .before .before .before .before .before .before .before in
+    let a = start .args in
+    search-refused _ _ (a .words .now) (a .floats .now) (a .query .now) (a .ef) (a .limit) _ _ refl refl _ (at-search-with-ef .search-with-ef .ensures) (c .if1 .taken)
 
 returns-2 : tie.Need-returns-2
 unfolding recognisedValues
 returns-2 c =
-    let a = c .before .before .before .before .before .before .before .before .before .before .before .before .before .before .before .before .before .before .before .before .args in
-    limit-refused _ _ (a .words .now) (a .floats .now) (a .query .now) (a .ef) (a .limit) _ _ refl refl _ (c .before .before .before .before .before .before .before .before .before .before .search-with-ef .ensures) (c .before .before .if1 .left) (sym (c .before .is-finite .ensures) ∙ not-true _ (c .if2 .taken))
+    let at-if1 = c .before .before in
+    let at-search-with-ef = at-if1 .before .before .before .before .before .before .before .before in
+    let start = at-search-with-ef .before .before .before .before .before .before .before .before .before .before in
+    let a = start .args in
+    limit-refused _ _ (a .words .now) (a .floats .now) (a .query .now) (a .ef) (a .limit) _ _ refl refl _ (at-search-with-ef .search-with-ef .ensures) (at-if1 .if1 .left) (sym (c .before .is-finite .ensures) ∙ not-true _ (c .if2 .taken))
 
 returns-3 : tie.Need-returns-3
 unfolding recognisedValues
 returns-3 c =
-    let a = c .before .before .before .before .before .before .before .before .before .before .before .before .before .before .before .before .before .before .before .before .before .before .args in
-    found-none _ _ (a .words .now) (a .floats .now) (a .query .now) (a .ef) (a .limit) _ _ refl refl _ (c .before .before .before .before .before .before .before .before .before .before .before .before .search-with-ef .ensures) (c .before .before .before .before .if1 .left) (sym (c .before .before .before .is-finite .ensures) ∙ not-false _ (c .before .before .if2 .left)) (c .if3 .taken)
+    let at-if2 = c .before .before in
+    let at-is-finite = at-if2 .before in
+    let at-if1 = at-is-finite .before in
+    let at-search-with-ef = at-if1 .before .before .before .before .before .before .before .before in
+    let start = at-search-with-ef .before .before .before .before .before .before .before .before .before .before in
+    let a = start .args in
+    found-none _ _ (a .words .now) (a .floats .now) (a .query .now) (a .ef) (a .limit) _ _ refl refl _ (at-search-with-ef .search-with-ef .ensures) (at-if1 .if1 .left) (sym (at-is-finite .is-finite .ensures) ∙ not-false _ (at-if2 .if2 .left)) (c .if3 .taken)
 
 returns-4 : tie.Need-returns-4
 returns-4 c =
-    let a = c .before .before .before .before .before .before .before .before .before .before .before .before .before .before .before .before .before .before .before .before .before .before .before .args in
+    let at-if2 = c .before .before .before in
+    let at-is-finite = at-if2 .before in
+    let at-if1 = at-is-finite .before in
+    let at-search-with-ef = at-if1 .before .before .before .before .before .before .before .before in
+    let start = at-search-with-ef .before .before .before .before .before .before .before .before .before .before in
+    let a = start .args in
     c .decide .ensures
-    ∙ found-one _ _ (a .words .now) (a .floats .now) (a .query .now) (a .ef) (a .limit) _ _ refl refl _ (c .before .before .before .before .before .before .before .before .before .before .before .before .before .search-with-ef .ensures) (c .before .before .before .before .before .if1 .left) (sym (c .before .before .before .before .is-finite .ensures) ∙ not-false _ (c .before .before .before .if2 .left)) (c .before .if3 .left)
+    ∙ found-one _ _ (a .words .now) (a .floats .now) (a .query .now) (a .ef) (a .limit) _ _ refl refl _ (at-search-with-ef .search-with-ef .ensures) (at-if1 .if1 .left) (sym (at-is-finite .is-finite .ensures) ∙ not-false _ (at-if2 .if2 .left)) (c .before .if3 .left)
 
 pub recognise-spec : {M : Type 1} → statement M
 recognise-spec =

@@ -23,15 +23,24 @@ mul-place-8 c = omega (arith, last-fits c)
 
 returns : tie.Need-returns
 returns c =
-    let a = start (c .before .before .before .before) .args in
-    c .before .before .place8 .ensures
-    ∙ ap (λ (l : List Float). set l (getD (a .nodes .now) (a .at + 7) 0) (a .distances .h)) (c .before .before .before .before .before .before .before .place7 .ensures
-    ∙ ap (λ (l : List Float). set l (getD (a .nodes .now) (a .at + 6) 0) (a .distances .g)) (c .before .before .before .before .before .before .before .before .before .before .before .before .place6 .ensures
-    ∙ ap (λ (l : List Float). set l (getD (a .nodes .now) (a .at + 5) 0) (a .distances .f)) (c .before .before .before .before .before .before .before .before .before .before .before .before .before .before .before .before .before .place5 .ensures
-    ∙ ap (λ (l : List Float). set l (getD (a .nodes .now) (a .at + 4) 0) (a .distances .e)) (c .before .before .before .before .before .before .before .before .before .before .before .before .before .before .before .before .before .before .before .before .before .before .place4 .ensures
-    ∙ ap (λ (l : List Float). set l (getD (a .nodes .now) (a .at + 3) 0) (a .distances .d)) (c .before .before .before .before .before .before .before .before .before .before .before .before .before .before .before .before .before .before .before .before .before .before .before .before .before .before .before .place3 .ensures
-    ∙ ap (λ (l : List Float). set l (getD (a .nodes .now) (a .at + 2) 0) (a .distances .c)) (c .before .before .before .before .before .before .before .before .before .before .before .before .before .before .before .before .before .before .before .before .before .before .before .before .before .before .before .before .before .before .before .before .place2 .ensures
-    ∙ ap (λ (l : List Float). set l (getD (a .nodes .now) (a .at + 1) 0) (a .distances .b)) (c .before .before .before .before .before .before .before .before .before .before .before .before .before .before .before .before .before .before .before .before .before .before .before .before .before .before .before .before .before .before .before .before .before .before .before .before .before .place .ensures)))))))
+    let at-place8 = c .before .before in
+    let back = at-place8 .before .before in
+    let at-place7 = back .before .before .before in
+    let at-place6 = at-place7 .before .before .before .before .before in
+    let at-place5 = at-place6 .before .before .before .before .before in
+    let at-place4 = at-place5 .before .before .before .before .before in
+    let at-place3 = at-place4 .before .before .before .before .before in
+    let at-place2 = at-place3 .before .before .before .before .before in
+    let at-place = at-place2 .before .before .before .before .before in
+    let a = start (back) .args in
+    at-place8 .place8 .ensures
+    ∙ ap (λ (l : List Float). set l (getD (a .nodes .now) (a .at + 7) 0) (a .distances .h)) (at-place7 .place7 .ensures
+    ∙ ap (λ (l : List Float). set l (getD (a .nodes .now) (a .at + 6) 0) (a .distances .g)) (at-place6 .place6 .ensures
+    ∙ ap (λ (l : List Float). set l (getD (a .nodes .now) (a .at + 5) 0) (a .distances .f)) (at-place5 .place5 .ensures
+    ∙ ap (λ (l : List Float). set l (getD (a .nodes .now) (a .at + 4) 0) (a .distances .e)) (at-place4 .place4 .ensures
+    ∙ ap (λ (l : List Float). set l (getD (a .nodes .now) (a .at + 3) 0) (a .distances .d)) (at-place3 .place3 .ensures
+    ∙ ap (λ (l : List Float). set l (getD (a .nodes .now) (a .at + 2) 0) (a .distances .c)) (at-place2 .place2 .ensures
+    ∙ ap (λ (l : List Float). set l (getD (a .nodes .now) (a .at + 1) 0) (a .distances .b)) (at-place .place .ensures)))))))
 
 pub place-eight-spec : {M : Type 1} → statement M
 place-eight-spec =

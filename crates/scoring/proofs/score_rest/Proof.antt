@@ -21,11 +21,15 @@ loop-holds c = (refl, refl)
 
 loop-again : tie.Need-loop-again Inv-loop μ-loop
 loop-again c =
-    let a = (c .before .before .before .before .before .before .before .before .before .before .before) .args in
-    let l = c .before .before .before .before .before .before .loop in
-    let s = c .before .before .score-one in (
+    let at-score-one = c .before .before in
+    let at-loop-test = at-score-one .before .before .before in
+    let at-loop = at-loop-test .before in
+    let back = at-loop .before .before .before .before .before in
+    let a = (back) .args in
+    let l = at-loop .loop in
+    let s = at-score-one .score-one in (
       s .kept .0 ∙ l .inv .0,
-      ap (scoredAt (farFrom (a .query .now) (vectorsIn (a .dimension) (a .vectors .now))) (drop (l .i + 1) (a .nodes .now))) (s .ensures) ∙ scored-step (farFrom (a .query .now) (vectorsIn (a .dimension) (a .vectors .now))) (a .nodes .now) (l .i) (l .floats) (c .before .before .before .before .before .loop-test .taken) ∙ l .inv .1,
+      ap (scoredAt (farFrom (a .query .now) (vectorsIn (a .dimension) (a .vectors .now))) (drop (l .i + 1) (a .nodes .now))) (s .ensures) ∙ scored-step (farFrom (a .query .now) (vectorsIn (a .dimension) (a .vectors .now))) (a .nodes .now) (l .i) (l .floats) (at-loop-test .loop-test .taken) ∙ l .inv .1,
     )
 
 same-length : tie.Need-same-length Inv-loop μ-loop

@@ -34,16 +34,21 @@ slice-aggregate-find-scaled c = sym (room-length _ _ _ (c .before .before .scale
 
 find-scaled-requires : tie.Need-find-scaled-requires
 find-scaled-requires c κs =
-    let s = c .before .before .before .before .before .before .before .before .before .before .before .before .before .before .before in
+    let at-scale-into = c .before .before .before .before .before .before in
+    let back = at-scale-into .before .before .before .before .before .before .before .before .before in
+    let s = back in
     let a = s .args in
-    ready _ _ (a .words .now) (a .floats .now) (a .query .now) (a .k) (a .ef) (a .docs .now) (a .distances .now) (s .pre) _ (room-length _ _ _ (c .before .before .before .before .before .before .scale-into .ensures))
+    ready _ _ (a .words .now) (a .floats .now) (a .query .now) (a .k) (a .ef) (a .docs .now) (a .distances .now) (s .pre) _ (room-length _ _ _ (at-scale-into .scale-into .ensures))
 
 returns : tie.Need-returns
 returns c =
-    let s = c .before .before .before .before .before .before .before .before .before .before .before .before .before .before .before .before .before .before .before .before .before .before .before .before in
+    let at-find-scaled = c .before .before .before .before .before .before .before .before in
+    let at-scale-into = at-find-scaled .before .before .before .before .before .before .before in
+    let back = at-scale-into .before .before .before .before .before .before .before .before .before in
+    let s = back in
     let a = s .args in
-    c .before .before .before .before .before .before .before .before .find-scaled .ensures
-    ∙ ap (λ (l : List Float). replyBy (farFrom l (view (a .words .now) (a .floats .now) .vectors)) (view (a .words .now) (a .floats .now)) (a .k) (a .ef) (a .docs .now) (a .distances .now)) (room-is _ _ _ (c .before .before .before .before .before .before .before .before .before .before .before .before .before .before .before .scale-into .ensures))
+    at-find-scaled .find-scaled .ensures
+    ∙ ap (λ (l : List Float). replyBy (farFrom l (view (a .words .now) (a .floats .now) .vectors)) (view (a .words .now) (a .floats .now)) (a .k) (a .ef) (a .docs .now) (a .distances .now)) (room-is _ _ _ (at-scale-into .scale-into .ensures))
     ∙ reply-is 0 0 (a .words .now) (a .floats .now) (a .query .now) (a .k) (a .ef) (a .docs .now) (a .distances .now)
 
 pub find-spec : {M : Type 1} → statement M

@@ -57,8 +57,10 @@ slice-aggregate-beam-search-3 c =
 
 slice-aggregate-put-docs : tie.Need-slice-aggregate-put-docs
 slice-aggregate-put-docs c =
-    let beam = c .before .before .before .before .before .before .before .before .beam-search in
-    sym (length-front zeroes (beam .last .1 .1 .1 .1 .1 .1 .1 .0) (c .before .before .before .before .before .before .before .before .before .before .before .before .before .before .before .before .before .wanted .result) (beam .kept .1 .1 .1 .1 .1 .1 .1 .0) ∙ length-replicate {A = ℕ} 1024 0)
+    let at-beam-search = c .before .before .before .before .before .before .before .before in
+    let at-wanted = at-beam-search .before .before .before .before .before .before .before .before .before in
+    let beam = at-beam-search .beam-search in
+    sym (length-front zeroes (beam .last .1 .1 .1 .1 .1 .1 .1 .0) (at-wanted .wanted .result) (beam .kept .1 .1 .1 .1 .1 .1 .1 .0) ∙ length-replicate {A = ℕ} 1024 0)
 
 put-docs-requires : tie.Need-put-docs-requires
 put-docs-requires c κs =

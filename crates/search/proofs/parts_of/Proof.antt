@@ -8,16 +8,25 @@ use Rattle.search.proofs.parts_of.Tie as tie
 
 returns : tie.Need-returns
 returns c =
-    let n = c .before .before .before .before .before .before .before .before .before .before .word-at .ensures in
-    let capacity = c .before .before .before .before .before .before .before .before .before .word-at2 .ensures in
-    let degree = c .before .before .before .before .before .before .before .before .word-at3 .ensures in
-    let bridges = c .before .before .before .before .before .before .before .word-at4 .ensures in
-    let dimension = c .before .before .before .before .before .before .word-at5 .ensures in
+    let at-bridge-at = c .before .before in
+    let at-bridges-at = at-bridge-at .before in
+    let at-row-at = at-bridges-at .before in
+    let at-rows-at = at-row-at .before in
+    let at-word-at5 = at-rows-at .before in
+    let at-word-at4 = at-word-at5 .before in
+    let at-word-at3 = at-word-at4 .before in
+    let at-word-at2 = at-word-at3 .before in
+    let at-word-at = at-word-at2 .before in
+    let n = at-word-at .word-at .ensures in
+    let capacity = at-word-at2 .word-at2 .ensures in
+    let degree = at-word-at3 .word-at3 .ensures in
+    let bridges = at-word-at4 .word-at4 .ensures in
+    let dimension = at-word-at5 .word-at5 .ensures in
     record {
-      rows-from = c .before .before .before .before .before .rows-at .ensures ∙ ap rowsAt capacity;
-      rows-to = c .before .before .before .before .row-at .ensures ∙ (λ i. rowAt (capacity i) (degree i) (n i));
-      bridges-from = c .before .before .before .bridges-at .ensures ∙ (λ i. bridgesAt (capacity i) (degree i));
-      bridges-to = c .before .before .bridge-at .ensures ∙ (λ i. bridgeAt (capacity i) (degree i) (bridges i));
+      rows-from = at-rows-at .rows-at .ensures ∙ ap rowsAt capacity;
+      rows-to = at-row-at .row-at .ensures ∙ (λ i. rowAt (capacity i) (degree i) (n i));
+      bridges-from = at-bridges-at .bridges-at .ensures ∙ (λ i. bridgesAt (capacity i) (degree i));
+      bridges-to = at-bridge-at .bridge-at .ensures ∙ (λ i. bridgeAt (capacity i) (degree i) (bridges i));
       vectors-end = c .before .floats-size .ensures ∙ (λ i. n i * dimension i);
       degree = degree;
       entry = c .word-at6 .ensures;

@@ -10,9 +10,12 @@ use Rattle.search.proofs.search.Tie as tie
 returns : tie.Need-returns
 unfolding searchSpec
 returns c =
-    let a = c .before .before .before .before .before .before .before .before .before .before .before .before .before .before .before .before .before .before .before .before .before .args in
-    c .before .before .before .before .before .before .before .before .search-with-ef .ensures
-    ∙ ap (λ (ef : ℕ). searchWithEfSpec (length (a .scratch-words .now)) (length (a .scratch-floats .now)) (a .words .now) (a .floats .now) (a .query .now) (a .k) ef (a .docs .now) (a .distances .now)) (c .before .before .before .before .before .before .before .before .before .before .before .before .before .word-at .ensures)
+    let at-search-with-ef = c .before .before .before .before .before .before .before .before in
+    let at-word-at = at-search-with-ef .before .before .before .before .before in
+    let start = at-word-at .before .before .before .before .before .before .before .before in
+    let a = start .args in
+    at-search-with-ef .search-with-ef .ensures
+    ∙ ap (λ (ef : ℕ). searchWithEfSpec (length (a .scratch-words .now)) (length (a .scratch-floats .now)) (a .words .now) (a .floats .now) (a .query .now) (a .k) ef (a .docs .now) (a .distances .now)) (at-word-at .word-at .ensures)
 
 pub search-spec : {M : Type 1} → statement M
 search-spec =

@@ -74,35 +74,50 @@ returns-2 c =
 returns-3 : tie.Need-returns-3
 unfolding ownSearchChecks
 returns-3 c =
-    turned-at 1 (Own (c .before .before .before .before .before .before .before .before .before .before .before)) (passed-1 (c .before .before))
+    let back = c .before .before in
+    let back-2 = back .before .before in
+    let back-3 = back-2 .before .before .before .before .before .before .before in
+    turned-at 1 (Own (back-3)) (passed-1 (back))
     (ap not (ne-eqb _ _ (λ e. c .if3 .taken (e ∙ sym (c .before .word-at2 .ensures)))))
-    ∙ own (c .before .before .before .before)
+    ∙ own (back-2)
 
 returns-4 : tie.Need-returns-4
 unfolding ownSearchChecks
 returns-4 c =
-    turned-at 2 (Own (c .before .before .before .before .before .before .before .before .before .before .before .before .before)) (passed-2 (c .before .before))
+    let back = c .before .before in
+    let back-2 = back .before .before .before .before in
+    let back-3 = back-2 .before .before .before .before .before .before .before in
+    turned-at 2 (Own (back-3)) (passed-2 (back))
     (ap not (sym (c .before .all-finite .ensures) ∙ not-true _ (c .if4 .taken)))
-    ∙ own (c .before .before .before .before .before .before)
+    ∙ own (back-2)
 
 returns-5 : tie.Need-returns-5
 unfolding ownSearchChecks
-returns-5 c = turned-at 3 (Own (c .before .before .before .before .before .before .before .before .before .before .before .before .before .before)) (passed-3 (c .before)) (c .if5 .taken) ∙ own (c .before .before .before .before .before .before .before)
+returns-5 c =
+    let back = c .before .before .before .before .before .before .before in
+    let back-2 = back .before .before .before .before .before .before .before in
+    turned-at 3 (Own (back-2)) (passed-3 (c .before)) (c .if5 .taken) ∙ own (back)
 
 returns-6 : tie.Need-returns-6
 unfolding ownSearchChecks
 returns-6 c =
-    let s = c .before .before .before .before .before .before .before .before .before .before .before .before .before .before .before .before in
-    turned-at 4 (Own s) (passed-4 (c .before .before)) (rooms (s .args .docs .now) (length (s .args .distances .now)) _ _ _ (c .before .wanted .ensures) (c .if6 .taken)) ∙ own (c .before .before .before .before .before .before .before .before .before)
+    let back = c .before .before in
+    let back-2 = back .before .before .before .before .before .before .before in
+    let back-3 = back-2 .before .before .before .before .before .before .before in
+    let s = back-3 in
+    turned-at 4 (Own s) (passed-4 (back)) (rooms (s .args .docs .now) (length (s .args .distances .now)) _ _ _ (c .before .wanted .ensures) (c .if6 .taken)) ∙ own (back-2)
 
 returns-7 : tie.Need-returns-7
 unfolding ownSearchChecks
 returns-7 c =
-    let t = passed-4 (c .before .before) in
-    let s = c .before .before .before .before .before .before .before .before .before .before .before .before .before .before .before .before in
+    let back = c .before .before in
+    let back-2 = back .before .before .before .before .before .before .before in
+    let back-3 = back-2 .before .before .before .before .before .before .before in
+    let t = passed-4 (back) in
+    let s = back-3 in
     none-turned (Own s)
     (t .0, (t .1 .0, (t .1 .1 .0, (t .1 .1 .1 .0, (rooms (s .args .docs .now) (length (s .args .distances .now)) _ _ _ (c .before .wanted .ensures) (c .if6 .left), tt)))))
-    ∙ own (c .before .before .before .before .before .before .before .before .before)
+    ∙ own (back-2)
 
 pub search-refusal-spec : {M : Type 1} → statement M
 search-refusal-spec =

@@ -7,14 +7,19 @@ use Rattle.search.proofs.search_with_ef.Tie as tie
 
 returns : tie.Need-returns
 returns c =
-    let a = c .before .before .before .before .before .before .before .before .before .before .before .args in
+    let start = c .before .before .before .before .before .before .before .before .before .before .before in
+    let a = start .args in
     turned-back _ _ (a .words .now) (a .floats .now) (a .query .now) (a .k) (a .ef) (a .docs .now) (a .distances .now) (c .before .search-refusal .result) (c .before .search-refusal .ensures) (c .if1 .taken)
 
 returns-2 : tie.Need-returns-2
 returns-2 c =
-    let a = c .before .before .before .before .before .before .before .before .before .before .before .before .before .before .before .before .before .before .before .before .before .before .before .before .args in
-    c .before .before .before .before .before .before .before .before .find .ensures
-    ∙ accepted _ _ (a .words .now) (a .floats .now) (a .query .now) (a .k) (a .ef) (a .docs .now) (a .distances .now) (sym (c .before .before .before .before .before .before .before .before .before .before .before .before .before .before .search-refusal .ensures) ∙ c .before .before .before .before .before .before .before .before .before .before .before .before .before .if1 .left)
+    let at-find = c .before .before .before .before .before .before .before .before in
+    let at-if1 = at-find .before .before .before .before .before in
+    let at-search-refusal = at-if1 .before in
+    let start = at-search-refusal .before .before .before .before .before .before .before .before .before .before in
+    let a = start .args in
+    at-find .find .ensures
+    ∙ accepted _ _ (a .words .now) (a .floats .now) (a .query .now) (a .k) (a .ef) (a .docs .now) (a .distances .now) (sym (at-search-refusal .search-refusal .ensures) ∙ at-if1 .if1 .left)
 
 pub search-with-ef-spec : {M : Type 1} → statement M
 search-with-ef-spec =

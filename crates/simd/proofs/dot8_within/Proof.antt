@@ -56,18 +56,26 @@ loop-less c = omega (arith, more (c .before .before .before .before .before .bef
 
 loop-again : tie.Need-loop-again Inv-loop μ-loop
 loop-again c =
-    let at = c .before .before .before .before .before .before .before .before .before .before .before .before .before in
+    let at-add-four6 = c .before .before in
+    let at-add-four5 = at-add-four6 .before in
+    let at-add-four4 = at-add-four5 .before in
+    let at-add-four3 = at-add-four4 .before in
+    let at-add-four2 = at-add-four3 .before in
+    let at-add-four = at-add-four2 .before in
+    let back = at-add-four .before .before .before .before .before in
+    let back-2 = back .before in
+    let at = back-2 in
     let start = at .before .before .before .before .before .before .before .before .before .before in
     let x = start .args in
     let l = at .loop in
-    let h : l .i + 4 ≤ length (x .q .now) = more (c .before .before .before .before .before .before .before .before .before .before .before .before) in (
+    let h : l .i + 4 ≤ length (x .q .now) = more (back) in (
       h,
-      subst (λ (s : Float). Left (x .q .now) (x .a .now) s (l .i + 4)) (sym (c .before .before .before .before .before .before .before .add-four .ensures)) (left-four (x .q .now) (x .a .now) (l .sum-a) (l .i) h (start .pre .0) (l .inv .1)),
-      subst (λ (s : Float). Left (x .q .now) (x .b .now) s (l .i + 4)) (sym (c .before .before .before .before .before .before .add-four2 .ensures)) (left-four (x .q .now) (x .b .now) (l .sum-b) (l .i) h (start .pre .1) (l .inv .2)),
-      subst (λ (s : Float). Left (x .q .now) (x .c .now) s (l .i + 4)) (sym (c .before .before .before .before .before .add-four3 .ensures)) (left-four (x .q .now) (x .c .now) (l .sum-c) (l .i) h (start .pre .2) (l .inv .3)),
-      subst (λ (s : Float). Left (x .q .now) (x .d .now) s (l .i + 4)) (sym (c .before .before .before .before .add-four4 .ensures)) (left-four (x .q .now) (x .d .now) (l .sum-d) (l .i) h (start .pre .3) (l .inv .4)),
-      subst (λ (s : Float). Left (x .q .now) (x .e .now) s (l .i + 4)) (sym (c .before .before .before .add-four5 .ensures)) (left-four (x .q .now) (x .e .now) (l .sum-e) (l .i) h (start .pre .4) (l .inv .5)),
-      subst (λ (s : Float). Left (x .q .now) (x .f .now) s (l .i + 4)) (sym (c .before .before .add-four6 .ensures)) (left-four (x .q .now) (x .f .now) (l .sum-f) (l .i) h (start .pre .5) (l .inv .6)),
+      subst (λ (s : Float). Left (x .q .now) (x .a .now) s (l .i + 4)) (sym (at-add-four .add-four .ensures)) (left-four (x .q .now) (x .a .now) (l .sum-a) (l .i) h (start .pre .0) (l .inv .1)),
+      subst (λ (s : Float). Left (x .q .now) (x .b .now) s (l .i + 4)) (sym (at-add-four2 .add-four2 .ensures)) (left-four (x .q .now) (x .b .now) (l .sum-b) (l .i) h (start .pre .1) (l .inv .2)),
+      subst (λ (s : Float). Left (x .q .now) (x .c .now) s (l .i + 4)) (sym (at-add-four3 .add-four3 .ensures)) (left-four (x .q .now) (x .c .now) (l .sum-c) (l .i) h (start .pre .2) (l .inv .3)),
+      subst (λ (s : Float). Left (x .q .now) (x .d .now) s (l .i + 4)) (sym (at-add-four4 .add-four4 .ensures)) (left-four (x .q .now) (x .d .now) (l .sum-d) (l .i) h (start .pre .3) (l .inv .4)),
+      subst (λ (s : Float). Left (x .q .now) (x .e .now) s (l .i + 4)) (sym (at-add-four5 .add-four5 .ensures)) (left-four (x .q .now) (x .e .now) (l .sum-e) (l .i) h (start .pre .4) (l .inv .5)),
+      subst (λ (s : Float). Left (x .q .now) (x .f .now) s (l .i + 4)) (sym (at-add-four6 .add-four6 .ensures)) (left-four (x .q .now) (x .f .now) (l .sum-f) (l .i) h (start .pre .5) (l .inv .6)),
       subst (λ (s : Float). Left (x .q .now) (x .g .now) s (l .i + 4)) (sym (c .before .add-four7 .ensures)) (left-four (x .q .now) (x .g .now) (l .sum-g) (l .i) h (start .pre .6) (l .inv .7)),
       subst (λ (s : Float). Left (x .q .now) (x .h .now) s (l .i + 4)) (sym (c .add-four8 .ensures)) (left-four (x .q .now) (x .h .now) (l .sum-h) (l .i) h (start .pre .7) (l .inv .8)),
     )

@@ -7,19 +7,29 @@ use Rattle.store.proofs.header_ok.Tie as tie
 returns : tie.Need-returns
 unfolding headerOk
 returns c =
+    let at-capacity-within = c .before .before in
+    let at-dimension-within = at-capacity-within .before in
+    let at-word-at6 = at-dimension-within .before in
+    let at-within-limits = at-word-at6 .before in
+    let at-params-of = at-within-limits .before in
+    let at-word-at5 = at-params-of .before in
+    let at-word-at4 = at-word-at5 .before in
+    let at-word-at3 = at-word-at4 .before in
+    let at-word-at2 = at-word-at3 .before in
+    let at-word-at = at-word-at2 .before in
     rw (
-      c .before .before .before .before .before .within-limits .ensures,
-      c .before .before .before .before .before .before .params-of .ensures,
-      c .before .before .before .dimension-within .ensures,
-      c .before .before .capacity-within .ensures,
-      c .before .before .before .before .word-at6 .ensures,
+      at-within-limits .within-limits .ensures,
+      at-params-of .params-of .ensures,
+      at-dimension-within .dimension-within .ensures,
+      at-capacity-within .capacity-within .ensures,
+      at-word-at6 .word-at6 .ensures,
       c .before .word-at7 .ensures,
       c .word-at8 .ensures,
-      c .before .before .before .before .before .before .before .word-at5 .ensures,
-      c .before .before .before .before .before .before .before .before .word-at4 .ensures,
-      c .before .before .before .before .before .before .before .before .before .word-at3 .ensures,
-      c .before .before .before .before .before .before .before .before .before .before .word-at2 .ensures,
-      c .before .before .before .before .before .before .before .before .before .before .before .word-at .ensures,
+      at-word-at5 .word-at5 .ensures,
+      at-word-at4 .word-at4 .ensures,
+      at-word-at3 .word-at3 .ensures,
+      at-word-at2 .word-at2 .ensures,
+      at-word-at .word-at .ensures,
     )
 
 pub header-ok-spec : {M : Type 1} → statement M

@@ -29,35 +29,53 @@ rows-ok-requires c κs =
 
 bridges-ok-requires : tie.Need-bridges-ok-requires
 bridges-ok-requires c κs =
-    let s = c .before .before .before .before .before .before .before .before .before .before .before in
-    let capacity = c .before .before .before .before .before .before .before .word-at2 in
-    let degree = c .before .before .before .before .before .before .word-at3 in
-    let bridges = c .before .before .before .before .before .word-at4 in
+    let at-word-at4 = c .before .before .before .before .before in
+    let at-word-at3 = at-word-at4 .before in
+    let at-word-at2 = at-word-at3 .before in
+    let back = at-word-at2 .before .before .before .before in
+    let s = back in
+    let capacity = at-word-at2 .word-at2 in
+    let degree = at-word-at3 .word-at3 in
+    let bridges = at-word-at4 .word-at4 in
     rw (c .bridges-at .ensures, degree .ensures, capacity .ensures, bridges .ensures) (within s .bridges)
 
 slice-aggregate-all-finite : tie.Need-slice-aggregate-all-finite
 slice-aggregate-all-finite c =
-    let s = c .before .before .before .before .before .before .before .before .before .before .before .before .before in
-    let n = c .before .before .before .before .before .before .before .before .before .before .word-at in
-    let dimension = c .before .before .before .before .before .before .word-at5 in
-    let end = c .before .before .before .before .before .floats-size in
+    let at-floats-size = c .before .before .before .before .before in
+    let at-word-at5 = at-floats-size .before in
+    let at-word-at = at-word-at5 .before .before .before .before in
+    let back = at-word-at .before .before .before in
+    let s = back in
+    let n = at-word-at .word-at in
+    let dimension = at-word-at5 .word-at5 in
+    let end = at-floats-size .floats-size in
     sym (length-take-le _ _ (rw (end .ensures, dimension .ensures, n .ensures) (within s .vectors)))
 
 returns : tie.Need-returns
 unfolding restOk rowWords bridgeWords
 returns c =
+    let at-bridges-ok = c .before .before in
+    let at-bridges-at = at-bridges-ok .before in
+    let at-rows-ok = at-bridges-at .before in
+    let at-rows-at = at-rows-ok .before in
+    let at-floats-size = at-rows-at .before in
+    let at-word-at5 = at-floats-size .before in
+    let at-word-at4 = at-word-at5 .before in
+    let at-word-at3 = at-word-at4 .before in
+    let at-word-at2 = at-word-at3 .before in
+    let at-word-at = at-word-at2 .before in
     rw (
       c .all-finite .ensures,
-      c .before .before .bridges-ok .ensures,
-      c .before .before .before .before .rows-ok .ensures,
-      c .before .before .before .bridges-at .ensures,
-      c .before .before .before .before .before .rows-at .ensures,
-      c .before .before .before .before .before .before .floats-size .ensures,
-      c .before .before .before .before .before .before .before .word-at5 .ensures,
-      c .before .before .before .before .before .before .before .before .word-at4 .ensures,
-      c .before .before .before .before .before .before .before .before .before .word-at3 .ensures,
-      c .before .before .before .before .before .before .before .before .before .before .word-at2 .ensures,
-      c .before .before .before .before .before .before .before .before .before .before .before .word-at .ensures,
+      at-bridges-ok .bridges-ok .ensures,
+      at-rows-ok .rows-ok .ensures,
+      at-bridges-at .bridges-at .ensures,
+      at-rows-at .rows-at .ensures,
+      at-floats-size .floats-size .ensures,
+      at-word-at5 .word-at5 .ensures,
+      at-word-at4 .word-at4 .ensures,
+      at-word-at3 .word-at3 .ensures,
+      at-word-at2 .word-at2 .ensures,
+      at-word-at .word-at .ensures,
     )
 
 pub rest-ok-spec : {M : Type 1} → statement M

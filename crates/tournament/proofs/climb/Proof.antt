@@ -27,10 +27,16 @@ lay-requires c κs = let l = c .before .before .before .before .before .loop .in
 
 loop-again : tie.Need-loop-again Inv-loop μ-loop
 loop-again c =
-    let x = c .before .before .before .before .before .before .before .before in
-    let a = c .before .before .before .before .before .before .before .before .before .before .args in
-    climbed-more (a .tree .now) (x .loop .tree) (c .before .before .lay .last .0) (a .from) (x .loop .p) (x .loop .least) (c .before .before .before .before .before .rank-at .result) (c .before .before .before .before .lesser .result) (x .loop .inv)
-    (c .before .before .before .before .before .before .before .loop-test .taken) (c .before .before .before .before .before .rank-at .ensures) (c .before .before .before .before .lesser .ensures) (c .before .before .lay .ensures)
+    let at-lay = c .before .before in
+    let at-lesser = at-lay .before .before in
+    let at-rank-at = at-lesser .before in
+    let at-loop-test = at-rank-at .before .before in
+    let back = at-loop-test .before in
+    let start = back .before .before in
+    let x = back in
+    let a = start .args in
+    climbed-more (a .tree .now) (x .loop .tree) (at-lay .lay .last .0) (a .from) (x .loop .p) (x .loop .least) (at-rank-at .rank-at .result) (at-lesser .lesser .result) (x .loop .inv)
+    (at-loop-test .loop-test .taken) (at-rank-at .rank-at .ensures) (at-lesser .lesser .ensures) (at-lay .lay .ensures)
 
 same-length : tie.Need-same-length Inv-loop μ-loop
 same-length c = c .before .loop .inv .kept

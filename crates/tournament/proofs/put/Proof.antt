@@ -25,11 +25,15 @@ same-length c = c .before .before .climb .kept .0 ∙ c .before .before .before 
 
 returns-2 : tie.Need-returns-2
 returns-2 c =
-    let a = c .before .before .before .before .before .before .before .before .before .before .before .args in
+    let at-climb = c .before .before in
+    let at-lay = at-climb .before .before .before .before in
+    let at-rank = at-lay .before .before in
+    let start = at-rank .before .before .before in
+    let a = start .args in
     let t = a .tree .now in
-    let k = c .before .before .before .before .before .before .before .before .rank .ensures in
-    let l = c .before .before .before .before .before .before .lay .ensures in
-    λ leaves x h. c .before .before .climb .ensures _ (subst (Open (set leaves (a .place) _) (length t / 4 + a .place)) (sym (l ∙ ap (withPair t (length t / 4 + a .place)) k)) (open-put leaves t (a .place) _ x h))
+    let k = at-rank .rank .ensures in
+    let l = at-lay .lay .ensures in
+    λ leaves x h. at-climb .climb .ensures _ (subst (Open (set leaves (a .place) _) (length t / 4 + a .place)) (sym (l ∙ ap (withPair t (length t / 4 + a .place)) k)) (open-put leaves t (a .place) _ x h))
 
 pub put-spec : {M : Type 1} → statement M
 put-spec =
