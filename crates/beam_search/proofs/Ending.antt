@@ -20,15 +20,15 @@ use Rattle.basics.proofs.Counting.{at-most}
 use Rattle.sorting.specs.Sorting.{sortBy, both}
 use Rattle.sorting.proofs.Laws.{length-sort, first-in}
 use Rattle.sorting.proofs.Pairs.{none-kept}
-use Rattle.tournament.specs.Tournament.{emptyRank, Tournament}
-use Rattle.walk.specs.Walk.{State, visit, expand}
-use Rattle.beam.specs.KeepClosest.{keyAt, insertIn, heldOf, cutoffOf}
-use Rattle.beam.specs.Beam.{toFrontier, walked, beamSearch, answerOf}
-use Rattle.beam.proofs.Reverse.{in-reverse}
-use Rattle.queues.specs.Queues.{frontRank}
-use Rattle.queues.proofs.Laws.{empty-queue}
-use Rattle.queues.proofs.Holding.{none-held}
-use Rattle.gathering.specs.Gathering.{GatheringAll}
+use Rattle.beam_state.specs.Tournament.{emptyRank, Tournament}
+use Rattle.def_walk.specs.Walk.{State, visit, expand}
+use Rattle.def_walk.specs.KeepClosest.{keyAt, insertIn, heldOf, cutoffOf}
+use Rattle.def_walk.specs.Beam.{toFrontier, walked, beamSearch, answerOf}
+use Rattle.def_walk.proofs.beam.Reverse.{in-reverse}
+use Rattle.beam_state.specs.Queues.{frontRank}
+use Rattle.beam_state.proofs.queues.Laws.{empty-queue}
+use Rattle.beam_state.proofs.queues.Holding.{none-held}
+use Rattle.neighbours.specs.Gathering.{GatheringAll}
 use Rattle.beam_state.specs.State.{part, heldEnd, AnswerHeld, Standing}
 use Rattle.beam_state.specs.declared.Walk.{Walk}
 use Rattle.beam_state.proofs.Parts.{lay, lay-length, part-here, part-before, take-before}

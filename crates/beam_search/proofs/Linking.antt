@@ -13,9 +13,9 @@ use Rattle.store.specs.Layout.{word, bridgeSize}
 use Rattle.store.specs.View.{bridgeIn}
 use Rattle.lists.specs.Words.{blockAt}
 use Rattle.lists.proofs.Reading.{block-word}
-use Rattle.chains.specs.Chains.{chainBridge, slotsFrom, Chained, bridgesIn}
-use Rattle.chains.proofs.Laws.{chain-more}
-use Rattle.gathering.specs.Gathering.{Linked}
+use Rattle.lists.specs.Chains.{chainBridge, slotsFrom, Chained, bridgesIn}
+use Rattle.lists.proofs.chains.Laws.{chain-more}
+use Rattle.neighbours.specs.Gathering.{Linked}
 use Rattle.beam_search.specs.Steps.{Linking}
 
 -- bridge j of some words

@@ -13,12 +13,12 @@ use lib.Ieee.{Float}
 use Rattle.basics.specs.Choice.{pick, pick-true, pick-false}
 use Rattle.basics.specs.Nodes.{has, NoDup, Below}
 use Rattle.basics.proofs.Counting.{at-most}
-use Rattle.walk.specs.Walk.{State, visit, expand}
-use Rattle.beam.specs.Beam.{toFrontier}
-use Rattle.queues.specs.Queues.{frontRank, Queue, Held, Known}
-use Rattle.scoring.specs.Scoring.{scoredAt}
-use Rattle.scoring.proofs.Laws.{scored-known, scored-keeps}
-use Rattle.gathering.specs.Gathering.{Fresh, visitOne, gatherFresh, FreshIn, GatheringAll}
+use Rattle.def_walk.specs.Walk.{State, visit, expand}
+use Rattle.def_walk.specs.Beam.{toFrontier}
+use Rattle.beam_state.specs.Queues.{frontRank, Queue, Held, Known}
+use Rattle.neighbours.specs.Scoring.{scoredAt}
+use Rattle.neighbours.proofs.scoring.Laws.{scored-known, scored-keeps}
+use Rattle.neighbours.specs.Gathering.{Fresh, visitOne, gatherFresh, FreshIn, GatheringAll}
 use Rattle.beam_state.specs.State.{part, heldEnd, AnswerHeld, Standing, PushingAll, pushed}
 use Rattle.beam_state.specs.declared.Walk.{Walk}
 use Rattle.beam_state.proofs.Parts.{part-behind}
@@ -119,7 +119,7 @@ pub standing-behind : {far : ℕ → Float} {n b : ℕ} {nodes₀ nodes : List �
     → Standing far n b nodes₀ words nodes w seen front → Standing far n b nodes₀ words′ nodes w seen front
 standing-behind {far} {n} {b} {nodes₀} {nodes} {w} {seen} {front} words words′ same t = record {
   frontier = subst (Queue (frontRank far) n front) (moved (2 * n) (6 * n) (omega arith)) (t .frontier);
-  held = subst (Held far (min b n) (Rattle.beam.specs.KeepClosest.heldOf far b seen)) (moved (6 * n) (heldEnd n b) (omega arith)) (t .held);
+  held = subst (Held far (min b n) (Rattle.def_walk.specs.KeepClosest.heldOf far b seen)) (moved (6 * n) (heldEnd n b) (omega arith)) (t .held);
   held-count = t .held-count;
   cutoff-is = t .cutoff-is;
   answer = subst (λ (k : List ℕ). AnswerHeld far nodes₀ k nodes (w .kept) seen) (moved (10 * n) (11 * n) (omega arith)) (t .answer);

@@ -13,14 +13,14 @@ use lib.Seq.{length-take-le}
 use lib.Ieee.{Float, binary32, mul, lt}
 use Rattle.basics.specs.Choice.{pick, pick-true, pick-false}
 use Rattle.basics.proofs.Tests.{one-true, both-false}
-use Rattle.walk.specs.Walk.{State, expand, walk}
-use Rattle.beam.specs.KeepClosest.{heldOf}
-use Rattle.beam.specs.Beam.{stopFactor, stopMultiplier, toFrontier, tooFar, tooMany}
-use Rattle.queues.specs.Queues.{frontRank, Queue, Held, Taken, Popping}
-use Rattle.ids.specs.declared.Node.{Node}
-use Rattle.queues.specs.declared.Popped.{Popped}
-use Rattle.queues.specs.declared.Popped.the-variants.{At, Empty}
-use Rattle.gathering.specs.Gathering.{Linked}
+use Rattle.def_walk.specs.Walk.{State, expand, walk}
+use Rattle.def_walk.specs.KeepClosest.{heldOf}
+use Rattle.def_walk.specs.Beam.{stopFactor, stopMultiplier, toFrontier, tooFar, tooMany}
+use Rattle.beam_state.specs.Queues.{frontRank, Queue, Held, Taken, Popping}
+use Rattle.words.specs.declared.ids.Node.{Node}
+use Rattle.beam_state.specs.declared.queues.Popped.{Popped}
+use Rattle.beam_state.specs.declared.queues.Popped.the-variants.{At, Empty}
+use Rattle.neighbours.specs.Gathering.{Linked}
 use Rattle.beam_state.specs.State.{part, heldEnd, AnswerHeld}
 use Rattle.beam_state.specs.declared.Walk.{Walk}
 use Rattle.beam_state.proofs.Parts.{lay, part-here, part-after, take-before}

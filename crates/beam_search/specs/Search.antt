@@ -9,8 +9,8 @@ use lib.Ieee.{Float}
 use Rattle.basics.specs.Choice.{pick}
 use Rattle.basics.specs.Graph.{listOf}
 use Rattle.lists.specs.Words.{rowLists, bridgeList}
-use Rattle.vectors.specs.Vectors.{vectorsIn}
-use Rattle.beam.specs.Beam.{farFrom, beamSearch, answerOf}
+use Rattle.distance.specs.Vectors.{vectorsIn}
+use Rattle.def_walk.specs.Beam.{farFrom, beamSearch, answerOf}
 use Rattle.beam_search.specs.declared.Walked.{Walked}
 
 -- the entries below n

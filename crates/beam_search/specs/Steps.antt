@@ -7,11 +7,11 @@ use lib.ListN.{length, getD, take, drop, replicate}
 use lib.Ieee.{Float, inf}
 use Rattle.basics.specs.Choice.{pick}
 use Rattle.basics.specs.Nodes.{has, NoDup, Below}
-use Rattle.tournament.specs.Tournament.{emptyRank, Tournament}
-use Rattle.walk.specs.Walk.{State, expand, walk}
-use Rattle.beam.specs.Beam.{farFrom, toFrontier, tooFar, tooMany}
-use Rattle.queues.specs.Queues.{Known}
-use Rattle.gathering.specs.Gathering.{Linked}
+use Rattle.beam_state.specs.Tournament.{emptyRank, Tournament}
+use Rattle.def_walk.specs.Walk.{State, expand, walk}
+use Rattle.def_walk.specs.Beam.{farFrom, toFrontier, tooFar, tooMany}
+use Rattle.beam_state.specs.Queues.{Known}
+use Rattle.neighbours.specs.Gathering.{Linked}
 use Rattle.beam_state.specs.State.{part, heldEnd, Standing, pushed}
 use Rattle.beam_state.specs.declared.Walk.{Walk}
 

@@ -17,13 +17,19 @@ ghost use Prim.Native.Nat.{_*_, _/_, _≤_, min};
 ghost use lib.Dec.{leb, ltb};
 ghost use lib.Ieee.{binary32, mul, lt};
 ghost use lib.ListN.{length, take};
-ghost use Rattle.vectors.specs.Vectors.{vectorsIn};
-ghost use Rattle.beam.specs.Beam.{farFrom, stopFactor, stopMultiplier};
+ghost use Rattle.distance.specs.Vectors.{vectorsIn};
+ghost use Rattle.def_walk.specs.Beam.{farFrom, stopFactor, stopMultiplier};
 ghost use Rattle.beam_search.specs.Steps.{Linking, TakingIn, Expanding, Stepping, Walking, WalkingLinked, Prepared, Starting, Telling};
 ghost use Rattle.beam_search.specs.Search.{listInWords, Searching};
 use beam_state::Walk;
-use ids::Node;
-use queues::Popped;
+use beam_state::queues;
+use beam_state::queues::Popped;
+use beam_state::tournament;
+use lists::chains;
+use neighbours::gathering;
+use neighbours::scoring;
+use words::ids::Node;
+use words::slices;
 
 // 01's two numbers for the stops.
 const STOP_FACTOR: f32 = 1.5;

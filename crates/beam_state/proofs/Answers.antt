@@ -9,7 +9,7 @@ use lib.Ieee.{Float}
 use Rattle.sorting.specs.Sorting.{firstBy, pairs, keyIn, idIn, both, idsOf, keptPairs, keptKeys, keptIds}
 use Rattle.sorting.proofs.Laws.{length-first, first-map}
 use Rattle.sorting.proofs.Pairs.{kept-are, pairs-put}
-use Rattle.beam.specs.KeepClosest.{keyAt}
+use Rattle.def_walk.specs.KeepClosest.{keyAt}
 use Rattle.beam_state.specs.State.{pairOf, AnswerHeld}
 
 map-ids : (far : ℕ → Float) (l : List ℕ) → map idIn (map (pairOf far) l) ≡ l

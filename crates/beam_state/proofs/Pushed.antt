@@ -5,8 +5,8 @@ use mathlib.Core.List.{List·Memᴰ as In, List·Memᴰ·tail as there}
 use Prim.Native.Nat.{ℕ}
 use lib.Ieee.{Float}
 use Rattle.basics.specs.Nodes.{NoDup}
-use Rattle.walk.specs.Walk.{State}
-use Rattle.beam.specs.Beam.{toFrontier}
+use Rattle.def_walk.specs.Walk.{State}
+use Rattle.def_walk.specs.Beam.{toFrontier}
 use Rattle.beam_state.specs.State.{pushed}
 
 module _ (far : ℕ → Float) where

@@ -14,15 +14,15 @@ use lib.Ieee.{Float, binary32, inf, lt}
 use Rattle.basics.specs.Choice.{pick-ind}
 use Rattle.basics.specs.Nodes.{NoDup, Below}
 use Rattle.basics.proofs.Counting.{at-most}
-use Rattle.order.specs.Order.{keyOf}
+use Rattle.distance.specs.Order.{keyOf}
 use Rattle.sorting.specs.Sorting.{keptPairs, keptKeys, keptIds}
-use Rattle.walk.specs.Walk.{State}
-use Rattle.beam.specs.KeepClosest.{sooner, replaceWorst, keepClosest, heldOf, cutoffOf}
-use Rattle.beam.specs.Beam.{toFrontier}
-use Rattle.queues.specs.Queues.{frontRank, Queue, Held, Known, Entering, Keeping}
-use Rattle.queues.specs.declared.Closest.{Closest}
-use Rattle.queues.proofs.Laws.{in-insert}
-use Rattle.queues.proofs.Holding.{hold-length}
+use Rattle.def_walk.specs.Walk.{State}
+use Rattle.def_walk.specs.KeepClosest.{sooner, replaceWorst, keepClosest, heldOf, cutoffOf}
+use Rattle.def_walk.specs.Beam.{toFrontier}
+use Rattle.beam_state.specs.Queues.{frontRank, Queue, Held, Known, Entering, Keeping}
+use Rattle.beam_state.specs.declared.queues.Closest.{Closest}
+use Rattle.beam_state.proofs.queues.Laws.{in-insert}
+use Rattle.beam_state.proofs.queues.Holding.{hold-length}
 use Rattle.beam_state.specs.State.{part, heldEnd, Standing, Pushing, PushingAll, pushed}
 use Rattle.beam_state.specs.declared.Walk.{Walk}
 use Rattle.beam_state.proofs.Parts.{lay, lay-length, part-here, part-before, part-after, take-before}
@@ -153,7 +153,7 @@ module _ (n b v : ℕ) (floats : List Float) (walk : Walk) (words nodes : List �
           place : length (heldOf far b seen) < b → length (heldOf far b seen) < min b n
           place h = let f = held-few far b seen in let all = at-most n (v ∷ seen) (out, s .once) (λ u m. below u (in-cons m)) in omega arith
 
-          kept : Rattle.queues.specs.Queues.Kept far (min b n) b v (heldOf far b seen) y closest
+          kept : Rattle.beam_state.specs.Queues.Kept far (min b n) b v (heldOf far b seen) y closest
           kept = keep far n (min b n) (heldOf far b seen) (just known) (s .held-count) place
               (subst (Held far (min b n) (heldOf far b seen)) (sym held-was) (subst (λ (i : ℕ). Held far (min b n) (heldOf far b seen) (part (6 * n) i words)) (sym e-is) (s .held)))
 

@@ -7,10 +7,10 @@ use lib.ListN.{length, take, drop}
 use lib.Ieee.{Float}
 use Rattle.basics.specs.Nodes.{NoDup, Below}
 use Rattle.sorting.specs.Sorting.{firstBy, pairs, keyIn, both}
-use Rattle.walk.specs.Walk.{State}
-use Rattle.beam.specs.KeepClosest.{keyAt, heldOf, cutoffOf}
-use Rattle.beam.specs.Beam.{toFrontier}
-use Rattle.queues.specs.Queues.{frontRank, Queue, Held, Known}
+use Rattle.def_walk.specs.Walk.{State}
+use Rattle.def_walk.specs.KeepClosest.{keyAt, heldOf, cutoffOf}
+use Rattle.def_walk.specs.Beam.{toFrontier}
+use Rattle.beam_state.specs.Queues.{frontRank, Queue, Held, Known}
 use Rattle.beam_state.specs.declared.Walk.{Walk}
 
 -- the words from place a on, up to place e

@@ -7,11 +7,16 @@
 // used) and the keys of the answer (n). The answer's nodes stand in the slice that they are wanted in, nearest
 // first, as far as it goes: `keep_first` keeps the first few of what it is offered, so that nothing is sorted at
 // the end. Counts and the cutoff are a struct by value.
+pub mod queues;
+pub mod tournament;
+
 ghost use mathlib.Core.Path.{_≡_};
 ghost use Prim.Native.Nat.{_+_, _*_, _≤_, min};
 ghost use lib.ListN.{length, take};
 ghost use Rattle.beam_state.specs.State.{Pushing, PushingAll};
-use ids::Node;
+use distance::order;
+use words::ids::Node;
+use words::slices;
 
 // How many nodes are scored, how many are held for the cutoff, the cutoff, and how many are in the answer.
 pub struct Walk {

@@ -12,21 +12,21 @@ use borrow.Rule.Slice.PartMut.{putMid}
 use Rattle.basics.specs.Nodes.{Below}
 use Rattle.basics.proofs.Tests.{both-false}
 use Rattle.params.specs.declared.PipnnParams.{PipnnParams}
-use Rattle.vectors.specs.Vectors.{vectorsIn}
-use Rattle.medoid.specs.Medoid.{computeMedoid}
-use Rattle.graph_rows.specs.Rows.{Settings, rowsOf, entryOf}
-use Rattle.graph_rows.proofs.Laws.{rows-length, rows-below}
-use Rattle.graph_utils.specs.Repair.{ensureConnectivity}
+use Rattle.distance.specs.Vectors.{vectorsIn}
+use Rattle.def_graph.specs.Medoid.{computeMedoid}
+use Rattle.def_graph.specs.Rows.{Settings, rowsOf, entryOf}
+use Rattle.def_graph.proofs.graph_rows.Laws.{rows-length, rows-below}
+use Rattle.def_walk.specs.Repair.{ensureConnectivity}
 use Rattle.store.specs.Layout.{word, builtState, stateAt, dimensionAt, nodesAt, degreeAt, entryAt, bridgeCountAt, capacityAt, rowsAt, rowSize, bridgesAt}
 use Rattle.store.specs.View.{view, rowBlock, bridgeBlock, paramsOf}
 use Rattle.store.proofs.Reading.{vectors-read}
 use Rattle.lists.specs.Words.{Blocks}
 use Rattle.lists.proofs.Blocks.{blocks-length}
 use Rattle.lists.proofs.Parts.{rowPart, vectorPart, vectors-part}
-use Rattle.calls.specs.Graph.{settingsOf, graphOf, graphFor}
-use Rattle.calls.specs.Build.{laid, builtHeader, builtWords}
-use Rattle.calls.proofs.Laid.{laid-there}
-use Rattle.calls.proofs.Taken.{BuildTaken}
+use Rattle.def_calls.specs.Graph.{settingsOf, graphOf, graphFor}
+use Rattle.def_calls.specs.Build.{laid, builtHeader, builtWords}
+use Rattle.def_calls.proofs.Laid.{laid-there}
+use Rattle.def_calls.proofs.Taken.{BuildTaken}
 use Rattle.build.specs.Fits.{RowsFit, RepairFits, RepairPut, withRepair}
 use Rattle.build.proofs.Laid.{put-laid, set-laid}
 

@@ -6,8 +6,8 @@ use native.Mathlib.Omega.{arith}
 use lib.ListN.{length, take, drop, set, length-take, length-drop}
 use lib.Seq.{drop-drop, length-take-le, take-set-lt, drop-set-lt, set-append-left}
 use borrow.Rule.Slice.PartMut.{putMid}
-use Rattle.slices.proofs.Laws.{copied-whole}
-use Rattle.calls.specs.Build.{laid}
+use Rattle.words.proofs.slices.Laws.{copied-whole}
+use Rattle.def_calls.specs.Build.{laid}
 
 -- a part in place of which xs was put
 pub put-laid : (at k : ℕ) (w xs : List ℕ) → k ≡ length xs → putMid at k w xs ≡ laid at xs w

@@ -16,22 +16,22 @@ use Rattle.basics.specs.Nodes.{Below}
 use Rattle.basics.specs.Rows.{Rows}
 use mathlib.Core.List.{List·Memᴰ·append-cases as in-cases}
 use Rattle.params.specs.declared.PipnnParams.{PipnnParams}
-use Rattle.vectors.specs.Vectors.{vectorsIn}
-use Rattle.partition.specs.Partition.{leavesOf}
-use Rattle.partition.specs.Occurrences.{weigh, entries}
-use Rattle.partition.proofs.Laws.{entries-once, entries-twice, leaves-below}
-use Rattle.leaf.specs.Leaf.{buildLeaves}
-use Rattle.refine.specs.Refine.{addReverseEdges}
+use Rattle.distance.specs.Vectors.{vectorsIn}
+use Rattle.def_graph.specs.Partition.{leavesOf}
+use Rattle.def_graph.specs.Occurrences.{weigh, entries}
+use Rattle.def_graph.proofs.partition.Laws.{entries-once, entries-twice, leaves-below}
+use Rattle.def_graph.specs.Leaf.{buildLeaves}
+use Rattle.def_graph.specs.Refine.{addReverseEdges}
 use Rattle.carving.specs.Carving.{nonEmpty, Laid, Partitioned}
 use Rattle.carving.proofs.Leaves.{flatten-full, length-full}
 use Rattle.carving.proofs.Build.{build-full}
 use Rattle.build_leaf.specs.Built.{Sizes, LeavesIn, Built}
-use Rattle.reverse_edges.specs.Reversed.{Reversed}
-use Rattle.graph_rows.specs.Rows.{Settings, leafRows, reversedRows, rowsOf}
-use Rattle.graph_rows.proofs.Laws.{leaf-bounds, prune-changes-nothing}
+use Rattle.finish.specs.Reversed.{Reversed}
+use Rattle.def_graph.specs.Rows.{Settings, leafRows, reversedRows, rowsOf}
+use Rattle.def_graph.proofs.graph_rows.Laws.{leaf-bounds, prune-changes-nothing}
 use Rattle.lists.specs.Words.{Blocks}
 use Rattle.lists.proofs.Blocks.{cleared-blocks}
-use Rattle.calls.specs.Graph.{settingsOf}
+use Rattle.def_calls.specs.Graph.{settingsOf}
 use Rattle.build.specs.Fits.{leafEntries, LeavesPut, RowsFit}
 use Rattle.build.proofs.Repairing.{vectors-many}
 

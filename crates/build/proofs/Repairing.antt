@@ -11,19 +11,19 @@ use Rattle.basics.specs.Graph.{Bridge}
 use Rattle.basics.specs.Lists.{pieces}
 use Rattle.basics.specs.Nodes.{Below}
 use Rattle.basics.proofs.Pieces.{length-flatten, length-pieces}
-use Rattle.vectors.specs.Vectors.{vectorsIn}
-use Rattle.medoid.specs.Centroid.{rowsIn}
-use Rattle.medoid.specs.Medoid.{computeMedoid}
-use Rattle.medoid.proofs.Laws.{medoid-below}
-use Rattle.graph_utils.specs.Repair.{ensureConnectivity}
-use Rattle.graph_utils.proofs.Laws.{repair-few}
+use Rattle.distance.specs.Vectors.{vectorsIn}
+use Rattle.def_graph.specs.Centroid.{rowsIn}
+use Rattle.def_graph.specs.Medoid.{computeMedoid}
+use Rattle.def_graph.proofs.medoid.Laws.{medoid-below}
+use Rattle.def_walk.specs.Repair.{ensureConnectivity}
+use Rattle.def_walk.proofs.graph_utils.Laws.{repair-few}
 use Rattle.store.specs.Layout.{builtState, stateAt, entryAt, bridgeCountAt, bridgesAt, bridgeSize}
 use Rattle.store.specs.View.{bridgeBlock}
 use Rattle.store.proofs.Reading.{pairs-sized}
 use Rattle.lists.specs.Words.{rowLists, Blocks}
 use Rattle.lists.proofs.Blocks.{rows-read-back}
-use Rattle.connectivity.specs.Connectivity.{Repairable, withBridges, Repairs}
-use Rattle.calls.specs.Build.{laid}
+use Rattle.graph_utils.specs.Connectivity.{Repairable, withBridges, Repairs}
+use Rattle.def_calls.specs.Build.{laid}
 use Rattle.build.specs.Fits.{withRepair}
 
 -- ---- the vectors of n nodes

@@ -8,17 +8,17 @@ use lib.Ieee.{Float}
 use Rattle.basics.specs.Choice.{pick}
 use Rattle.basics.specs.Graph.{Bridge}
 use Rattle.basics.specs.Nodes.{Below}
-use Rattle.vectors.specs.Vectors.{vectorsIn}
-use Rattle.leaf.specs.Leaf.{buildLeaves}
+use Rattle.distance.specs.Vectors.{vectorsIn}
+use Rattle.def_graph.specs.Leaf.{buildLeaves}
 use Rattle.carving.specs.Carving.{Laid}
 use Rattle.build_leaf.specs.Built.{Sizes}
 use Rattle.params.specs.declared.PipnnParams.{PipnnParams}
-use Rattle.medoid.specs.Medoid.{computeMedoid}
-use Rattle.graph_utils.specs.Repair.{ensureConnectivity}
+use Rattle.def_graph.specs.Medoid.{computeMedoid}
+use Rattle.def_walk.specs.Repair.{ensureConnectivity}
 use Rattle.store.specs.Layout.{builtState, stateAt, entryAt, bridgeCountAt, rowsAt, rowSize, bridgesAt}
 use Rattle.store.specs.View.{bridgeBlock}
 use Rattle.lists.specs.Words.{Blocks}
-use Rattle.calls.specs.Build.{laid}
+use Rattle.def_calls.specs.Build.{laid}
 
 -- how many nodes all leaves have together
 abbrev pub leafEntries : ℕ → ℕ → ℕ

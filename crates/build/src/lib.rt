@@ -7,17 +7,20 @@ ghost use mathlib.Core.Path.{_≡_};
 ghost use Prim.Native.Nat.{_+_, _≤_, min};
 ghost use lib.ListN.{length, set};
 ghost use Rattle.basics.specs.Refusals.{firstRefusal};
-ghost use Rattle.vectors.specs.Vectors.{vectorsIn};
-ghost use Rattle.graph_rows.specs.Rows.{rowsOf};
+ghost use Rattle.distance.specs.Vectors.{vectorsIn};
+ghost use Rattle.def_graph.specs.Rows.{rowsOf};
 ghost use Rattle.store.specs.Layout.{headerSize, builtState, stateAt, entryAt, bridgeCountAt};
 ghost use Rattle.lists.specs.Words.{Blocks};
 ghost use Rattle.store.specs.View.{view};
-ghost use Rattle.calls.specs.Graph.{settingsOf, graphFor};
-ghost use Rattle.calls.specs.Build.{buildChecks, laid, builtWords, buildSpec};
+ghost use Rattle.def_calls.specs.Graph.{settingsOf, graphFor};
+ghost use Rattle.def_calls.specs.Build.{buildChecks, laid, builtWords, buildSpec};
 ghost use Rattle.build.specs.Fits.{leafEntries, LeavesFit, LeavesPut, RowsFit, RepairFits, RepairPut};
-use ids::Node;
+use finish::medoid;
+use finish::reverse_edges;
 use params::PipnnParams;
 use store::Lent;
+use words::ids::Node;
+use words::slices;
 
 // The number of the first of build's checks that fails, or 0. Scratch counts by its two lengths.
 fn build_refusal(words: &[u32], floats: &[f32], scratch_words: usize, scratch_floats: usize) -> u32
@@ -158,7 +161,7 @@ fn repair(
     let entry = medoid::compute_medoid(vectors, n as u16, &mut scratch_floats[..components]);
     let from = store::rows_at(capacity);
     let to = store::row_at(capacity, degree, Node(n));
-    let built = connectivity::ensure_connectivity(
+    let built = graph_utils::ensure_connectivity(
         &words[from..to],
         degree,
         vectors,

@@ -12,12 +12,12 @@ use lib.Ieee.{Float, binary32}
 use lib.Dec.{leb}
 use Rattle.basics.specs.Choice.{pick-ind}
 use Rattle.basics.proofs.Members.{in-getD, in-take, in-drop}
-use Rattle.hyperplanes.specs.Hyperplanes.{planeNumbers}
+use Rattle.random.specs.Hyperplanes.{planeNumbers}
 use Rattle.simhash.specs.Blocks.{planeBlocks}
 use Rattle.simhash.proofs.Blocks.{length-blocks}
-use Rattle.vectors.specs.Vectors.{vectorsIn}
-use Rattle.leaf.specs.Leaf.{buildLeaf, buildLeaves}
-use Rattle.leaf.proofs.Laws.{build-append}
+use Rattle.distance.specs.Vectors.{vectorsIn}
+use Rattle.def_graph.specs.Leaf.{buildLeaf, buildLeaves}
+use Rattle.def_graph.proofs.leaf.Laws.{build-append}
 use Rattle.lists.specs.Words.{Blocks}
 use Rattle.build_leaf.specs.Built.{Setting, LeafHeld, LeafBuilt, LeavesIn, LeavesBuilt, PlanesMade}
 use Rattle.build_leaf.proofs.Rows.{places-length}

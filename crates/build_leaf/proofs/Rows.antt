@@ -13,16 +13,16 @@ use borrow.Rule.Slice.PartMut.{putMid}
 use Rattle.basics.specs.Choice.{pick-true, pick-false}
 use Rattle.basics.specs.Nodes.{Below}
 use Rattle.basics.proofs.Members.{in-getD}
-use Rattle.vectors.specs.Vectors.{vectorsIn, between}
-use Rattle.leaf.specs.Leaf.{selected, merged, hashpruneInsert, candidatesAt, placesTo, buildLeaf}
-use Rattle.leaf.proofs.Laws.{merged-short, candidates-in, candidates-few}
+use Rattle.distance.specs.Vectors.{vectorsIn, between}
+use Rattle.def_graph.specs.Leaf.{selected, merged, hashpruneInsert, candidatesAt, placesTo, buildLeaf}
+use Rattle.def_graph.proofs.leaf.Laws.{merged-short, candidates-in, candidates-few}
 use Rattle.store.specs.Layout.{rowSize}
 use Rattle.store.specs.View.{rowBlock}
 use Rattle.lists.specs.Words.{Blocks}
 use Rattle.lists.proofs.Blocks.{block-length, blocks-length, nth-block, put-block}
 use Rattle.hashprune.specs.Hashprune.{Inserted}
-use Rattle.leaf_distances.specs.Lanes.{Distances}
-use Rattle.leaf_candidates.specs.Candidates.{LaneFits, LaneReady, CandidatesAre, Candidates}
+use Rattle.build_leaf.specs.Lanes.{Distances}
+use Rattle.build_leaf.specs.Candidates.{LaneFits, LaneReady, CandidatesAre, Candidates}
 use Rattle.build_leaf.specs.Built.{Sizes, Setting, RowPut, PlacePut, LeafHeld, PlacesPut, LeafBuilt}
 
 -- where a row starts is a number that a word of the machine holds

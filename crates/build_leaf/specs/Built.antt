@@ -8,12 +8,12 @@ use lib.ListN.{length, getD}
 use lib.Ieee.{Float}
 use Rattle.basics.specs.Nodes.{Below}
 use Rattle.simd.specs.Eight.{laneOf}
-use Rattle.vectors.specs.Vectors.{vectorsIn, between}
-use Rattle.leaf.specs.Leaf.{hashpruneInsert, candidatesAt, placesTo, buildLeaf, buildLeaves}
+use Rattle.distance.specs.Vectors.{vectorsIn, between}
+use Rattle.def_graph.specs.Leaf.{hashpruneInsert, candidatesAt, placesTo, buildLeaf, buildLeaves}
 use Rattle.lists.specs.Words.{Blocks}
 use Rattle.hashprune.specs.Hashprune.{PlanesFor}
-use Rattle.leaf_distances.specs.Lanes.{nodeAt}
-use Rattle.leaf_candidates.specs.Candidates.{LaneReady}
+use Rattle.build_leaf.specs.Lanes.{nodeAt}
+use Rattle.build_leaf.specs.Candidates.{LaneReady}
 
 -- sizes that fit: n nodes, rows of degree D, hashes of so many bits, vectors of d components
 pub record Sizes (n D bits d : ℕ) (vectors : List Float) : Type 0 where

@@ -9,10 +9,15 @@
 // specs/Built    what the functions leave of the rows
 // proofs/Rows    one row, one place, eight places, a leaf
 // proofs/Leaves  leaf after leaf
+pub mod leaf_candidates;
+pub mod leaf_distances;
+
 ghost use Prim.Native.Nat.{_+_, _≤_, _<_};
 ghost use lib.ListN.{length};
 ghost use Rattle.build_leaf.specs.Built.{RowPut, PlacePut, PlacesPut, LeafBuilt, LeavesBuilt, PlanesMade, Built};
-use ids::Node;
+use random::hyperplanes;
+use words::ids::Node;
+use words::slices;
 
 // All leaves: `nodes` are their nodes, leaf after leaf, `sizes` how many each has, `rows` the rows of
 // all nodes, `floats` scratch.

@@ -5,7 +5,7 @@ use mathlib.Core.List.{List, [], _∷_}
 use Prim.Native.Nat.{ℕ}
 use lib.Ieee.{Float}
 use Rattle.basics.specs.Choice.{pick}
-use Rattle.leaf.specs.Leaf.{buildLeaf, buildLeaves}
+use Rattle.def_graph.specs.Leaf.{buildLeaf, buildLeaves}
 use Rattle.carving.specs.Carving.{nonEmpty}
 use Rattle.carving.proofs.Leaves.{full-more}
 

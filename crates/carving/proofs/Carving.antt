@@ -11,9 +11,9 @@ use lib.Seq.{take-at, drop-at, take-all, take-append-le, length-take-le, drop-dr
 use lib.Ieee.{Float}
 use borrow.Author.Tests.{eq-eqb, ne-eqb, le-leb, lt-leb}
 use Rattle.basics.specs.Choice.{pick, pick-true, pick-false, pick-ind}
-use Rattle.leaders.specs.Leaders.{upTo}
-use Rattle.leaders.proofs.Draws.{length-upTo}
-use Rattle.partition.specs.Partition.{fanout, isLeaf, bucketsOf, carveSegment, carveBuckets, leavesOf, eachBy, segment-equation}
+use Rattle.random.specs.Leaders.{upTo}
+use Rattle.random.proofs.leaders.Draws.{length-upTo}
+use Rattle.def_graph.specs.Partition.{fanout, isLeaf, bucketsOf, carveSegment, carveBuckets, leavesOf, eachBy, segment-equation}
 use Rattle.dealing.specs.Marks.{run, marksOf}
 use Rattle.dealing.specs.Deal.{Fitting, Holding}
 use Rattle.dealing.proofs.Marks.{marks-one, flatten-one, length-run}

@@ -9,7 +9,7 @@ use lib.ListN.{length, getD, take, drop, set, replicate, length-append, length-d
 use lib.Seq.{drop-cons, drop-at, drop-drop, take-all, take-suc-set, append-snoc}
 use borrow.Author.Tests.{eq-eqb, ne-eqb}
 use Rattle.basics.specs.Choice.{pick, pick-true, pick-false, pick-ind}
-use Rattle.partition.specs.Partition.{eachBy}
+use Rattle.def_graph.specs.Partition.{eachBy}
 use Rattle.dealing.specs.Marks.{run, marksOf}
 use Rattle.dealing.proofs.Marks.{flatten-append, marks-append, length-run, length-marks}
 use Rattle.carving.specs.Carving.{nonEmpty}

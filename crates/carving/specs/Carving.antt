@@ -7,7 +7,7 @@ use lib.Dec.{eqb}
 use lib.ListN.{length, take, drop}
 use lib.Ieee.{Float}
 use Rattle.basics.specs.Choice.{pick}
-use Rattle.partition.specs.Partition.{leavesOf}
+use Rattle.def_graph.specs.Partition.{leavesOf}
 
 -- the lists that hold something
 unfoldable pub nonEmpty : List (List ℕ) → List (List ℕ)

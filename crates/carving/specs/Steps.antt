@@ -6,7 +6,7 @@ use lib.Dec.{eqb}
 use lib.ListN.{length, take, drop}
 use lib.Ieee.{Float}
 use Rattle.basics.specs.Choice.{pick}
-use Rattle.partition.specs.Partition.{carveSegment, carveBuckets, leavesOf}
+use Rattle.def_graph.specs.Partition.{carveSegment, carveBuckets, leavesOf}
 use Rattle.dealing.specs.Marks.{marksOf}
 use Rattle.dealing.specs.Deal.{Holding}
 use Rattle.carving.specs.Carving.{nonEmpty}

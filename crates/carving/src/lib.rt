@@ -11,12 +11,14 @@
 ghost use mathlib.Core.Path.{_≡_};
 ghost use Prim.Native.Nat.{_*_, _≤_};
 ghost use lib.ListN.{length};
-ghost use Rattle.vectors.specs.Vectors.{vectorsIn};
-ghost use Rattle.partition.specs.Partition.{bucketsOf};
+ghost use Rattle.distance.specs.Vectors.{vectorsIn};
+ghost use Rattle.def_graph.specs.Partition.{bucketsOf};
 ghost use Rattle.dealing.specs.Deal.{Holding};
 ghost use Rattle.carving.specs.Carving.{Partitioned};
 ghost use Rattle.carving.specs.Steps.{firstSize, Segment, Dealing, CarvesSegment, CarvesBuckets, Carved, MarkedSizes};
 use dealing::DealParams;
+use random::leaders;
+use words::slices;
 
 // The leaves of an index of n nodes, whose vectors of `dimension` floats stand in `vectors`. Returns how
 // many leaves hold a node. From word 0 on stand their nodes, n or 2·n, leaf after leaf; from word 2·n on

@@ -15,11 +15,11 @@ use Rattle.basics.specs.Choice.{pick, pick-ind}
 use Rattle.basics.specs.Nodes.{has, Below}
 use Rattle.basics.proofs.Members.{in-getD}
 use Rattle.basics.proofs.Loops.{front-set}
-use Rattle.leaders.specs.Leaders.{upTo, drawn, drawStart, drawnInto, leaderCount, leaderPositions}
-use Rattle.leaders.proofs.Positions.{length-positions}
-use Rattle.partition.specs.Partition.{keep, nearestLeaders, dealt, leadersOf, gathered, bucketsOf, fanout}
-use Rattle.partition.specs.Occurrences.{entries}
-use Rattle.partition.proofs.Dealing.{nearest-below, nearest-length, dealt-weight}
+use Rattle.random.specs.Leaders.{upTo, drawn, drawStart, drawnInto, leaderCount, leaderPositions}
+use Rattle.random.proofs.leaders.Positions.{length-positions}
+use Rattle.def_graph.specs.Partition.{keep, nearestLeaders, dealt, leadersOf, gathered, bucketsOf, fanout}
+use Rattle.def_graph.specs.Occurrences.{entries}
+use Rattle.def_graph.proofs.partition.Dealing.{nearest-below, nearest-length, dealt-weight}
 use Rattle.dealing.specs.Deal.{Fitting}
 use Rattle.dealing.specs.Cards.{cardOf, names, bucketAt, bucketsBy}
 use Rattle.dealing.proofs.Gathering.{ones}

@@ -12,10 +12,10 @@ use lib.Seq.{take-at, drop-at, length-take-le}
 use mir.Facts.{leb-no}
 use borrow.Author.Tests.{le-leb, lt-leb, eq-eqb, ne-eqb}
 use Rattle.basics.specs.Choice.{pick, pick-ind, pick-true, pick-false}
-use Rattle.leaders.specs.Leaders.{upTo}
-use Rattle.partition.specs.Partition.{Gathered, gatherOne, gatherAll, ontoLast, gathered}
-use Rattle.partition.specs.Occurrences.{weigh, entries}
-use Rattle.partition.proofs.Gathering.{all-weight, weighAll-append}
+use Rattle.random.specs.Leaders.{upTo}
+use Rattle.def_graph.specs.Partition.{Gathered, gatherOne, gatherAll, ontoLast, gathered}
+use Rattle.def_graph.specs.Occurrences.{weigh, entries}
+use Rattle.def_graph.proofs.partition.Gathering.{all-weight, weighAll-append}
 use Rattle.dealing.specs.Marks.{run, marksOf}
 use Rattle.dealing.specs.Cards.{bucketAt, bucketsBy}
 use Rattle.dealing.specs.Steps.{Holds, Gathers, Roomy, noneYet}

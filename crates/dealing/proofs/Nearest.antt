@@ -7,13 +7,13 @@ use native.Mathlib.Omega.{arith}
 use lib.ListN.{length, getD, take, length-map}
 use lib.Seq.{take-all}
 use lib.Ieee.{Float}
-use Rattle.vectors.specs.Vectors.{rank}
-use Rattle.leaders.specs.Leaders.{upTo}
-use Rattle.leaders.proofs.Draws.{length-upTo}
+use Rattle.distance.specs.Vectors.{rank}
+use Rattle.random.specs.Leaders.{upTo}
+use Rattle.random.proofs.leaders.Draws.{length-upTo}
 use Rattle.sorting.specs.Sorting.{firstBy, pairs, keyIn, idIn, both, keptPairs, keptKeys, keptIds}
 use Rattle.sorting.proofs.Laws.{length-first, first-map}
 use Rattle.sorting.proofs.Pairs.{none-kept, kept-are, pairs-put, front-ids}
-use Rattle.partition.specs.Partition.{nearestLeaders}
+use Rattle.def_graph.specs.Partition.{nearestLeaders}
 
 module _ (vs : List (List Float)) (leaders : List ℕ) (id : ℕ) where
   -- a leader's rank and number

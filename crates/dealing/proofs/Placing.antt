@@ -6,7 +6,7 @@ use native.Mathlib.Omega.{arith}
 use lib.ListN.{length, take, drop, length-drop, drop-of-length-le}
 use lib.Seq.{length-take-le, drop-drop}
 use borrow.Rule.Slice.PartMut.{putMid}
-use Rattle.slices.proofs.Laws.{copied-whole as whole-copy}
+use Rattle.words.proofs.slices.Laws.{copied-whole as whole-copy}
 use Rattle.dealing.specs.Marks.{run}
 
 -- as many words as there is room for

@@ -5,7 +5,7 @@ use Prim.Native.Nat.{ℕ, _+_, _-_, _*_, _/_, _%_}
 use lib.Dec.{eqb}
 use lib.ListN.{length, getD}
 use Rattle.basics.specs.Choice.{pick}
-use Rattle.leaders.specs.Leaders.{upTo}
+use Rattle.random.specs.Leaders.{upTo}
 
 -- the first of the leaders that a node goes to, and 2^16 times the last
 unfoldable pub cardOf : List ℕ → ℕ

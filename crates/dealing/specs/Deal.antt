@@ -4,7 +4,7 @@ use mathlib.Core.List.{List, flatten}
 use Prim.Native.Nat.{ℕ, _*_, _≤_}
 use lib.ListN.{length}
 use lib.Ieee.{Float}
-use Rattle.partition.specs.Partition.{fanout, bucketsOf}
+use Rattle.def_graph.specs.Partition.{fanout, bucketsOf}
 use Rattle.dealing.specs.Marks.{marksOf}
 
 -- the level deals a segment of two nodes or more; there is room for each node as often as it goes to a leader, and for a card of each

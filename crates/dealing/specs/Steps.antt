@@ -3,8 +3,8 @@ use mathlib.Core.Path.{_≡_}
 use mathlib.Core.List.{List, [], flatten}
 use Prim.Native.Nat.{ℕ, _+_, _≤_}
 use lib.ListN.{length, take}
-use Rattle.partition.specs.Partition.{Gathered, gatherOne}
-use Rattle.partition.specs.Occurrences.{entries}
+use Rattle.def_graph.specs.Partition.{Gathered, gatherOne}
+use Rattle.def_graph.specs.Occurrences.{entries}
 use Rattle.dealing.specs.Marks.{marksOf}
 use Rattle.dealing.specs.Cards.{bucketsBy}
 

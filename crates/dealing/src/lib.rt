@@ -13,14 +13,18 @@ ghost use Prim.Native.Nat.{ℕ, _+_, _≤_};
 ghost use lib.Dec.{eqb};
 ghost use lib.ListN.{length, getD, take, drop, set};
 ghost use Rattle.basics.specs.Choice.{pick};
-ghost use Rattle.vectors.specs.Vectors.{vectorsIn, rank};
-ghost use Rattle.leaders.specs.Leaders.{drawn, drawStart, upTo};
-ghost use Rattle.partition.specs.Partition.{fanout, nearestLeaders, gathered, gatherAll, bucketsOf};
+ghost use Rattle.distance.specs.Vectors.{vectorsIn, rank};
+ghost use Rattle.random.specs.Leaders.{drawn, drawStart, upTo};
+ghost use Rattle.def_graph.specs.Partition.{fanout, nearestLeaders, gathered, gatherAll, bucketsOf};
 ghost use Rattle.dealing.specs.Marks.{run, marksOf};
 ghost use Rattle.dealing.specs.Cards.{cardOf, names, bucketAt, bucketsBy};
 ghost use Rattle.dealing.specs.Deal.{Fitting, Holding, Deals};
 ghost use Rattle.dealing.specs.Steps.{Holds, Gathers, Roomy, Dealt, noneYet};
-use ids::Node;
+use distance::order;
+use distance::vectors;
+use random::leaders;
+use words::ids::Node;
+use words::slices;
 
 // To how many of its nearest leaders a node goes; 0: a segment of any size is a leaf.
 pub fn fan_of(level: u32) -> u32

@@ -1,1 +1,3 @@
 pub mod Distance
+pub mod Order
+pub mod Vectors

@@ -3,6 +3,9 @@
 // 1 − dot, and infinity where the lengths differ: equal to `distanceOf` of specs/Distance for slices
 // of any length and floats of any kind. `cosine_distance_normalized8` takes eight rows at once and
 // `cosine_distance_normalized_block` the eight rows of a block, with the bits of eight single distances.
+pub mod order;
+pub mod vectors;
+
 ghost use mathlib.Core.Path.{_≡_};
 ghost use lib.Ieee.{binary32};
 ghost use Rattle.distance.specs.Distance.{distanceOf, distancesOf, blockDistancesOf};

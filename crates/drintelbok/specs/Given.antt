@@ -3,7 +3,7 @@ use mathlib.Core.List.{List, [], _∷_}
 use Prim.Native.Nat.{ℕ}
 use lib.ListN.{getD}
 use lib.Ieee.{Float}
-use Rattle.calls.specs.Search.{Reply}
+use Rattle.def_calls.specs.Search.{Reply}
 use Rattle.basics.specs.Refusals.{Values}
 use Rattle.drintelbok.specs.declared.PipnnFound.{PipnnFound}
 use Rattle.drintelbok.specs.declared.PipnnRecognised.{PipnnRecognised}

@@ -12,17 +12,17 @@
 ghost use mathlib.Core.Path.{_≡_};
 ghost use lib.ListN.{length};
 ghost use Rattle.pipnn.specs.Add.{addSpec};
-ghost use Rattle.calls.specs.Build.{buildSpec};
-ghost use Rattle.calls.specs.Search.{searchWithEfSpec, searchSpec};
+ghost use Rattle.def_calls.specs.Build.{buildSpec};
+ghost use Rattle.def_calls.specs.Search.{searchWithEfSpec, searchSpec};
 ghost use Rattle.recognise.specs.Recognise.{recogniseSpec};
 ghost use Rattle.household.specs.Household.{householdOf};
 ghost use Rattle.drintelbok.specs.New.{paramsFrom, newFrom};
 ghost use Rattle.drintelbok.specs.Given.{foundWith, recognisedWith, countedAs};
 ghost use Rattle.drintelbok.specs.Sizes.{wordsNeeded, floatsNeeded, scratchWordsNeeded, scratchFloatsNeeded};
 use household::Household;
-use ids::DocId;
 use params::PipnnParams;
-use score::Recognised;
+use recognise::score::Recognised;
+use words::ids::DocId;
 
 // What a search gives besides its two outputs: 0 or the number of a refusal, how many nodes are in the
 // outputs, how many were scored.

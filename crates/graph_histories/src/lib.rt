@@ -5,6 +5,8 @@
 // the answer by this project's calls and says whether it is the recorded one. The tokens are those of the
 // line and no more, so that an answer can be compared to its end.
 // All are proved safe on lines and stores of any content, and nothing more.
+pub mod leaf_histories;
+
 ghost use mathlib.Core.Path.{_≡_};
 ghost use lib.ListN.{length};
 use histories::History;
@@ -12,6 +14,7 @@ use histories::OLD;
 use histories::SCRATCH_FLOATS;
 use histories::SCRATCH_WORDS;
 use search::Found;
+use words::bits;
 
 // A build of what is lent, with as much scratch as the line says.
 fn build_with_scratch(tokens: &[u64], words: &mut [u32], floats: &[f32]) -> u32 {

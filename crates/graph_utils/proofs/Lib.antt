@@ -1,4 +1,2 @@
-pub mod Bridges
-pub mod Laws
-pub mod Lengths
-pub mod Examples
+pub mod Steps
+pub mod Refining

@@ -1,2 +1,4 @@
-pub mod Repair
-pub mod Lengths
+pub mod Turns
+pub mod Connectivity
+pub mod Marking
+pub mod Candidates

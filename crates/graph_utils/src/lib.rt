@@ -1,13 +1,138 @@
-// Repair (01, part 7): `mark_reachable` and `ensure_connectivity` of src/graph_utils.rs. Definitions and laws.
+// Repair (01, part 7), as `ensure_connectivity` of src/graph_utils.rs: every node that is not reached from
+// the entry along out-edges gets a bridge from a reached one. The Rust's lists grow; here rows stay, and
+// bridges are words of their own, linked by chains. Marks and the stack of marking are a local array, since
+// a call needs them beside the links: 1,024 nodes, 8 KB.
 //
-// A search follows out-edges from the entry node, so a node that no chain of them leads to would never be
-// found. Repair goes through the nodes in order and builds a bridge to each that is not reached by then, from
-// the nearest reached node of a few that are cheap to look at. A bridge is an entry in both its ends' lists.
-// The rows are not touched: what repair gives is the bridges, in order.
+// `ensure_connectivity` is total. On at most 1,024 nodes with entries among them it is the definition's
+// `ensureConnectivity`; what the scratch held does not show.
 //
-// specs/Repair     `mark_reachable` and `ensure_connectivity`, over rows as a list of lists
-// specs/Lengths    how long the lists of the nodes are, together and at most
-// proofs/Laws      every node is reached along out-edges of the lists with bridges; fewer bridges than nodes;
-//                  both ends of one are nodes, and different
-// proofs/Lengths   a bridge makes the lists longer by two entries in total
-// proofs/Examples  repairs that compute
+// specs/Connectivity   what it leaves behind
+// specs/Turns          the turns on words
+// proofs/Refining      they are the definition's turns
+pub mod candidates;
+pub mod marking;
+
+ghost use mathlib.Core.Path.{_≡_};
+ghost use Prim.Native.Nat.{_≤_, _<_};
+ghost use Rattle.lists.specs.Words.{rowLists};
+ghost use Rattle.distance.specs.Vectors.{vectorsIn};
+ghost use Rattle.graph_utils.specs.Connectivity.{Repairs};
+ghost use Rattle.graph_utils.specs.Turns.{work, putBridge, turned, begun, turnedTo};
+use lists::chains;
+use words::ids::Node;
+
+// Builds the bridges that make every node reachable from the entry, and returns how many there are. `words`
+// is scratch for four words a node.
+pub fn ensure_connectivity(
+    rows: &[u32],
+    degree: u16,
+    vectors: &[f32],
+    dimension: u32,
+    entry: Node,
+    bridges: &mut [u32],
+    words: &mut [u32],
+) -> u32
+    ensures { λ r. ⌜ Repairs (rowLists degree (now (rows .entry))) (entry .0) (vectorsIn dimension (now (vectors .entry))) (now (bridges .entry)) (now (words .entry)) r (now (bridges .exit)) ⌝ }
+{
+    let n = rows.len() / (1 + degree as usize);
+    if n > 1024 {
+        return 0;
+    }
+    let mut state = [0u32; 2048];
+    repair(
+        rows,
+        degree,
+        vectors,
+        dimension,
+        entry,
+        bridges,
+        words,
+        &mut state[..],
+        n as u32,
+    )
+}
+
+// The same, with links and marks lent.
+fn repair(
+    rows: &[u32],
+    degree: u16,
+    vectors: &[f32],
+    dimension: u32,
+    entry: Node,
+    bridges: &mut [u32],
+    links: &mut [u32],
+    state: &mut [u32],
+    n: u32,
+) -> u32
+    requires { ⌜ n ≤ 1024 ⌝ }
+    ensures { λ r. ⌜ work r (now (bridges .exit)) (now (links .exit)) (now (state .exit)) ≡ turnedTo degree (now (rows .entry)) (vectorsIn dimension (now (vectors .entry))) (entry .0) n (begun degree (now (rows .entry)) (vectorsIn dimension (now (vectors .entry))) (entry .0) n (now (bridges .entry)) (now (links .entry)) (now (state .entry))) n ⌝ }
+{
+    chains::clear_links(links, n);
+    marking::mark_reachable(rows, degree, bridges, links, state, n, entry);
+    let mut count: u32 = 0;
+    let mut i: u32 = 0;
+    while i < n {
+        count = turn(
+            rows,
+            degree,
+            vectors,
+            dimension,
+            entry,
+            bridges,
+            links,
+            state,
+            n,
+            count,
+            i,
+        );
+        i += 1;
+    }
+    count
+}
+
+// The turn of node i: nothing if it is reached, else a bridge and what that makes reachable.
+fn turn(
+    rows: &[u32],
+    degree: u16,
+    vectors: &[f32],
+    dimension: u32,
+    entry: Node,
+    bridges: &mut [u32],
+    links: &mut [u32],
+    state: &mut [u32],
+    n: u32,
+    count: u32,
+    i: u32,
+) -> u32
+    requires { ⌜ count < 1024 ⌝ }
+    ensures { λ r. ⌜ work r (now (bridges .exit)) (now (links .exit)) (now (state .exit)) ≡ turned degree (now (rows .entry)) (vectorsIn dimension (now (vectors .entry))) (entry .0) n i (work count (now (bridges .entry)) (now (links .entry)) (now (state .entry))) ⌝ }
+{
+    let mark = store::word_at(state, i as usize);
+    if 0 < mark {
+        return count;
+    }
+    let node = Node(i);
+    let near = candidates::bridge_start(
+        rows,
+        degree,
+        bridges,
+        links,
+        state,
+        n,
+        vectors,
+        dimension,
+        entry,
+        node,
+    );
+    put_bridge(bridges, count, near, node);
+    chains::chain_bridge(links, n, count, near, node);
+    marking::mark_reachable(rows, degree, bridges, links, state, n, node);
+    count + 1
+}
+
+fn put_bridge(bridges: &mut [u32], count: u32, near: Node, far: Node)
+    ensures { λ _. ⌜ now (bridges .exit) ≡ putBridge count (near .0) (far .0) (now (bridges .entry)) ⌝ }
+{
+    chains::put(bridges, 2 * count as usize, near.0);
+    chains::put(bridges, 2 * count as usize + 1, far.0);
+}

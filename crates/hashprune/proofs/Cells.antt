@@ -19,8 +19,8 @@ use Rattle.basics.specs.Nodes.{Below}
 use Rattle.basics.proofs.Tests.{both-true, one-false}
 use Rattle.basics.proofs.Members.{in-getD}
 use Rattle.sorting.specs.Sorting.{pairs}
-use Rattle.leaf.specs.Leaf.{Cell, nodesIn, putCell, cellsFrom}
-use Rattle.leaf.proofs.Cells.{hashesIn, cells-in}
+use Rattle.def_graph.specs.Leaf.{Cell, nodesIn, putCell, cellsFrom}
+use Rattle.def_graph.proofs.leaf.Cells.{hashesIn, cells-in}
 use Rattle.hashprune.proofs.Lists.{length-inserted}
 use Rattle.hashprune.specs.Steps.{cellIn, cellsIn, AllBelow, Placed, insertedAt, firstPlaces}
 

@@ -9,7 +9,7 @@ use native.Mathlib.Omega.{arith}
 use lib.ListN.{length, getD, set, take, drop, length-take, length-drop, length-append, take-append-drop, drop-of-length-le}
 use lib.Seq.{take-at, drop-cons, drop-length, getD-at, length-take-le}
 use lib.Ieee.{Float}
-use Rattle.slices.proofs.Laws.{copied, copied-more}
+use Rattle.words.proofs.slices.Laws.{copied, copied-more}
 use Rattle.hashprune.specs.Steps.{insertedAt}
 
 pub length-inserted : (l : List ℕ) (j v : ℕ) → length (insertedAt j v l) ≡ suc (length l)

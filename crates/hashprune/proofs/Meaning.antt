@@ -16,13 +16,13 @@ use Rattle.basics.specs.Choice.{pick}
 use Rattle.basics.specs.Nodes.{Below}
 use Rattle.basics.proofs.Pieces.{nth-piece}
 use Rattle.basics.proofs.Members.{in-getD}
-use Rattle.order.specs.Order.{keyOf}
+use Rattle.distance.specs.Order.{keyOf}
 use Rattle.sorting.specs.Sorting.{sortBy, keyIn, idIn}
 use Rattle.sorting.proofs.Laws.{sort-map, take-map}
-use Rattle.vectors.specs.Vectors.{vectorsIn, vectorOf, between, rank}
-use Rattle.leaf.specs.Simhash.{residual}
-use Rattle.leaf.specs.Leaf.{Cell, nodesIn, putCell, cellsFrom, dedup, hashOf, selected, merged}
-use Rattle.leaf.proofs.Cells.{cells-in}
+use Rattle.distance.specs.Vectors.{vectorsIn, vectorOf, between, rank}
+use Rattle.def_graph.specs.Simhash.{residual}
+use Rattle.def_graph.specs.Leaf.{Cell, nodesIn, putCell, cellsFrom, dedup, hashOf, selected, merged}
+use Rattle.def_graph.proofs.leaf.Cells.{cells-in}
 use Rattle.simhash.specs.Blocks.{blocksHash}
 use Rattle.simhash.proofs.Residual.{length-residual}
 use Rattle.simhash.proofs.Laws.{hash-is-simhash}

@@ -8,7 +8,7 @@ use lib.Seq.{take-all, take-at, take-take, take-append-add, take-append-le, drop
 use Rattle.sorting.specs.Sorting.{sortBy, pairs, keyIn, idIn, keysOf, idsOf, sortedPairs, sortedKeys, sortedIds}
 use Rattle.sorting.proofs.Laws.{length-sort, take-map}
 use Rattle.sorting.proofs.Pairs.{length-pairs, length-front, pairs-append, pairs-of, pairs-put}
-use Rattle.slices.proofs.Laws.{copied, copied-more}
+use Rattle.words.proofs.slices.Laws.{copied, copied-more}
 use Rattle.hashprune.specs.Steps.{Selected}
 use Rattle.hashprune.proofs.Lists.{take-least}
 

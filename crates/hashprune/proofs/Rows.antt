@@ -12,9 +12,9 @@ use lib.Seq.{take-all, take-length, drop-length, drop-cons, getD-take, getD-set-
 use lib.Ieee.{Float}
 use Rattle.basics.specs.Choice.{pick-true, pick-false}
 use Rattle.basics.proofs.Tests.{both-true, one-false}
-use Rattle.leaf.specs.Leaf.{startsWith, dedup}
+use Rattle.def_graph.specs.Leaf.{startsWith, dedup}
 use Rattle.store.specs.View.{entriesIn, rowBlock}
-use Rattle.slices.proofs.Laws.{copied, copied-more}
+use Rattle.words.proofs.slices.Laws.{copied, copied-more}
 use Rattle.hashprune.specs.Steps.{rankedNode, oldPairs}
 
 -- ---- entries

@@ -5,10 +5,10 @@ use Prim.Native.Nat.{ℕ, _+_, _-_, _*_, _/_, _≤_, _<_}
 use lib.ListN.{length}
 use lib.Ieee.{Float, binary32}
 use Rattle.basics.specs.Nodes.{Below}
-use Rattle.hyperplanes.specs.Hyperplanes.{planeNumbers}
-use Rattle.vectors.specs.Vectors.{vectorsIn, between}
+use Rattle.random.specs.Hyperplanes.{planeNumbers}
+use Rattle.distance.specs.Vectors.{vectorsIn, between}
 use Rattle.simhash.specs.Blocks.{planeBlocks}
-use Rattle.leaf.specs.Leaf.{selected, merged}
+use Rattle.def_graph.specs.Leaf.{selected, merged}
 use Rattle.store.specs.View.{rowBlock}
 
 -- `planes` are the blocks that `simhash::plane_blocks_into` makes of a table of the stream's first numbers, whatever follows them, with room for

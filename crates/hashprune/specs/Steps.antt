@@ -6,12 +6,12 @@ use Prim.Native.Nat.{ℕ, zero, suc, _-_, _≤_, _<_, min}
 use lib.ListN.{length, getD, take, drop}
 use lib.Ieee.{Float, binary32, nan}
 use Rattle.basics.specs.Nodes.{Below}
-use Rattle.order.specs.Order.{keyOf}
+use Rattle.distance.specs.Order.{keyOf}
 use Rattle.distance.specs.Distance.{distanceOf}
 use Rattle.sorting.specs.Sorting.{sortBy, pairs, keyIn, idIn, keysOf, idsOf}
-use Rattle.vectors.specs.Vectors.{vectorsIn, vectorOf}
-use Rattle.leaf.specs.Simhash.{residual}
-use Rattle.leaf.specs.Leaf.{Cell, nodesIn, cellsFrom, dedup}
+use Rattle.distance.specs.Vectors.{vectorsIn, vectorOf}
+use Rattle.def_graph.specs.Simhash.{residual}
+use Rattle.def_graph.specs.Leaf.{Cell, nodesIn, cellsFrom, dedup}
 use Rattle.simhash.specs.Blocks.{blocksHash}
 use Rattle.store.specs.View.{entriesIn, rowBlock}
 

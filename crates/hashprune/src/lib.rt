@@ -18,17 +18,20 @@ ghost use lib.Dec.{ltb, eqb};
 ghost use lib.Ieee.{binary32, lt};
 ghost use lib.ListN.{length, getD, set, take, drop};
 ghost use Rattle.basics.specs.Choice.{pick};
-ghost use Rattle.order.specs.Order.{keyOf};
+ghost use Rattle.distance.specs.Order.{keyOf};
 ghost use Rattle.distance.specs.Distance.{distanceOf};
-ghost use Rattle.vectors.specs.Vectors.{vectorsIn, vectorOf};
+ghost use Rattle.distance.specs.Vectors.{vectorsIn, vectorOf};
 ghost use Rattle.sorting.specs.Sorting.{pairs, keysOf, idsOf, sortedKeys, sortedIds};
-ghost use Rattle.leaf.specs.Leaf.{putCell, dedup};
+ghost use Rattle.def_graph.specs.Leaf.{putCell, dedup};
 ghost use Rattle.store.specs.View.{rowBlock};
 ghost use Rattle.hashprune.specs.Steps.{cellIn, cellsIn, Placed, insertedAt, farAt, ContestRoom, hashBy, cellsOf};
 ghost use Rattle.hashprune.specs.Steps.{CellRoom, PlaceRoom, RowRoom, SortRoom, SelectRoom, Selected, MergeRoom, TurnRoom, TurnScratch, rowAfter};
 ghost use Rattle.hashprune.specs.Steps.{rankedPlace, selectedPairs, oldPairs, mergedPairs};
 ghost use Rattle.hashprune.specs.Hashprune.{Inserted};
-use ids::Node;
+use distance::order;
+use distance::vectors;
+use words::ids::Node;
+use words::slices;
 
 // The hash of a candidate's residual, seen from p.
 fn hash_of(p: &[f32], c: &[f32], planes: &[f32], bits: u32) -> u32

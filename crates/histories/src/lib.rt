@@ -9,8 +9,10 @@
 ghost use mathlib.Core.Path.{_≡_};
 ghost use Prim.Native.Nat.{_≤_};
 ghost use lib.ListN.{length};
-use ids::DocId;
 use params::PipnnParams;
+use random::lcg;
+use words::bits;
+use words::ids::DocId;
 
 // What a history has come to, besides the content of its stores: how many words and floats they have, and
 // how many of them are lent. A float keeps no pattern of a NaN, so the last one that a line set is kept here,

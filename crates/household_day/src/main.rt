@@ -9,9 +9,9 @@
 ghost use Prim.Native.Nat.{_≤_};
 ghost use lib.ListN.{length};
 use household::Household;
-use ids::DocId;
 use libc::STDIN_FILENO;
 use libc::STDOUT_FILENO;
+use words::ids::DocId;
 
 // A decimal number that was read and where it ends, or that there is none that fits 64 bits.
 pub enum Number {

@@ -16,12 +16,14 @@
 // specs/Words     a block of words, the rows and bridges that words stand for, the words a build makes of rows
 // proofs/Reading  a word of a block, and a row, from its block
 // proofs/Blocks   rows as a build leaves them: how long, what is read back, one row put in place
+pub mod chains;
+
 ghost use mathlib.Core.Path.{_≡_};
 ghost use mathlib.Core.List.{[]};
 ghost use lib.ListN.{getD};
 ghost use Rattle.store.specs.Layout.{word, bridgeSize};
 ghost use Rattle.lists.specs.Words.{blockAt, rowLists};
-use ids::Node;
+use words::ids::Node;
 
 // Blocks of `stride` words each, one after the other: rows, or bridges.
 pub struct ListView<'a> {

@@ -1,8 +1,11 @@
 // The numbers' functions behind C, for bench/ alone: a loop over rows inside the library, so that a call
 // from outside is paid once for many rows. Proved safe; what they compute is the business of the crates
 // that they call.
+pub mod measured_stores;
+
 ghost use Prim.Native.Nat.{_+_, _≤_};
 ghost use lib.ListN.{length};
+use norm::root;
 use simd::Eight;
 
 // Each row's distance to the query, one at a time. Answers how many rows there were.

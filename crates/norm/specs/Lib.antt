@@ -1,1 +1,3 @@
 pub mod Norm
+pub mod Root
+pub mod Part2

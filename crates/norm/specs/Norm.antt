@@ -5,7 +5,7 @@ use Prim.Native.Nat.{_^_}
 use lib.Ieee.{Float, Format, round, lt, div}
 use Rattle.basics.specs.Choice.{pick}
 use Rattle.basics.specs.Sum.{sumFrom, sumOf, products}
-use Rattle.root.specs.Root.{rootOf}
+use Rattle.norm.specs.Root.{rootOf}
 
 -- 1e-10, rounded to the format
 unfoldable pub tiny : Format → Float

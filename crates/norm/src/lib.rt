@@ -3,6 +3,8 @@
 //
 // The squares have a sum of their own, apart from the sum of distances. Both functions are equal to
 // their definitions in specs/Norm for slices of any length and floats of any kind.
+pub mod root;
+
 ghost use mathlib.Core.Path.{_≡_};
 ghost use mathlib.Core.List.{map};
 ghost use lib.Ieee.{Float, binary32, div};

@@ -6,6 +6,8 @@
 //
 // It promises: each test is total and says exactly whether the value is within its limits, both ends
 // included. It leans on `finite` for alpha.
+pub mod finite;
+
 ghost use mathlib.Core.Path.{_≡_};
 ghost use Rattle.params.specs.Limits.{dimensionWithin, capacityWithin, withinLimits};
 

@@ -16,7 +16,7 @@ use Rattle.basics.proofs.Refusals.{passes, both-none}
 use Rattle.store.specs.declared.Lent.the-variants.{Nothing}
 use Rattle.store.specs.Layout.{word, builtState, stateAt, dimensionAt, nodesAt, capacityAt, docsAt}
 use Rattle.store.specs.Opening.{opening}
-use Rattle.slices.proofs.Laws.{copied-whole}
+use Rattle.words.proofs.slices.Laws.{copied-whole}
 use Rattle.store.proofs.Sizes.{product-le}
 use Rattle.store.proofs.Opened.{Opened, opened, opening-numbered}
 use Rattle.norm.specs.Norm.{scaledOf}

@@ -20,10 +20,12 @@ ghost use Rattle.store.specs.Layout.{headerSize};
 ghost use Rattle.store.specs.View.{emptyHeader};
 ghost use Rattle.pipnn.specs.New.{newChecks, newSpec};
 ghost use Rattle.pipnn.specs.Add.{addChecks, addSpec};
-use ids::DocId;
-use ids::Node;
 use params::PipnnParams;
+use params::finite;
 use store::Lent;
+use words::ids::DocId;
+use words::ids::Node;
+use words::slices;
 
 // The number of the first of `new`'s checks that fails, or 0.
 fn new_refusal(words: &[u32], floats: &[f32], dimension: u32, p: PipnnParams, capacity: u32) -> u32

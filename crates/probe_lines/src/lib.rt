@@ -8,13 +8,14 @@
 //
 // Everything here is proved safe on every line, state and store, and nothing more: what is printed is
 // compared with recorded runs. It leans on `pipnn`, `build` and `search` for the calls.
-use ids::DocId;
-use ids::Node;
 use params::PipnnParams;
 use probe_text::CAP;
 use probe_text::HEADERS;
 use probe_text::Read;
 use search::Found;
+use words::bits;
+use words::ids::DocId;
+use words::ids::Node;
 
 // The probe takes a capacity up to this one. Above it reading ends.
 pub const MOST_CAPACITY: u32 = 64;

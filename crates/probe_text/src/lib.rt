@@ -7,8 +7,9 @@
 // recorded runs. It leans on `replay` and `io` for digits, on `bits` for floats.
 ghost use Prim.Native.Nat.{_+_};
 ghost use Rattle.probe_text.specs.Places.{EndsFrom};
-use ids::DocId;
-use ids::Node;
+use words::bits;
+use words::ids::DocId;
+use words::ids::Node;
 
 // The header lines, in 01's order: dim, leaf, min, fraction, degree, bits, final, alpha, ef, cap.
 pub const HEADERS: usize = 10;

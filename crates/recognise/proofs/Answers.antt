@@ -18,8 +18,8 @@ use Rattle.store.specs.Layout.{word, nodesAt}
 use Rattle.store.specs.View.{view}
 use Rattle.store.specs.Opening.{opening}
 use Rattle.store.proofs.Opened.{opening-numbered}
-use Rattle.calls.specs.Search.{askingChecks, ownSearchChecks, searchChecks, farIn, foundIn, Reply, refused, replyOf, searchWithEfSpec}
-use Rattle.score.specs.Recognised.{newAs, refusedAs, recognisedAs}
+use Rattle.def_calls.specs.Search.{askingChecks, ownSearchChecks, searchChecks, farIn, foundIn, Reply, refused, replyOf, searchWithEfSpec}
+use Rattle.recognise.specs.Recognised.{newAs, refusedAs, recognisedAs}
 use Rattle.recognise.specs.Recognise.{recogniseChecks, nearestOf, docIn, recogniseSpec}
 
 -- ---- a check at the end of a list

@@ -6,9 +6,9 @@ use lib.Ieee.{inf, ofBits, toBits, add, sub, mul, div, lt, le, eq, isNan, ofInt,
 use Rattle.basics.specs.Sum.{+zero, +one}
 use Rattle.pipnn.specs.New.{newSpec}
 use Rattle.pipnn.specs.Add.{addSpec}
-use Rattle.calls.specs.Build.{buildSpec}
-use Rattle.calls.specs.Example.{minusOne, added, exampleBuilt}
-use Rattle.score.specs.Recognised.{knownAs, newAs, refusedAs}
+use Rattle.def_calls.specs.Build.{buildSpec}
+use Rattle.def_calls.specs.Example.{minusOne, added, exampleBuilt}
+use Rattle.recognise.specs.Recognised.{knownAs, newAs, refusedAs}
 use Rattle.recognise.specs.Recognise.{recogniseSpec}
 
 -- at the limit itself

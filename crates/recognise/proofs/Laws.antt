@@ -23,12 +23,12 @@ use Rattle.store.specs.View.{view, listIn}
 use Rattle.store.specs.Opening.{opening}
 use Rattle.store.proofs.Header.{Built}
 use Rattle.store.proofs.Opened.{Opened, opened, opening-numbered}
-use Rattle.beam.specs.KeepClosest.{keyAt}
-use Rattle.beam.specs.Beam.{placesFor, walked, beamSearch, answerOf}
-use Rattle.beam.proofs.Laws.{ended}
-use Rattle.calls.specs.Search.{askingChecks, farIn, scoredIn, foundIn}
+use Rattle.def_walk.specs.KeepClosest.{keyAt}
+use Rattle.def_walk.specs.Beam.{placesFor, walked, beamSearch, answerOf}
+use Rattle.def_walk.proofs.beam.Laws.{ended}
+use Rattle.def_calls.specs.Search.{askingChecks, farIn, scoredIn, foundIn}
 use Rattle.search.proofs.Inside.{lists-inside}
-use Rattle.score.specs.Recognised.{recognisedAs}
+use Rattle.recognise.specs.Recognised.{recognisedAs}
 use Rattle.recognise.specs.Recognise.{recogniseChecks, nearestOf, docIn, recogniseSpec}
 
 decided : (doc : ℕ) (d limit : Float) → recognisedAs doc d limit .0 ≡ 0

@@ -1,1 +1,3 @@
 pub mod Recognise
+pub mod Score
+pub mod Recognised

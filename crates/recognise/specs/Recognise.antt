@@ -13,8 +13,8 @@ use Rattle.basics.specs.Refusals.{Check, check, firstRefusal, Values}
 use Rattle.store.specs.declared.Lent.the-variants.{Scratch}
 use Rattle.store.specs.View.{View, view}
 use Rattle.store.specs.Opening.{opening}
-use Rattle.calls.specs.Search.{askingChecks, farIn, foundIn}
-use Rattle.score.specs.Recognised.{newAs, refusedAs, recognisedAs}
+use Rattle.def_calls.specs.Search.{askingChecks, farIn, foundIn}
+use Rattle.recognise.specs.Recognised.{newAs, refusedAs, recognisedAs}
 
 -- ---- its checks: search's except 12, then 13 for a limit that is not finite
 

@@ -12,12 +12,15 @@
 // three phones.
 //
 // It leans on `search` for the checks and the walk, on `score` for the answer at a distance.
+pub mod score;
+
 ghost use mathlib.Core.Path.{_≡_};
 ghost use lib.ListN.{length};
-ghost use Rattle.score.specs.Recognised.{recognisedValues};
+ghost use Rattle.recognise.specs.Recognised.{recognisedValues};
 ghost use Rattle.recognise.specs.Recognise.{recogniseSpec};
-use ids::DocId;
+use params::finite;
 use score::Recognised;
+use words::ids::DocId;
 
 pub fn recognise(
     words: &[u32],

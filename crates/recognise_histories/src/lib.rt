@@ -7,8 +7,9 @@
 // more.
 use histories::History;
 use household::Household;
-use ids::DocId;
-use score::Recognised;
+use recognise::score;
+use recognise::score::Recognised;
+use words::ids::DocId;
 
 // Whether an answer of so many tokens, from `from` on, ends the line.
 fn ends(tokens: &[u64], from: usize, count: usize) -> bool {

@@ -9,6 +9,7 @@ ghost use lib.ListN.{length, take};
 ghost use Rattle.replay.specs.Bounds.{Advanced};
 use libc::STDIN_FILENO;
 use libc::STDOUT_FILENO;
+use words::bits;
 
 // A line that was read: how many tokens it has, of which the first `asked` are the question, whether its
 // end was seen, and where the next line starts.

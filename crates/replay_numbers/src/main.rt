@@ -1,10 +1,18 @@
 // Replays the recorded answers on numbers (recorded/numbers.txt): each case is worked out by this
 // project's functions and compared with the oracle's answer, bit for bit. Prints for each kind how many
 // cases there were and how many differ.
+mod plane_stream;
+
 ghost use Prim.Native.Nat.{_≤_};
 ghost use mathlib.Core.Path.{_≡_};
 ghost use lib.ListN.{length};
+use finish::medoid;
+use norm::root;
+use random::hyperplanes;
+use random::lcg;
+use random::leaders;
 use simd::Eight;
+use words::bits;
 
 // Past a counted list that starts at `at`.
 fn past(tokens: &[u64], at: usize) -> usize
@@ -227,4 +235,5 @@ fn main() {
         &mut tallies,
     );
     replay::write_tallies(&NAMES, &tallies);
+    plane_stream::write_tally();
 }

@@ -1,5 +1,7 @@
 // Replays the recorded runs of the program probe (recorded/README.md, "probe/"), and prints how many there were
 // and how many differ.
+mod probe_runs;
+
 ghost use mathlib.Core.Path.{_≡_};
 ghost use lib.ListN.{length};
 use libc::STDIN_FILENO;

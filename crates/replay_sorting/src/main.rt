@@ -3,6 +3,7 @@
 // were and how many differ.
 ghost use mathlib.Core.Path.{_≡_};
 ghost use lib.ListN.{length};
+use distance::order;
 
 // The keys of up to n distances, from `from` on, and their places, at the fronts of two slices.
 fn load_keys(tokens: &[u64], from: usize, n: usize, keys: &mut [u32], places: &mut [u32]) {

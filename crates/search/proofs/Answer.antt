@@ -9,8 +9,8 @@ use lib.Seq.{take-all}
 use lib.Ieee.{Float}
 use Rattle.sorting.specs.Sorting.{sortBy}
 use Rattle.sorting.proofs.Laws.{length-sort}
-use Rattle.beam.specs.KeepClosest.{keyAt}
-use Rattle.beam.specs.Beam.{answerOf}
+use Rattle.def_walk.specs.KeepClosest.{keyAt}
+use Rattle.def_walk.specs.Beam.{answerOf}
 
 take-room : (k n : ℕ) (l : List ℕ) → length l ≤ n → take k l ≡ take (min k n) l
 take-room k n l h = elim (decLe k n) [

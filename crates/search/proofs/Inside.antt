@@ -19,7 +19,7 @@ use Rattle.store.proofs.Reading.{rows-read, bridges-read}
 use Rattle.store.proofs.Good.{row-good, BridgeGood, bridge-good}
 use Rattle.store.proofs.Sizes.{Room}
 use Rattle.lists.proofs.Parts.{bridgePart, bridges-part}
-use Rattle.graph_utils.proofs.Bridges.{Ends, AllEnds, list-below}
+use Rattle.def_walk.proofs.graph_utils.Bridges.{Ends, AllEnds, list-below}
 
 all-ends : (n : ℕ) (d : Bridge) (bs : List Bridge) → ((j : ℕ) → j < length bs → Ends n (getD bs j d)) → AllEnds n bs
 all-ends n d [] h = tt

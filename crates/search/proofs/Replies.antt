@@ -17,9 +17,9 @@ use Rattle.store.specs.declared.Lent.the-variants.{Scratch}
 use Rattle.store.specs.View.{view}
 use Rattle.store.specs.Opening.{opening}
 use Rattle.store.proofs.Opened.{opening-numbered}
-use Rattle.beam.specs.Beam.{farFrom}
-use Rattle.calls.specs.Search.{ownSearchChecks, searchChecks, Reply, refused, farIn, scoredIn, foundIn, replyOf, searchWithEfSpec}
-use Rattle.calls.proofs.Taken.{SearchTaken, search-taken}
+use Rattle.def_walk.specs.Beam.{farFrom}
+use Rattle.def_calls.specs.Search.{ownSearchChecks, searchChecks, Reply, refused, farIn, scoredIn, foundIn, replyOf, searchWithEfSpec}
+use Rattle.def_calls.proofs.Taken.{SearchTaken, search-taken}
 use Rattle.search.specs.Giving.{Ready, replyBy}
 
 -- ---- a query scaled at the front of a longer list

@@ -26,15 +26,15 @@ use Rattle.store.proofs.Header.{Built}
 use Rattle.store.proofs.Opened.{Opened, opened}
 use Rattle.store.proofs.Reading.{doc-read}
 use Rattle.store.proofs.Sizes.{product-le}
-use Rattle.vectors.specs.Vectors.{vectorsIn}
+use Rattle.distance.specs.Vectors.{vectorsIn}
 use Rattle.lists.proofs.Parts.{rowPart, rows-part, bridgePart, bridges-part, vectorPart, vectors-part}
-use Rattle.beam.specs.KeepClosest.{keyAt}
-use Rattle.beam.specs.Beam.{farFrom, placesFor, beamSearch, answerOf}
-use Rattle.beam.proofs.Laws.{scored-nodes, scored-few, answer-few}
+use Rattle.def_walk.specs.KeepClosest.{keyAt}
+use Rattle.def_walk.specs.Beam.{farFrom, placesFor, beamSearch, answerOf}
+use Rattle.def_walk.proofs.beam.Laws.{scored-nodes, scored-few, answer-few}
 use Rattle.beam_search.specs.declared.Walked.{Walked}
 use Rattle.beam_search.specs.Search.{within, nodesOfWords, SearchFits, Searched, Searching}
 use Rattle.beam_search.specs.Search.{listInWords}
-use Rattle.calls.specs.Search.{Reply}
+use Rattle.def_calls.specs.Search.{Reply}
 use Rattle.search.specs.Docs.{docAt}
 use Rattle.search.specs.declared.Parts.{Parts}
 use Rattle.search.specs.Giving.{PartsIn, Ready, replyBy}

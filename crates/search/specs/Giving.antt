@@ -9,8 +9,8 @@ use Rattle.store.specs.declared.Lent.the-variants.{Scratch}
 use Rattle.store.specs.Layout.{word, builtState, stateAt, dimensionAt, nodesAt, degreeAt, entryAt, bridgeCountAt, capacityAt, rowsAt, rowAt, bridgesAt, bridgeAt}
 use Rattle.store.specs.View.{View, listIn}
 use Rattle.store.specs.Opening.{opening}
-use Rattle.beam.specs.Beam.{placesFor, beamSearch, answerOf}
-use Rattle.calls.specs.Search.{Reply}
+use Rattle.def_walk.specs.Beam.{placesFor, beamSearch, answerOf}
+use Rattle.def_calls.specs.Search.{Reply}
 use Rattle.search.specs.declared.Found.{Found}
 use Rattle.search.specs.declared.Parts.{Parts}
 

@@ -21,12 +21,14 @@ ghost use Rattle.norm.specs.Norm.{scaledOf};
 ghost use Rattle.params.specs.Limits.{mostDegree};
 ghost use Rattle.store.specs.Layout.{word, nodesAt, degreeAt};
 ghost use Rattle.store.specs.View.{view};
-ghost use Rattle.calls.specs.Search.{searchChecks, replyOf, searchWithEfSpec, searchSpec};
-ghost use Rattle.beam.specs.Beam.{farFrom};
+ghost use Rattle.def_calls.specs.Search.{searchChecks, replyOf, searchWithEfSpec, searchSpec};
+ghost use Rattle.def_walk.specs.Beam.{farFrom};
 ghost use Rattle.search.specs.Docs.{docAt};
 ghost use Rattle.search.specs.Giving.{PartsIn, Ready, gives, replyBy};
-use ids::Node;
+use params::finite;
 use store::Lent;
+use words::ids::Node;
+use words::slices;
 
 // What a search gives besides its two outputs: 0 or the number of a refusal, how many nodes are in the
 // outputs, how many were scored.

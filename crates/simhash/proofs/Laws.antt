@@ -9,9 +9,9 @@ use lib.Seq.{getD-drop}
 use lib.Ieee.{Float, Format, binary32, nan, mul, le}
 use Rattle.basics.specs.Choice.{pick}
 use Rattle.basics.specs.Sum.{+zero, sumOf, products}
-use Rattle.hyperplanes.specs.Hyperplanes.{planeNumber, planeNumbers}
-use Rattle.leaf.specs.Simhash.{residual, numbersFrom, planeOf, bitSet, simhashResidual}
-use Rattle.leaf.proofs.Planes.{length-numbers, number-at}
+use Rattle.random.specs.Hyperplanes.{planeNumber, planeNumbers}
+use Rattle.def_graph.specs.Simhash.{residual, numbersFrom, planeOf, bitSet, simhashResidual}
+use Rattle.def_graph.proofs.leaf.Planes.{length-numbers, number-at}
 use Rattle.simd.specs.Eight.{rowIn}
 use Rattle.simd.proofs.Lanes.{length-lane, lane-at}
 use Rattle.simhash.specs.Blocks.{bitsOf, sideOf, bitIn, blocksHash, planeAt, componentAt, planeBlocks}

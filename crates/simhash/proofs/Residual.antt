@@ -5,7 +5,7 @@ use Prim.Native.Nat.{ℕ, zero, suc, _<_, min}
 use native.Mathlib.Omega.{arith}
 use lib.ListN.{length, getD}
 use lib.Ieee.{Float, Format, nan, sub}
-use Rattle.leaf.specs.Simhash.{residual}
+use Rattle.def_graph.specs.Simhash.{residual}
 
 pub length-residual : (f : Format) (c p : List Float) → length (residual f c p) ≡ min (length c) (length p)
 unfolding residual

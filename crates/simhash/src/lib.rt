@@ -12,7 +12,7 @@ ghost use lib.ListN.{length, take, drop};
 ghost use lib.Ieee.{binary32, le};
 ghost use Rattle.basics.specs.Choice.{pick};
 ghost use Rattle.basics.specs.Sum.{+zero};
-ghost use Rattle.leaf.specs.Simhash.{residual};
+ghost use Rattle.def_graph.specs.Simhash.{residual};
 ghost use Rattle.simhash.specs.Blocks.{blockHash, blocksHash, blockNumber, planeBlocks};
 
 // The residual c − p at the front of `out`, as far as there is room.

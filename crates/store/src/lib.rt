@@ -37,9 +37,11 @@ ghost use Rattle.store.specs.Layout.{
 ghost use Rattle.store.specs.View.{paramsOf};
 ghost use Rattle.store.specs.WellFormed.{isNode, headerOk, rowOk, countOk, bridgeOk, restOk};
 ghost use Rattle.store.specs.Opening.{storeShort, scratchShort, tooShort, opening};
-use ids::DocId;
-use ids::Node;
 use params::PipnnParams;
+use params::finite;
+use words::bits;
+use words::ids::DocId;
+use words::ids::Node;
 
 // The header's words.
 pub const STATE: usize = 0;

@@ -5,8 +5,8 @@ use mathlib.Core.List.{List, [], _∷_}
 use Prim.Native.Nat.{ℕ}
 use lib.ListN.{length}
 use lib.Ieee.{Float}
-use Rattle.vectors.specs.Vectors.{vectorsIn}
-use Rattle.beam.specs.Beam.{farFrom, beamSearch, answerOf}
+use Rattle.distance.specs.Vectors.{vectorsIn}
+use Rattle.def_walk.specs.Beam.{farFrom, beamSearch, answerOf}
 use Rattle.beam_search.specs.Search.{listInWords, nodesOfWords, Searched}
 use Rattle.beam_search.specs.declared.Walked.{Walked}
 use Rattle.beam_search.proofs.Ending.{Room, has-room, no-room, searched}

@@ -1,8 +1,8 @@
 -- `beam_search::expand` meets its contract: what is fresh in the list is gathered and taken in. Assumes nothing.
 use Rattle.basics.specs.Graph.{listOf}
 use Rattle.lists.specs.Words.{rowLists, bridgeList}
-use Rattle.vectors.specs.Vectors.{vectorsIn}
-use Rattle.beam.specs.Beam.{farFrom}
+use Rattle.distance.specs.Vectors.{vectorsIn}
+use Rattle.def_walk.specs.Beam.{farFrom}
 use Rattle.beam_search.proofs.Taking.{gathered-in}
 use native.Mathlib.Omega.{arith}
 use borrow.Author.Needs.{needs}

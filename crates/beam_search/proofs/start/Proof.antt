@@ -1,8 +1,8 @@
 -- `beam_search::start` meets its contract: the entry node is taken in where nothing was seen. Assumes nothing.
 use lib.Ieee.{ofBits, nanBits}
-use Rattle.beam.proofs.Distances.{far-fits}
-use Rattle.vectors.specs.Vectors.{vectorsIn}
-use Rattle.beam.specs.Beam.{farFrom}
+use Rattle.def_walk.proofs.beam.Distances.{far-fits}
+use Rattle.distance.specs.Vectors.{vectorsIn}
+use Rattle.def_walk.specs.Beam.{farFrom}
 use Rattle.beam_search.proofs.Ending.{started}
 use native.Mathlib.Omega.{arith}
 use borrow.Author.Needs.{needs}

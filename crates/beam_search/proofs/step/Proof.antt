@@ -1,6 +1,6 @@
 -- `beam_search::step` meets its contract, by where it ends: an empty frontier, too far, or a list looked at. Assumes nothing.
-use Rattle.vectors.specs.Vectors.{vectorsIn}
-use Rattle.beam.specs.Beam.{farFrom}
+use Rattle.distance.specs.Vectors.{vectorsIn}
+use Rattle.def_walk.specs.Beam.{farFrom}
 use Rattle.beam_search.specs.Search.{listInWords}
 use Rattle.beam_search.proofs.Walking.{step-empty, step-far, step-on}
 use Rattle.beam_search.proofs.Full.{within-below}

@@ -1,6 +1,6 @@
 -- `beam_search::take_in` meets its contract: the fresh nodes are scored, then pushed. Assumes nothing.
-use Rattle.vectors.specs.Vectors.{vectorsIn}
-use Rattle.beam.specs.Beam.{farFrom}
+use Rattle.distance.specs.Vectors.{vectorsIn}
+use Rattle.def_walk.specs.Beam.{farFrom}
 use Rattle.beam_search.proofs.Taking.{taking-in}
 use borrow.Author.Needs.{needs}
 use Rattle.beam_search.proofs.take_in.Statement.{statement}

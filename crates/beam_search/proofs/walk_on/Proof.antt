@@ -1,7 +1,7 @@
 -- `beam_search::walk_on` meets its contract: the walk of the definition by the steps that are left is the whole. The measure is how many are left. Assumes nothing.
 use mathlib.Core.Path.{_∙_}
-use Rattle.vectors.specs.Vectors.{vectorsIn}
-use Rattle.beam.specs.Beam.{farFrom}
+use Rattle.distance.specs.Vectors.{vectorsIn}
+use Rattle.def_walk.specs.Beam.{farFrom}
 use Rattle.beam_search.specs.Search.{listInWords}
 use Rattle.beam_search.proofs.Walking.{Onward, onward-none, onward-more, onward-ends, onward-all}
 use borrow.Author.Needs.{needs}

@@ -9,8 +9,8 @@ use Rattle.basics.specs.Refusals.{firstRefusal}
 use Rattle.store.specs.View.{view}
 use Rattle.pipnn.specs.Answer.{Answer}
 use Rattle.pipnn.proofs.Answer.{left-alone, changed}
-use Rattle.calls.specs.Graph.{graphFor}
-use Rattle.calls.specs.Build.{buildChecks, builtWords, buildSpec}
+use Rattle.def_calls.specs.Graph.{graphFor}
+use Rattle.def_calls.specs.Build.{buildChecks, builtWords, buildSpec}
 use borrow.Author.Needs.{needs}
 use Rattle.build.proofs.build.Statement.{statement}
 use Rattle.build.proofs.build.Tie as tie

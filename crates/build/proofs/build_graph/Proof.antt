@@ -11,7 +11,7 @@ use Rattle.params.specs.declared.PipnnParams.{PipnnParams}
 use Rattle.store.specs.Layout.{word, nodesAt, dimensionAt, capacityAt, degreeAt, rowsAt, rowSize, rowAt}
 use Rattle.store.specs.View.{paramsOf}
 use Rattle.lists.proofs.Parts.{rowPart, vectorPart}
-use Rattle.calls.proofs.Taken.{BuildTaken, build-taken}
+use Rattle.def_calls.proofs.Taken.{BuildTaken, build-taken}
 use Rattle.build.proofs.Graph.{row-end, vectors-end, degree-small, rows-fit, rows-fit-at, repair-fits, repair-fits-at, graph-built-at}
 use native.Mathlib.Omega.{arith}
 use borrow.Author.Needs.{needs}

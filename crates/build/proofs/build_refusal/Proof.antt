@@ -9,7 +9,7 @@ use Rattle.basics.proofs.Refusals.{turned-at, none-turned, then-first, then-sec
 use Rattle.store.specs.declared.Lent.the-variants.{Scratch}
 use Rattle.store.specs.Opening.{opening}
 use Rattle.store.proofs.Opened.{opening-numbered}
-use Rattle.calls.specs.Build.{ownBuildChecks, buildChecks}
+use Rattle.def_calls.specs.Build.{ownBuildChecks, buildChecks}
 use Rattle.build.proofs.build_refusal.Statement.{statement}
 use Rattle.build.proofs.build_refusal.Tie as tie
 

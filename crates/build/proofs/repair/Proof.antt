@@ -7,7 +7,7 @@ use lib.Seq.{length-take-le}
 use Rattle.lists.specs.Words.{Blocks}
 use Rattle.store.specs.Layout.{rowsAt, rowSize}
 use Rattle.store.proofs.Sizes.{product-le}
-use Rattle.calls.specs.Build.{laid}
+use Rattle.def_calls.specs.Build.{laid}
 use Rattle.build.proofs.Repairing.{entry-is, repaired}
 use native.Mathlib.Omega.{arith}
 use borrow.Author.Needs.{needs}

@@ -10,8 +10,8 @@ use lib.Seq.{length-take-le}
 use borrow.Rule.Slice.PartMut.{same-len-mid}
 use borrow.Fn.Kinds.{In}
 use borrow.Fn.PlainCycle.{Measures, is, falls, and}
-use Rattle.vectors.specs.Vectors.{vectorsIn}
-use Rattle.partition.specs.Partition.{bucketsOf}
+use Rattle.distance.specs.Vectors.{vectorsIn}
+use Rattle.def_graph.specs.Partition.{bucketsOf}
 use Rattle.dealing.specs.Deal.{Holding}
 use Rattle.carving.proofs.Leaves.{NextSize, next-size}
 use Rattle.carving.proofs.Carving.{fan-some, leaf-small, leaf-deep, leaf-stays, dealt-down, Partly, partly-none, partly-more, partly-done}

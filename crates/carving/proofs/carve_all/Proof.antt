@@ -4,10 +4,10 @@ use mathlib.Core.List.{List, _++_, flatten}
 use Prim.Native.Nat.{ℕ, _≤_}
 use lib.ListN.{length, take, drop, replicate, length-append, length-drop}
 use lib.Seq.{length-take-le, take-at, take-all}
-use Rattle.vectors.specs.Vectors.{vectorsIn}
-use Rattle.leaders.specs.Leaders.{upTo}
-use Rattle.leaders.proofs.Draws.{length-upTo}
-use Rattle.partition.specs.Partition.{bucketsOf}
+use Rattle.distance.specs.Vectors.{vectorsIn}
+use Rattle.random.specs.Leaders.{upTo}
+use Rattle.random.proofs.leaders.Draws.{length-upTo}
+use Rattle.def_graph.specs.Partition.{bucketsOf}
 use Rattle.dealing.specs.Marks.{run, marksOf}
 use Rattle.carving.proofs.Carving.{positions-all, positions-front, top-leaf, top-dealt, fitting-top}
 use native.Mathlib.Omega.{arith}

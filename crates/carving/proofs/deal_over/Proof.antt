@@ -4,8 +4,8 @@ use mathlib.Core.List.{List, _++_}
 use Prim.Native.Nat.{ℕ, _≤_}
 use lib.ListN.{length, take, drop}
 use lib.Seq.{length-take-le, take-at}
-use Rattle.vectors.specs.Vectors.{vectorsIn}
-use Rattle.partition.specs.Partition.{bucketsOf}
+use Rattle.distance.specs.Vectors.{vectorsIn}
+use Rattle.def_graph.specs.Partition.{bucketsOf}
 use Rattle.dealing.specs.Deal.{Holding}
 use Rattle.dealing.proofs.Placing.{copied-whole}
 use Rattle.carving.proofs.Carving.{fitting-down}

@@ -5,8 +5,8 @@ use mathlib.Core.List.{List, _++_}
 use Prim.Native.Nat.{ℕ, _*_, _≤_}
 use lib.ListN.{length, drop, replicate, length-append, length-drop}
 use lib.Seq.{length-take-le, take-append-le}
-use Rattle.vectors.specs.Vectors.{vectorsIn}
-use Rattle.partition.specs.Partition.{leavesOf}
+use Rattle.distance.specs.Vectors.{vectorsIn}
+use Rattle.def_graph.specs.Partition.{leavesOf}
 use Rattle.carving.specs.Carving.{nonEmpty, Laid, Asked}
 use Rattle.carving.proofs.Carving.{Front, front-back, lent-rest, both-back, laid}
 use native.Mathlib.Omega.{arith}

@@ -3,8 +3,8 @@ use mathlib.Core.Path.{_≡_, refl, ap₂, _∙_}
 use mathlib.Core.List.{List, _++_, map}
 use Prim.Native.Nat.{ℕ, _-_, _≤_}
 use lib.ListN.{length, set, take, drop, length-set}
-use Rattle.vectors.specs.Vectors.{vectorsIn}
-use Rattle.partition.specs.Partition.{nearestLeaders}
+use Rattle.distance.specs.Vectors.{vectorsIn}
+use Rattle.def_graph.specs.Partition.{nearestLeaders}
 use Rattle.dealing.specs.Cards.{cardOf}
 use Rattle.dealing.proofs.Dealing.{written-more, written-end}
 use borrow.Author.Needs.{needs}

@@ -4,7 +4,7 @@ use mathlib.Core.List.{[], _∷_}
 use Prim.Native.Nat.{ℕ, _-_}
 use lib.ListN.{length, take, drop}
 use lib.Seq.{length-take-le}
-use Rattle.vectors.specs.Vectors.{vectorsIn}
+use Rattle.distance.specs.Vectors.{vectorsIn}
 use Rattle.dealing.proofs.Dealing.{entry-small, card-read}
 use native.Mathlib.Omega.{arith}
 use borrow.Author.Needs.{needs}

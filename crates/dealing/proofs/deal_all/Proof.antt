@@ -6,10 +6,10 @@ use Prim.Native.Nat.{ℕ, _*_, _≤_}
 use lib.ListN.{length, getD, take, drop, length-take, length-drop, length-append}
 use lib.Seq.{length-take-le, take-at}
 use lib.Ieee.{Float}
-use Rattle.vectors.specs.Vectors.{vectorsIn}
-use Rattle.leaders.specs.Leaders.{drawn, drawStart, upTo}
-use Rattle.partition.specs.Partition.{nearestLeaders, gathered, bucketsOf}
-use Rattle.partition.specs.Occurrences.{entries}
+use Rattle.distance.specs.Vectors.{vectorsIn}
+use Rattle.random.specs.Leaders.{drawn, drawStart, upTo}
+use Rattle.def_graph.specs.Partition.{nearestLeaders, gathered, bucketsOf}
+use Rattle.def_graph.specs.Occurrences.{entries}
 use Rattle.dealing.specs.Marks.{marksOf}
 use Rattle.dealing.specs.Cards.{cardOf, bucketsBy}
 use Rattle.dealing.proofs.Dealing.{few-ids, fan-most, deal-is, deal-entries}

@@ -3,7 +3,7 @@ use mathlib.Core.Path.{sym, _∙_}
 use Prim.Native.Nat.{ℕ}
 use borrow.Author.Tests.{eq-eqb, ne-eqb, le-leb, lt-leb}
 use Rattle.basics.specs.Choice.{pick-true, pick-false}
-use Rattle.partition.specs.Partition.{fanout}
+use Rattle.def_graph.specs.Partition.{fanout}
 use native.Mathlib.Omega.{arith}
 use Rattle.dealing.proofs.fan_of.Statement.{statement}
 use Rattle.dealing.proofs.fan_of.Tie as tie

@@ -1,7 +1,7 @@
 -- The invariant is `Found`: the first `held` pairs are the nearest of the first l leaders with their ranks. The measure is how many leaders are left. Assumes nothing.
 use Prim.Native.Nat.{_-_}
 use lib.ListN.{length}
-use Rattle.vectors.specs.Vectors.{vectorsIn}
+use Rattle.distance.specs.Vectors.{vectorsIn}
 use Rattle.dealing.proofs.Nearest.{Found, found-none, found-more, found-done}
 use borrow.Author.Needs.{needs}
 use native.Mathlib.Omega.{arith}

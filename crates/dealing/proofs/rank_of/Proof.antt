@@ -1,9 +1,9 @@
 -- The key of the distance of the two vectors, step by step. No loop. Assumes nothing.
 use mathlib.Core.Path.{ap, ap₂, _∙_}
 use lib.Ieee.{binary32}
-use Rattle.order.specs.Order.{keyOf}
+use Rattle.distance.specs.Order.{keyOf}
 use Rattle.distance.specs.Distance.{distanceOf}
-use Rattle.vectors.specs.Vectors.{rank, between}
+use Rattle.distance.specs.Vectors.{rank, between}
 use borrow.Author.Needs.{needs}
 use Rattle.dealing.proofs.rank_of.Statement.{statement}
 use Rattle.dealing.proofs.rank_of.Tie as tie

@@ -1,6 +1,6 @@
 -- The struct is the answer, case by case. Assumes nothing.
 use mathlib.Core.Path.{sym, ap, _∙_}
-use Rattle.score.specs.Recognised.{recognisedValues}
+use Rattle.recognise.specs.Recognised.{recognisedValues}
 use Rattle.drintelbok.specs.Given.{recognisedWith}
 use borrow.Author.Needs.{needs}
 use Rattle.drintelbok.proofs.pipnn_recognise.Statement.{statement}

@@ -3,7 +3,7 @@ use mathlib.Core.Path.{_≡_, sym, ap, _∙_}
 use Prim.Native.Nat.{ℕ}
 use borrow.Author.Tests.{not-true, not-false}
 use lib.ListN.{drop}
-use Rattle.leaf.specs.Leaf.{dedup}
+use Rattle.def_graph.specs.Leaf.{dedup}
 use Rattle.hashprune.proofs.Rows.{Deduped, deduped-none, deduped-kept, deduped-same}
 use borrow.Author.Needs.{needs}
 use native.Mathlib.Omega.{arith}

@@ -3,7 +3,7 @@ use mathlib.Core.Path.{_≡_, refl, ap, _∙_}
 use mathlib.Core.List.{[]}
 use Prim.Native.Nat.{ℕ, _-_, _≤_}
 use lib.ListN.{length}
-use Rattle.leaf.specs.Leaf.{cellsFrom}
+use Rattle.def_graph.specs.Leaf.{cellsFrom}
 use Rattle.hashprune.specs.Steps.{farAt, hashAt, firstPlaces}
 use Rattle.hashprune.proofs.Cells.{Came, came-none, came-below, came-more}
 use borrow.Author.Needs.{needs}

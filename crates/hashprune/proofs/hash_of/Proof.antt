@@ -3,7 +3,7 @@ use mathlib.Core.Path.{ap, _∙_}
 use mathlib.Core.List.{List}
 use Prim.Native.Nat.{min}
 use lib.Ieee.{Float, binary32}
-use Rattle.leaf.specs.Simhash.{residual}
+use Rattle.def_graph.specs.Simhash.{residual}
 use Rattle.simhash.specs.Blocks.{blocksHash}
 use Rattle.simhash.proofs.Residual.{length-residual}
 use Rattle.hashprune.proofs.Lists.{residual-cut}

@@ -3,7 +3,7 @@ use mathlib.Core.Path.{ap, _∙_}
 use mathlib.Core.List.{List}
 use lib.ListN.{length, length-map}
 use lib.Ieee.{Float}
-use Rattle.vectors.specs.Vectors.{vectorsIn, between}
+use Rattle.distance.specs.Vectors.{vectorsIn, between}
 use Rattle.hashprune.specs.Steps.{rowAfter}
 use Rattle.hashprune.proofs.Meaning.{turn-is}
 use native.Mathlib.Omega.{arith}

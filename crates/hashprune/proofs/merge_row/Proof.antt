@@ -4,7 +4,7 @@ use mathlib.Core.List.{List}
 use Prim.Native.Nat.{ℕ, _-_}
 use lib.ListN.{length, take}
 use Rattle.sorting.specs.Sorting.{fitting}
-use Rattle.leaf.specs.Leaf.{dedup}
+use Rattle.def_graph.specs.Leaf.{dedup}
 use Rattle.store.specs.View.{rowBlock}
 use Rattle.hashprune.proofs.Rows.{rest-whole}
 use Rattle.hashprune.proofs.Ranked.{sorted-whole}

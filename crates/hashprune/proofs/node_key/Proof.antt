@@ -1,7 +1,7 @@
 -- The vector of the node, its distance, and the key of that. Assumes nothing.
 use mathlib.Core.Path.{ap, _∙_}
 use lib.Ieee.{binary32}
-use Rattle.order.specs.Order.{keyOf}
+use Rattle.distance.specs.Order.{keyOf}
 use Rattle.distance.specs.Distance.{distanceOf}
 use borrow.Author.Needs.{needs}
 use Rattle.hashprune.proofs.node_key.Statement.{statement}

@@ -1,7 +1,7 @@
 -- The root of the sum, as the definition has it. Assumes nothing.
 use mathlib.Core.Path.{ap, _∙_}
 use lib.Ieee.{binary32}
-use Rattle.root.specs.Root.{rootOf}
+use Rattle.norm.specs.Root.{rootOf}
 use Rattle.norm.specs.Norm.{lengthOf}
 use borrow.Author.Needs.{needs}
 use Rattle.norm.proofs.norm.Statement.{statement}

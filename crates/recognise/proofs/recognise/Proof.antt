@@ -1,7 +1,7 @@
 -- Each return is one of the four answers of proofs/Answers, by what the search has left. Assumes nothing.
 use mathlib.Core.Path.{refl, sym, _∙_}
 use borrow.Author.Tests.{not-true, not-false}
-use Rattle.score.specs.Recognised.{recognisedValues}
+use Rattle.recognise.specs.Recognised.{recognisedValues}
 use Rattle.recognise.proofs.Answers.{search-refused, limit-refused, found-none, found-one}
 use borrow.Author.Needs.{needs}
 use Rattle.recognise.proofs.recognise.Statement.{statement}

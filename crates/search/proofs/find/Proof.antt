@@ -6,7 +6,7 @@ use lib.ListN.{length}
 use lib.Seq.{length-take-le}
 use lib.Ieee.{Float}
 use Rattle.store.specs.View.{view}
-use Rattle.beam.specs.Beam.{farFrom}
+use Rattle.def_walk.specs.Beam.{farFrom}
 use Rattle.search.specs.Giving.{replyBy}
 use Rattle.search.proofs.Replies.{query-short, room-is, room-long, room-length, ready, reply-is}
 use native.Mathlib.Omega.{arith}

@@ -2,7 +2,7 @@
 use mathlib.Core.Path.{ap, _∙_}
 use lib.Ieee.{binary32}
 use Rattle.norm.specs.Norm.{scaledOf}
-use Rattle.slices.proofs.Laws.{copied-whole}
+use Rattle.words.proofs.slices.Laws.{copied-whole}
 use native.Mathlib.Omega.{arith}
 use borrow.Author.Needs.{needs}
 use Rattle.search.proofs.scale_into.Statement.{statement}

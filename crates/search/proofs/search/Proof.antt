@@ -2,7 +2,7 @@
 use mathlib.Core.Path.{ap, _∙_}
 use Prim.Native.Nat.{ℕ}
 use lib.ListN.{length}
-use Rattle.calls.specs.Search.{searchWithEfSpec, searchSpec}
+use Rattle.def_calls.specs.Search.{searchWithEfSpec, searchSpec}
 use borrow.Author.Needs.{needs}
 use Rattle.search.proofs.search.Statement.{statement}
 use Rattle.search.proofs.search.Tie as tie

@@ -13,7 +13,7 @@ use Rattle.basics.proofs.Refusals.{Pass, turned-at, none-turned, then-first, th
 use Rattle.store.specs.declared.Lent.the-variants.{Scratch}
 use Rattle.store.specs.Opening.{opening}
 use Rattle.store.proofs.Opened.{opening-numbered}
-use Rattle.calls.specs.Search.{ownSearchChecks, searchChecks}
+use Rattle.def_calls.specs.Search.{ownSearchChecks, searchChecks}
 use Rattle.search.proofs.search_refusal.Statement.{statement}
 use Rattle.search.proofs.search_refusal.Tie as tie
 

@@ -8,8 +8,8 @@ use lib.ListN.{length}
 use lib.Ieee.{binary32, nan}
 use borrow.Author.Tests.{ltb-true, ltb-false}
 use Rattle.basics.proofs.Tests.{both-true, one-false}
-use Rattle.leaf.specs.Simhash.{residual}
-use Rattle.slices.proofs.Laws.{copied, copied-more, copied-length, copied-end}
+use Rattle.def_graph.specs.Simhash.{residual}
+use Rattle.words.proofs.slices.Laws.{copied, copied-more, copied-length, copied-end}
 use Rattle.simhash.proofs.Residual.{length-residual, residual-at}
 use Rattle.simhash.proofs.residual_into.Statement.{statement}
 use Rattle.simhash.proofs.residual_into.Tie as tie

@@ -1,2 +1,0 @@
-pub mod KeepClosest
-pub mod Beam

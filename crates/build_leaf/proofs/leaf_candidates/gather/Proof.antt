@@ -1,0 +1,103 @@
+-- The invariant: the nodes and the distances of the places passed stand at the front of the two slices. The measure is how many places are
+-- left. Assumes nothing.
+use borrow.Author.Needs.{needs}
+use native.Mathlib.Omega.{arith}
+use mathlib.Core.Path.{_≡_, refl, _∙_}
+use Prim.Native.Nat.{_-_, _≤_, _<_}
+use lib.ListN.{length, getD, length-set}
+use Rattle.basics.proofs.Members.{in-getD}
+use Rattle.build_leaf.specs.Candidates.{nodeIn, farInLane}
+use Rattle.build_leaf.proofs.leaf_candidates.Offers.{Copied, copied-none, copied-more, copied-all}
+use Rattle.build_leaf.proofs.leaf_candidates.gather.Statement.{statement}
+use Rattle.build_leaf.proofs.leaf_candidates.gather.Tie as tie
+
+abbrev Inv-loop : tie.InvT-loop
+Inv-loop leaf floats lane places candidates₀ far₀ c₀ candidates far c = (c ≤ length places) × (length candidates ≡ length candidates₀) × (length far ≡ length far₀) × Copied (nodeIn leaf) places candidates₀ c candidates × Copied (farInLane floats lane) places far₀ c far
+
+abbrev μ-loop : tie.MeasureT-loop
+μ-loop leaf floats lane places candidates₀ far₀ c₀ candidates far c = length places - c
+
+-- the place that is read is one of the leaf
+in-leaf : (c : tie.In-loop Inv-loop μ-loop) → getD (c .before .before .args .places .now) (c .before .loop .c) 0 < length (c .before .before .args .leaf .now)
+in-leaf c = c .before .before .pre .1 _ (in-getD (c .before .before .args .places .now) (c .before .loop .c) 0 (c .loop-test .taken))
+
+loop-holds : tie.Need-loop-holds Inv-loop μ-loop
+loop-holds c =
+    let x = c .args in (
+      omega arith,
+      refl,
+      refl,
+      copied-none (nodeIn (x .leaf .now)) (x .places .now) (x .candidates .now) (c .pre .2),
+      copied-none (farInLane (x .floats .now) (x .lane)) (x .places .now) (x .far .now) (c .pre .3),
+    )
+
+cast-place : tie.Need-cast-place Inv-loop μ-loop
+cast-place c = omega (arith, c .shared-slice-known .given (c .before .before .loop .c))
+
+mul-candidates : tie.Need-mul-candidates Inv-loop μ-loop
+mul-candidates c = omega (arith, in-leaf (c .before))
+
+shared-slice-read-candidates : tie.Need-shared-slice-read-candidates Inv-loop μ-loop
+shared-slice-read-candidates c = omega (arith, in-leaf (c .before .before))
+
+mul-far : tie.Need-mul-far Inv-loop μ-loop
+mul-far c = omega (arith, in-leaf (c .before .before))
+
+add-far : tie.Need-add-far Inv-loop μ-loop
+add-far c = omega (arith, in-leaf (c .before .before))
+
+mul-far-2 : tie.Need-mul-far-2 Inv-loop μ-loop
+mul-far-2 c = omega (arith, in-leaf (c .before .before))
+
+shared-slice-read-far : tie.Need-shared-slice-read-far Inv-loop μ-loop
+shared-slice-read-far c = omega (arith, in-leaf (c .before .before .before))
+
+loop-again : tie.Need-loop-again Inv-loop μ-loop
+loop-again c =
+    let l = c .before .before .before .before .loop in
+    let s = c .before .before .before .before .before in
+    let x = s .args in (
+      omega arith,
+      length-set (l .candidates) (l .c) _ ∙ l .inv .1,
+      length-set (l .far) (l .c) _ ∙ l .inv .2,
+      copied-more (nodeIn (x .leaf .now)) (x .places .now) (x .candidates .now) (s .pre .2) (l .c) (l .candidates) _ (c .before .before .before .loop-test .taken) refl (l .inv .3),
+      copied-more (farInLane (x .floats .now) (x .lane)) (x .places .now) (x .far .now) (s .pre .3) (l .c) (l .far) _ (c .before .before .before .loop-test .taken) refl (l .inv .4),
+    )
+
+same-length : tie.Need-same-length Inv-loop μ-loop
+same-length c = c .before .loop .inv .1
+
+same-length-2 : tie.Need-same-length-2 Inv-loop μ-loop
+same-length-2 c = c .before .loop .inv .2
+
+returns : tie.Need-returns Inv-loop μ-loop
+returns c =
+    let l = c .before .loop in
+    let s = c .before .before in
+    let x = s .args in
+    record {
+      nodes = copied-all (nodeIn (x .leaf .now)) (x .places .now) (x .candidates .now) (s .pre .2) (l .c) (l .candidates) (c .loop-test .left) (l .inv .0) (l .inv .3);
+      fars = copied-all (farInLane (x .floats .now) (x .lane)) (x .places .now) (x .far .now) (s .pre .3) (l .c) (l .far) (c .loop-test .left) (l .inv .0) (l .inv .4);
+    }
+
+pub gather-spec : {M : Type 1} → statement M
+gather-spec =
+    tie.close
+    (tie.spec
+    Inv-loop
+    μ-loop
+    loop-holds
+    (λ c. search needs) (λ c. search needs)
+    cast-place
+    mul-candidates
+    shared-slice-read-candidates
+    (λ c. search needs) (λ c. search needs)
+    mul-far
+    add-far
+    mul-far-2
+    shared-slice-read-far
+    (λ c. search needs) (λ c. search needs) (λ c. search needs) (λ c. search needs)
+    loop-again
+    same-length
+    same-length-2
+    returns)

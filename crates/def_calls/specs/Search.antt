@@ -1,0 +1,104 @@
+-- `search_with_ef` and `search` (01, part 8 and "Turned back"): the first k of what the walk scored (all, if fewer), as doc ids and distances in
+-- the two outputs, with their number and the scored count. The stores stay as they are.
+use mathlib.Core.Bool.{not, _||_}
+use mathlib.Core.List.{List, [], _∷_, _++_, map}
+use Prim.Native.Nat.{ℕ, min}
+use lib.Dec.{eqb, ltb}
+use lib.ListN.{length, getD, drop}
+use lib.Ieee.{Float, binary32}
+use lib.Ieee.Scale.{finite}
+use Rattle.basics.specs.Choice.{pick}
+use Rattle.basics.specs.Lists.{every}
+use Rattle.basics.specs.Graph.{listOf}
+use Rattle.basics.specs.Refusals.{Check, check, firstRefusal}
+use Rattle.norm.specs.Norm.{scaledOf}
+use Rattle.store.specs.declared.Lent.the-variants.{Scratch}
+use Rattle.store.specs.Layout.{word, builtState, stateAt, dimensionAt, nodesAt, efSearchAt}
+use Rattle.store.specs.View.{View, view, listIn}
+use Rattle.store.specs.Opening.{opening}
+use Rattle.def_walk.specs.Beam.{farFrom, placesFor, beamSearch, answerOf}
+
+-- ---- its checks: 3, 4, 3 with scratch, 4, then 10, 6, 7, 11, 12
+
+-- the limits of k and ef
+abbrev pub mostNodes : ℕ
+mostNodes = 1024
+
+abbrev pub mostBeam : ℕ
+mostBeam = 1024
+
+-- what is asked, of whatever is written: 10, 6, 7, 11. Recognising begins with these too.
+abbrev pub askingChecks : List ℕ → List Float → ℕ → ℕ → List Check
+askingChecks w query k ef =
+    check (not (eqb (word w stateAt) builtState)) 10
+    ∷ check (not (eqb (length query) (word w dimensionAt))) 6
+    ∷ check (not (every finite query)) 7
+    ∷ check (ltb mostNodes k || ltb mostBeam ef) 11
+    ∷ []
+
+module _ (w : List ℕ) (query : List Float) (k ef : ℕ) (docs : List ℕ) (distances : List Float) where
+  -- then the room of the two outputs, 12
+  unfoldable pub ownSearchChecks : List Check
+  unfolding every
+  ownSearchChecks =
+      askingChecks w query k ef
+      ++ (check (ltb (length docs) (min k (word w nodesAt)) || ltb (length distances) (min k (word w nodesAt))) 12 ∷ [])
+
+  -- scratch of ws words and fs floats is lent
+  unfoldable pub searchChecks : (ws fs : ℕ) → List Float → List Check
+  unfolding opening ownSearchChecks
+  searchChecks ws fs f = opening (Scratch ws fs) w f ++ ownSearchChecks
+
+-- ---- what it finds
+
+-- a query's distance to each node of a store
+unfoldable pub farIn : View → List Float → ℕ → Float
+unfolding farFrom scaledOf
+farIn v query = farFrom (scaledOf binary32 query) (v .vectors)
+
+-- the nodes scored, in order
+unfoldable pub scoredIn : View → List Float → ℕ → ℕ → List ℕ
+unfolding beamSearch listOf farIn
+scoredIn v query k ef = beamSearch (listIn v) (v .n) (v .entry) (farIn v query) (placesFor ef k)
+
+-- the nodes of the answer
+unfoldable pub foundIn : View → List Float → ℕ → ℕ → List ℕ
+unfolding answerOf farIn scoredIn
+foundIn v query k ef = answerOf (farIn v query) k (scoredIn v query k ef)
+
+-- ---- what it leaves: its number, how many nodes it gives and how many it scored, both outputs whole
+
+pub record Reply : Type 0 where
+  pub number : ℕ
+  pub count : ℕ
+  pub scored : ℕ
+  pub docs : List ℕ
+  pub distances : List Float
+
+-- a refusal gives counts 0 and writes nothing
+abbrev pub refused : ℕ → List ℕ → List Float → Reply
+refused refusal docs distances = record { number = refusal; count = 0; scored = 0; docs = docs; distances = distances }
+
+-- nothing is written past the nodes given
+unfoldable pub replyOf : View → List Float → ℕ → ℕ → List ℕ → List Float → Reply
+unfolding farIn scoredIn foundIn
+replyOf v query k ef docs distances =
+    let found : List ℕ = foundIn v query k ef in record {
+      number = 0;
+      count = length found;
+      scored = length (scoredIn v query k ef);
+      docs = map (λ i. getD (v .docs) i 0) found ++ drop (length found) docs;
+      distances = map (farIn v query) found ++ drop (length found) distances;
+    }
+
+unfoldable pub searchWithEfSpec : (ws fs : ℕ) → List ℕ → List Float → List Float → ℕ → ℕ → List ℕ → List Float → Reply
+unfolding pick firstRefusal searchChecks replyOf view
+searchWithEfSpec ws fs w f query k ef docs distances =
+    let refusal : ℕ = firstRefusal (searchChecks w query k ef docs distances ws fs f) in
+    let reply : Reply = replyOf (view w f) query k ef docs distances in
+    pick (eqb refusal 0) reply (refused refusal docs distances)
+
+-- with the store's ef_search
+unfoldable pub searchSpec : (ws fs : ℕ) → List ℕ → List Float → List Float → ℕ → List ℕ → List Float → Reply
+unfolding searchWithEfSpec
+searchSpec ws fs w f query k docs distances = searchWithEfSpec ws fs w f query k (word w efSearchAt) docs distances

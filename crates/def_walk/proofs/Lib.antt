@@ -1,0 +1,3 @@
+pub mod walk
+pub mod graph_utils
+pub mod beam

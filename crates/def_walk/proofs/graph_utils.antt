@@ -1,0 +1,4 @@
+pub mod Bridges
+pub mod Laws
+pub mod Lengths
+pub mod Examples

@@ -1,2 +1,0 @@
-pub mod Simhash
-pub mod Leaf

@@ -1,0 +1,110 @@
+// The other ends of a node's bridges, linked. A node's list is its row, then for each bridge in order the
+// other end, if it is one end (01, "Records"). The Rust keeps lists that grow; here the bridges stand one
+// after the other, and looking through all of them for each node would cost nodes times bridges. So each
+// node has a chain: a lent slice holds its first link, its last link, and for each word of the bridges the
+// next link of the node that stands there. Appending a bridge and following a link cost a few steps each.
+//
+// Every function is total. On any content each link leads to a larger one, so that a reader's loop ends.
+//
+// specs/Chains    what is read from a link on, how a bridge is appended, and when chains are those of bridges
+// proofs/Reading  the equations of a chain's reader: none, one more
+// proofs/Laws     chains with one bridge more; what a reader finds is the other ends, in order
+ghost use mathlib.Core.Path.{_≡_};
+ghost use Prim.Native.Nat.{_-_, _<_, _^_};
+ghost use lib.ListN.{set};
+ghost use Rattle.lists.specs.Chains.{otherEndAt, firstLink, nextLink, clearedLinks, linkPlace, appendSlot, chainBridge};
+use words::ids::Node;
+use words::slices;
+
+// No node has a link: the heads and tails of n nodes are zero.
+pub fn clear_links(links: &mut [u32], n: u32)
+    ensures { λ _. ⌜ now (links .exit) ≡ clearedLinks n (now (links .entry)) ⌝ }
+{
+    let end = slices::lesser(2 * n as usize, links.len());
+    let start: usize = 0;
+    slices::clear_words(&mut links[start..end]);
+}
+
+// Bridge j comes to the end of both its ends' chains, once where they are one node.
+pub fn chain_bridge(links: &mut [u32], n: u32, j: u32, near: Node, far: Node)
+    ensures { λ _. ⌜ now (links .exit) ≡ chainBridge n j (near .0) (far .0) (now (links .entry)) ⌝ }
+{
+    if j >= 0x4000_0000 {
+        return;
+    }
+    append_slot(links, n, near, 2 * j);
+    if near.0 == far.0 {
+        return;
+    }
+    append_slot(links, n, far, 2 * j + 1);
+}
+
+// The first link of a node, 0 if there is none.
+pub fn first_link(links: &[u32], n: u32, node: Node) -> u32
+    ensures { λ r. ⌜ r ≡ firstLink n (now (links .entry)) (node .0) ⌝ }
+{
+    let link = store::word_at(links, node.0 as usize);
+    if 2 * n as usize + link as usize <= links.len() {
+        return link;
+    }
+    0
+}
+
+// The link after a link, 0 if there is none. It is larger than the link, so that a loop over a chain ends.
+pub fn next_link(links: &[u32], n: u32, link: u32) -> u32
+    ensures { λ r. ⌜ r ≡ nextLink n (now (links .entry)) link ⌝ }
+{
+    let next = store::word_at(links, before(2 * n as usize + link as usize));
+    if (link < next) & (2 * n as usize + next as usize <= links.len()) {
+        return next;
+    }
+    0
+}
+
+// The node that a link leads to: the other word of the bridge that its slot is a word of.
+pub fn other_end(bridges: &[u32], link: u32) -> Node
+    ensures { λ r. ⌜ r .0 ≡ otherEndAt (now (bridges .entry)) link ⌝ }
+{
+    let slot = before(link as usize);
+    let bridge = (slot / 2) as u32;
+    super::end_of(bridges, bridge, 1 - slot % 2)
+}
+
+// A slot comes to the end of a node's chain.
+fn append_slot(links: &mut [u32], n: u32, node: Node, slot: u32)
+    requires { ⌜ slot < 2 ^ 31 ⌝ }
+    ensures { λ _. ⌜ now (links .exit) ≡ appendSlot n (node .0) slot (now (links .entry)) ⌝ }
+{
+    let tail = store::word_at(links, n as usize + node.0 as usize);
+    let place = link_place(n, node, tail);
+    put(links, place, slot + 1);
+    put(links, 2 * n as usize + slot as usize, 0);
+    put(links, n as usize + node.0 as usize, slot + 1);
+}
+
+fn link_place(n: u32, node: Node, tail: u32) -> usize
+    ensures { λ r. ⌜ r ≡ linkPlace n (node .0) tail ⌝ }
+{
+    if tail == 0 {
+        return node.0 as usize;
+    }
+    2 * n as usize + tail as usize - 1
+}
+
+// A word at a place, nothing past the end.
+pub fn put(words: &mut [u32], at: usize, word: u32)
+    ensures { λ _. ⌜ now (words .exit) ≡ set (now (words .entry)) at word ⌝ }
+{
+    if at < words.len() {
+        words[at] = word;
+    }
+}
+
+fn before(x: usize) -> usize
+    ensures { λ r. ⌜ r ≡ x - 1 ⌝ }
+{
+    if x == 0 {
+        return 0;
+    }
+    x - 1
+}

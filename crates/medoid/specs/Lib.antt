@@ -1,2 +1,0 @@
-pub mod Centroid
-pub mod Medoid

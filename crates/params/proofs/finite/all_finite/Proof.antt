@@ -1,0 +1,16 @@
+-- `finite::all_finite` meets its contract: finite sums tell, and where they do not each component is looked at. Assumes nothing.
+use mathlib.Core.Path.{sym}
+use borrow.Author.Needs.{needs}
+use Rattle.params.proofs.finite.all_finite.Statement.{statement}
+use Rattle.params.proofs.finite.all_finite.Tie as tie
+
+returns : tie.Need-returns
+returns c = sym (c .before .sums-finite .ensures (c .if1 .taken))
+
+pub all-finite-spec : {M : Type 1} → statement M
+all-finite-spec = tie.close (tie.spec
+    -- sums_finite
+    (λ c κs. search needs)
+    returns
+    -- each_finite, the return
+    (λ c κs. search needs) (λ c. search needs))

@@ -1,2 +1,0 @@
-pub mod Partition
-pub mod Occurrences

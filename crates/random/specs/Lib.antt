@@ -1,0 +1,3 @@
+pub mod Lcg
+pub mod Hyperplanes
+pub mod Leaders

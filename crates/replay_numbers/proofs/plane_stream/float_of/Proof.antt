@@ -1,0 +1,16 @@
+-- Whole numbers up to 2^24 are floats. Assumes nothing.
+use lib.Dec.{le→leb}
+use lib.Ieee.{inFloat}
+use borrow.Author.Needs.{needs}
+use Rattle.replay_numbers.proofs.plane_stream.float_of.Statement.{statement}
+use Rattle.replay_numbers.proofs.plane_stream.float_of.Tie as tie
+
+int-to-float-result : tie.Need-int-to-float-result
+unfolding inFloat
+int-to-float-result c = le→leb (c .before .args .x) 16777216 (c .before .pre)
+
+returns : tie.Need-returns
+returns c = search needs
+
+pub float-of-spec : {M : Type 1} → statement M
+float-of-spec = tie.close (tie.spec int-to-float-result returns)
