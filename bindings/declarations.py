@@ -269,7 +269,7 @@ EDITS = [
     (SOURCE, "min_leaf_size: u32,\n", "min_leaf_size: u64,\n"),
     (SOURCE, "    pub scored: u32,\n", "    pub scored: u32,\n    pub bridges: u32,\n"),
     (SOURCE, "query: &[f32]", "query: &mut [f32]"),
-    ("crates/calls/specs/Search.antt", "builtState)) 10", "builtState)) 15"),
+    ("crates/def_calls/specs/Search.antt", "builtState)) 10", "builtState)) 15"),
     ("crates/params/src/lib.rt", "MOST_DIMENSION: u32 = 64", "MOST_DIMENSION: u32 = 96"),
 ]
 
