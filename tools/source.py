@@ -104,6 +104,7 @@ class Declaration:
     def __init__(self, file, name, kind, line, public):
         self.file, self.name, self.kind, self.line, self.public = file, name, kind, line, public
         self.head, self.body, self.lines, self.owns, self.head_lines = [], [], [], [], []
+        self.body_line = line
 
     @property
     def full(self):
@@ -337,6 +338,7 @@ def read_rust(file):
             declaration.head = tokens(text[start:contract], rust=True) + tokens(text[contract:head_end])
             declaration.body = tokens(text[head_end:end], rust=True)
             declaration.head_lines = clean(text[start:head_end])
+            declaration.body_line = text.count("\n", 0, head_end) + 1
         else:
             end = statement_end(text, found.end())
             declaration.head = tokens(text[start:end], rust=True)
