@@ -8,6 +8,8 @@ A tree is a folder or a git revision. Every declaration has a full name that doe
     queues.src.tournament.put              a function of crates/queues/src/tournament.rt
 """
 import collections
+import importlib.machinery
+import importlib.util
 import io
 import os
 import re
@@ -19,6 +21,14 @@ RENAMES = "docs/renames.txt"
 
 class Unreadable(Exception):
     """A text that these tools do not know how to read: it is not passed over."""
+
+
+def tool(name):
+    """Another tool of this folder, as a module."""
+    loader = importlib.machinery.SourceFileLoader(name, os.path.join(os.path.dirname(os.path.realpath(__file__)), name))
+    module = importlib.util.module_from_spec(importlib.util.spec_from_loader(name, loader))
+    loader.exec_module(module)
+    return module
 
 
 # ---- trees
@@ -60,7 +70,7 @@ def wanted(path):
 
 NAME = r"(?:«[^»]*»|[^\s(){}.;,@\"«»])+"
 TOKEN = re.compile(r"\"(?:\\.|[^\"\\])*\"|(?<![^\s(){};,])\.%s|%s(?:\.%s)*|[(){};,@.]" % (NAME, NAME, NAME))
-RUST_TOKEN = re.compile(r"«[^»]*»|\w[\w·′']*|->|::|[^\s\w]")
+RUST_TOKEN = re.compile(r"«[^»]*»|\w+(?:::\w+)*|->|[^\s\w]")
 NUMBER = re.compile(r"0x[0-9a-fA-F_]+|0o[0-7_]+|0b[01_]+|\d[\d_]*")
 
 
@@ -132,7 +142,7 @@ class File:
         self.path, self.text = path, text
         self.module = module_of(path)
         self.imports, self.aliases, self.declarations, self.passed_on = {}, {}, {}, {}
-        self.own = {}
+        self.own, self.inner = {}, set()
         (read_rust if path.endswith(".rt") else read_antt)(self)
         for declaration in self.declarations.values():
             for name in [declaration.name] + [f"{declaration.name}.{x}" for x in declaration.owns if path.endswith(".rt")]:
@@ -153,6 +163,15 @@ class File:
             return self.imports[word]
         if word in self.own:
             return self.own[word]
+        if "::" in word:
+            first, rest = word.split("::", 1)
+            if first in ("crate", "self", "super"):
+                first = self.module.split(".")[0] + ".src"
+            elif first in self.inner:
+                first = f"{self.module}.{first}"
+            else:
+                first = self.imports.get(first) or self.own.get(first) or first + ".src"
+            return f"{first}.{rest}".replace("::", ".")
         if "." in word and not word.startswith("."):
             first, rest = word.split(".", 1)
             if word.startswith("Rattle·"):
@@ -347,7 +366,9 @@ def read_rust(file):
                 inner = text[text.index("{", found.end()) + 1:end - 1]
                 declaration.owns = re.findall(r"(\w+)\s*(?:\([^)]*\)|\{[^}]*\})?\s*(?:,|$)", inner.strip())
         declaration.lines = clean(text[start:end])
-        if kind != "mod":
+        if kind == "mod":
+            file.inner.add(name)
+        else:
             file.declare(declaration)
         position = end
 
