@@ -13,8 +13,11 @@ import importlib.util
 import io
 import os
 import re
+import signal
 import subprocess
 import tarfile
+
+signal.signal(signal.SIGPIPE, signal.SIG_DFL)  # `tool | head` ends quietly
 
 RENAMES = "docs/renames.txt"
 
@@ -114,7 +117,7 @@ class Declaration:
     def __init__(self, file, name, kind, line, public):
         self.file, self.name, self.kind, self.line, self.public = file, name, kind, line, public
         self.head, self.body, self.lines, self.owns, self.head_lines = [], [], [], [], []
-        self.body_line = line
+        self.body_line, self.section = line, 0
 
     @property
     def full(self):
@@ -126,7 +129,8 @@ class Declaration:
 
     @property
     def text(self):
-        return "\n".join(self.lines)
+        """Its own lines: the parameters of the section that it stands in are left out."""
+        return "\n".join(self.lines[self.section:])
 
     def number(self):
         """The number, if the declaration only gives a number a name."""
@@ -260,6 +264,7 @@ def read_items(file, lines, base, context, context_lines):
             current.head_lines = current.lines
             if first == "data":
                 current.owns = constructors(item[1:])
+            current.section = len(context_lines)
             file.declare(current)
         elif first == "unfolding":
             if current is None:
@@ -270,7 +275,7 @@ def read_items(file, lines, base, context, context_lines):
             current = Declaration(file, first, "definition", number, "pub" in words[:start])
             current.head = context + words
             current.lines = context_lines + [line for _, line in item]
-            current.head_lines = list(current.lines)
+            current.head_lines, current.section = list(current.lines), len(context_lines)
             file.declare(current)
         else:
             owner = file.declarations.get(first, current)
