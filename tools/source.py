@@ -50,16 +50,12 @@ def tree_of(where):
 
 
 def folder(where):
+    paths = ["crates.txt", RENAMES]
+    for base, _, names in os.walk(os.path.join(where, "crates")):
+        paths += [os.path.relpath(os.path.join(base, name), where) for name in names]
     files = {}
-    for top in ("crates", "docs"):
-        for base, _, names in os.walk(os.path.join(where, top)):
-            for name in names:
-                path = os.path.relpath(os.path.join(base, name), where).replace(os.sep, "/")
-                if wanted(path):
-                    with open(os.path.join(where, path), encoding="utf-8") as f:
-                        files[path] = f.read()
-    for path in ("crates.txt",):
-        if os.path.exists(os.path.join(where, path)):
+    for path in paths:
+        if wanted(path) and os.path.exists(os.path.join(where, path)):
             with open(os.path.join(where, path), encoding="utf-8") as f:
                 files[path] = f.read()
     return files
@@ -86,13 +82,13 @@ def without_comments(text, mark):
 
 
 def tokens(text, rust=False):
-    """The words of a text, numbers by value, with no separator before a closing bracket."""
-    found = []
+    """The words of a text, numbers by value, without a last separator before a closing bracket."""
+    found, separators = [], (",",) if rust else (",", ";")
     for token in (RUST_TOKEN if rust else TOKEN).findall(text):
         token = token.replace("«", "").replace("»", "")
         if NUMBER.fullmatch(token):
             token = str(int(token.replace("_", ""), 0)) if not re.fullmatch(r"0\d+", token) else token
-        if token in (")", "}", "]") and found and found[-1] in (",", ";"):
+        if token in (")", "}", "]") and found and found[-1] in separators:
             found.pop()
         found.append(token)
     return found
@@ -108,6 +104,18 @@ def top_level(words, wanted_word):
     return None
 
 
+def outside(words, end):
+    """The words before `end` that are in no brackets."""
+    found, depth = [], 0
+    for word in words:
+        if word == end and depth == 0:
+            break
+        depth += (word in ("(", "{")) - (word in (")", "}"))
+        if depth == 0 and word not in (")", "}"):
+            found.append(word)
+    return found
+
+
 # ---- declarations
 
 
@@ -117,7 +125,7 @@ class Declaration:
     def __init__(self, file, name, kind, line, public):
         self.file, self.name, self.kind, self.line, self.public = file, name, kind, line, public
         self.head, self.body, self.lines, self.owns, self.head_lines = [], [], [], [], []
-        self.body_line, self.section = line, 0
+        self.body_line, self.section, self.clauses = line, 0, []
 
     @property
     def full(self):
@@ -131,6 +139,24 @@ class Declaration:
     def text(self):
         """Its own lines: the parameters of the section that it stands in are left out."""
         return "\n".join(self.lines[self.section:])
+
+    def bound(self, words):
+        """The names that these words of it bind: parameters, variables of patterns, of λ and of let."""
+        found = set()
+        for i, word in enumerate(words):
+            if word == ":":
+                j = i
+                while j and words[j - 1] not in tuple("(){};,:=."):
+                    j -= 1
+                if j and words[j - 1] in ("(", "{", ","):
+                    found.update(words[j:i])
+            elif word == "λ":
+                found.update(outside(words[i + 1:], "."))
+            elif word == "let":
+                found.add(words[i + 1])
+        for clause in self.clauses if words is not self.head else ():
+            found.update(clause[: top_level(clause, "=")])
+        return found - set(parts(self.name)) - set("(){},;.")
 
     def number(self):
         """The number, if the declaration only gives a number a name."""
@@ -282,6 +308,7 @@ def read_items(file, lines, base, context, context_lines):
             if owner is None:
                 raise Unreadable(f"{file.path}:{number}: '{first}' belongs to no declaration")
             owner.body += words
+            owner.clauses.append(words)
             owner.lines += [line for _, line in item]
 
 
