@@ -534,6 +534,18 @@ class Renames:
             else:
                 self.names.setdefault(words[0].strip("«»"), set()).add(words[1].strip("«»"))
 
+    @classmethod
+    def between(cls, before, after):
+        """The table of the tree AFTER without the lines that BEFORE has already: what was renamed since."""
+        known = collections.Counter(before.get(RENAMES, "").split("\n"))
+        since = []
+        for line in after.get(RENAMES, "").split("\n"):
+            if known[line]:
+                known[line] -= 1
+            else:
+                since.append(line)
+        return cls("\n".join(since))
+
     def add_path(self, old, new):
         old, (new, _, module) = canonical(old), new.partition("::")
         new = canonical(new)
