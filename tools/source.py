@@ -94,13 +94,13 @@ def tokens(text, rust=False):
     return found
 
 
-def top_level(words, wanted_word):
-    """The index of the first such word outside all brackets, or None."""
+def top_level(words, end):
+    """The index of the first word `end` outside all brackets, or None."""
     depth = 0
     for i, word in enumerate(words):
-        if word == wanted_word and depth == 0:
+        if word == end and depth == 0:
             return i
-        depth += (word in "({") - (word in ")}") if len(word) == 1 else 0
+        depth += (word in ("(", "{")) - (word in (")", "}"))
     return None
 
 
@@ -175,12 +175,8 @@ class File:
         self.own, self.inner = {}, set()
         (read_rust if path.endswith(".rt") else read_antt)(self)
         for declaration in self.declarations.values():
-            for name in [declaration.name] + [f"{declaration.name}.{x}" for x in declaration.owns if path.endswith(".rt")]:
-                self.own[name] = f"{self.module}.{name}"
-            if path.endswith(".antt"):
-                for name in [declaration.name] + declaration.owns:
-                    for part in parts(name):
-                        self.own[part] = f"{self.module}.{name}"
+            for name in [declaration.name] + (declaration.owns if path.endswith(".antt") else []):
+                self.own.update({part: f"{self.module}.{name}" for part in parts(name)})
 
     def declare(self, declaration):
         if declaration.name in self.declarations:
@@ -236,6 +232,10 @@ def parts(name):
     return [name] + ([x for x in name.split("_") if x] if "_" in name and name != "_" and not re.fullmatch(r"\w+", name) else [])
 
 
+def indentation(lines):
+    return min((len(line) - len(line.lstrip()) for _, line in lines if line.strip()), default=0)
+
+
 def items(lines, base):
     """(number, lines) of each item whose first line is indented by `base`."""
     item = None
@@ -251,6 +251,9 @@ def items(lines, base):
         item[1].append((number, line.rstrip()))
     if item:
         yield item
+
+
+# ---- antt
 
 
 def read_antt(file):
@@ -273,16 +276,12 @@ def read_items(file, lines, base, context, context_lines):
         elif first == "mod":
             pass
         elif first == "module":
-            opening = next(i for i, (_, line) in enumerate(item) if line.rstrip().endswith("where"))
-            head = item[: opening + 1]
-            nested = item[opening + 1:]
             if words[start + 1] != "_":
                 raise Unreadable(f"{file.path}:{number}: a module with a name")
-            inner = tokens("\n".join(line for _, line in head))[2:-1]
-            if nested:
-                deeper = min(len(line) - len(line.lstrip()) for _, line in nested)
-                read_items(file, nested, deeper, context + inner, context_lines + [line for _, line in head])
-        elif first in ("record", "data") and top_level(words, "=") is None:
+            opening = 1 + next(i for i, (_, line) in enumerate(item) if line.endswith("where"))
+            head, nested = [line for _, line in item[:opening]], item[opening:]
+            read_items(file, nested, indentation(nested), context + tokens("\n".join(head))[2:-1], context_lines + head)
+        elif first in ("record", "data"):
             current = Declaration(file, words[start + 1], first, number, "pub" in words[:start])
             where = words.index("where") if "where" in words else len(words)
             current.head, current.body = context + words[:where], words[where:]
@@ -319,12 +318,11 @@ def signature(words):
 
 
 def constructors(lines):
+    """The names of a data type's constructors."""
     found = []
-    deeper = min((len(line) - len(line.lstrip()) for _, line in lines), default=0)
-    for _, item in items(lines, deeper):
+    for _, item in items(lines, indentation(lines)):
         words = tokens("\n".join(line for _, line in item))
-        colon = top_level(words, ":")
-        found += [w for w in words[:colon] if w not in ("pub",)]
+        found += [word for word in words[: top_level(words, ":")] if word != "pub"]
     return found
 
 
