@@ -36,3 +36,8 @@ pub use error::Error;
 pub use index::{Index, Scratch};
 pub use lent::{household_count, Found, Lent, Recognition};
 pub use params::*;
+
+/// The Rust program of the repository's README.md, as a test.
+#[cfg(all(doctest, feature = "std"))]
+#[doc = include_str!("../../../README.md")]
+struct Readme;
