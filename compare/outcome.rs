@@ -70,7 +70,7 @@ impl Outcome {
     }
 }
 
-/// The first place that differs. In the first places, which hold answers, all NaNs are one value (DECISIONS, 11).
+/// The first index that differs. In the first entries, which hold answers, all NaNs are one value (DECISIONS 11, "There is one NaN").
 fn first_unlike(a: &[u32], b: &[u32], answers: usize) -> Option<usize> {
     if a == b {
         return None;
