@@ -1,9 +1,9 @@
 #!/usr/bin/env python3
-"""Makes the measured part of docs/SPEED.md, and docs/speed.svg beside it, of what bench/run measured.
+"""Makes the measured part of docs/SPEED.md, and docs/speed.svg beside it, from what bench/run measured.
 
 usage: report.py LINES SPEED.md speed.svg
 
-LINES has a line a measurement, fields between tabs: those that bench/calls.rs prints, and `size` lines of bench/run.
+LINES has one line for each measurement, fields between tabs: those that bench/calls.rs prints, and `size` lines of bench/run.
 """
 import pathlib
 import sys
@@ -13,7 +13,7 @@ SIZES = (64, 256, 512, 1024)
 LEAVES = (2048, 64)
 SEARCHES = [f'search k {k} ef {ef}' for k in (1, 10) for ef in (10, 50, 100)]
 KINDS = ['add', 'build'] + SEARCHES + ['recognise ef 50']
-# the largest share of the Rust's time that is asked for
+# the largest share of the Rust's time that is accepted
 ASKED = {'build': 0.5, **{s: 1.2 if s.endswith('ef 10') else 0.7 for s in SEARCHES}}
 
 
@@ -49,20 +49,20 @@ def times_table(times, leaf):
         if any(cells):
             rows.append([kind, ASKED.get(kind, '')] + ['' if c is None else f'{c[2]:.2f} of {duration(c[1])}' for c in cells])
     scored = [[f'.. scored, {s[7:]}', ''] + [times[s, n, leaf][0] for n in SIZES] for s in SEARCHES[:3]]
-    return table(['Call', 'Asked'] + [f'{n:,} nodes' for n in SIZES], rows + scored)
+    return table(['Call', 'Aim'] + [f'{n:,} nodes' for n in SIZES], rows + scored)
 
 
 def report(times, others):
     noise = sorted(abs(t[3] - 1) for t in times.values())
     n = SIZES[-1]
     parts = [
-        'Each cell is our share of the Rust\'s time, of the time that the Rust took. Add is all nodes into an empty index. The Rust has no '
-        'recognising: there it searches for one node and compares its distance.\n\n'
+        'Each cell is this library\'s time as a share of the Rust\'s, and the Rust\'s time. Aim is the largest share that is accepted. Add is all '
+        'nodes into an empty index. The Rust has no recognising: there it searches for one node and compares its distance.\n\n'
         f'The Rust was measured twice in the same rounds: the second time differed from the first by {noise[len(noise) // 2]:.1%} in the '
-        f'middle case and by {noise[-1]:.1%} at most. Shares that differ by less say nothing.\n\n'
+        f'median case and by {noise[-1]:.1%} at most. Smaller differences between shares mean nothing.\n\n'
         '**Default parameters**\n\n', times_table(times, 2048),
         '\n**max_leaf_size 64**\n\n', times_table(times, 64),
-        f'\n**Stored vectors missed** by a search for one node that asks for just that vector, of {n:,}:\n\n',
+        f'\n**Stored vectors missed** by a search with k = 1 for exactly that vector, of {n:,}:\n\n',
         table(['Vectors'] + [f'ef {f[1]}' for f in others['missed clusters']],
               [[kind] + [f'{int(f[2]) / n:.1%}' for f in others[f'missed {kind}']] for kind in ('clusters', 'random')]),
         '\n**Memory**, in KB:\n\n',
@@ -75,7 +75,7 @@ def report(times, others):
 
 
 def picture(times):
-    """Our shares as bars, a group for each call and a bar for each number of nodes, with the share asked for."""
+    """Our shares as bars, a group for each call and a bar for each number of nodes, with the aim."""
     kinds = [k for k in KINDS if k != 'add']
     left, top, group, bar, height = 48, 40, 92, 18, 240
     scale = height / 1.4
@@ -100,7 +100,7 @@ def picture(times):
             y = base - ASKED[kind] * scale
             out.append(f'<line x1="{x - 4}" x2="{x + 4 * bar + 2}" y1="{y:.1f}" y2="{y:.1f}" stroke="#d62728" stroke-width="2"/>')
         out.append(f'<text x="{x + 2 * bar}" y="{base + 16}" text-anchor="middle">{kind.replace("search ", "")}</text>')
-    out.append(f'<text x="{left}" y="{base + 40}">bars: 64, 256, 512, 1,024 nodes; red: the share asked for; "k .. ef ..": searches</text></svg>')
+    out.append(f'<text x="{left}" y="{base + 40}">bars: 64, 256, 512, 1,024 nodes; red: the aim; "k .. ef ..": searches</text></svg>')
     return '\n'.join(out) + '\n'
 
 
