@@ -30,23 +30,23 @@
  *   - the pointer is not NULL, also where the length is 0, and is aligned as its type is;
  *   - the memory has been written once, with whatever values (calloc's is);
  *   - a buffer that a call may write (one that is not const) overlaps no other buffer of that call. Const buffers may.
- * These three are the caller's to keep; no function can test them. A buffer may be longer than it has to be.
+ * The caller has to see to these three; no function can test them. A buffer may be longer than it has to be.
  *
  * What each has to hold, for a capacity C, a degree D (max_degree) and a dimension:
  *   words           16 + C * (4 + D)   the word store: header, doc ids, rows of the graph, bridges
  *   floats          C * dimension      the float store: the phones' vectors, scaled to length 1
- *   scratch_words   64 * C             for build and whatever searches. What it holds before never shows in an answer,
- *   scratch_floats  16 * C + 256       and what it holds afterwards is free; one piece serves all calls, one at a time
+ *   scratch_words   64 * C             for build and whatever searches. What it holds before never affects an answer, and
+ *   scratch_floats  16 * C + 256       what it holds afterwards means nothing; one piece serves all calls, one at a time
  *   docs            min(k, n)          outputs of a search among n phones: doc ids,
- *   distances       min(k, n)          and their distances, 1 - cosine: 0 for one direction, 2 for opposite ones, and by
- *                                      rounding a little beside these
+ *   distances       min(k, n)          and their distances, 1 - cosine: 0 for the same direction, 2 for opposite ones, up
+ *                                      to rounding
  *   vector, query   dimension          exactly; every component finite. They need not be scaled
  *   seconds, docs   one entry for each sighting, at most 512, both equally long (pipnn_household_count)
  *
  * THREADS
  *
  * There is no global state and no allocation. Calls on different stores may run at once. So may searches of one store, each
- * with its own scratch and outputs; a call that writes a store has it for itself.
+ * with its own scratch and outputs; while a call writes a store, no other call may use it.
  *
  * STACK
  *
@@ -58,14 +58,14 @@
  *
  * HOW TO CHOOSE ef
  *
- * A search holds max(ef, k) places. Where that is at least the number of phones in the store, nothing can be missed: the
- * answer is the exact nearest k. With fewer places the walk stops as the published Rust's does: once it has scored more than
- * ten times its places, or when all that is left is far off. It then may miss near phones, and on clustered data, such as
- * many phones of one make, it does: a phone that is stored can be missed by a query for itself. Measured with 1,024 phones
- * (bench/run): in 16 tight clusters 49 of 100 such queries miss at ef 10, 6 at ef 50 and none at ef 100; of random
- * directions 1 of 100 at ef 10 and none at ef 50. So take ef = 1024, or n, where an answer has to be exact, and a smaller
- * one only after trying it on vectors like your own. 'scored' says how many phones were looked at, which is what a search
- * costs.
+ * A search keeps the b = max(ef, k) nearest phones that it has met. Where b is at least the number of phones in the store,
+ * nothing can be missed: the answer is the exact nearest k. Below that the walk stops as the published Rust's does: once it
+ * has scored more than 10 * b phones, or when all that is left is far off. It may then miss near phones, and on clustered
+ * data, such as many phones of one make, it does: a phone that is stored can be missed by a query for itself. Measured with
+ * 1,024 phones (bench/run): in 16 tight clusters 49 of 100 such queries miss at ef 10, 6 at ef 50 and none at ef 100; of
+ * random directions 1 of 100 at ef 10 and none at ef 50. So take ef = 1024, or n, where an answer has to be exact, and a
+ * smaller one only after trying it on vectors like your own. 'scored' reports how many phones a search looked at, which is
+ * what it costs.
  *
  * HOW LONG A BUILD TAKES
  *
@@ -97,12 +97,12 @@ extern "C" {
 #define PIPNN_MOST_BEAM 1024      /* ef, in a search */
 #define PIPNN_MOST_SIGHTINGS 512  /* in pipnn_household_count */
 
-/* Why a call was turned back, and what it left unchanged. "All" is every buffer, "all but scratch" every other one.
+/* Why a call was refused, and what it left unchanged. "All" is every buffer, "all but scratch" every buffer but scratch.
  *
- * A call makes its checks in a fixed order, and gives the number of the first that fails:
+ * A call makes its checks in a fixed order, and returns the number of the first that fails:
  *   pipnn_new              1, 2, 3
  *   all others on a store  3 (fewer than 16 words), 4 (words 0 to 15), 3 (the rest of both stores, and scratch where it is
- *                          lent), 4 (the rest); then
+ *                          passed in), 4 (the rest); then
  *     pipnn_add              5, 6, 7, 8
  *     pipnn_build            9 (a store that is built already: success, and nothing changes)
  *     pipnn_search, ..       10, 6, 7, 11, 12
@@ -128,15 +128,15 @@ enum pipnn_refusal {
     PIPNN_BAD_SIGHTINGS = 14           /* more than 512 sightings, or their two lists differ in length. All unchanged */
 };
 
-/* What a search gives besides its two outputs. After a refusal both counts are 0. */
+/* What a search returns besides its two outputs. After a refusal both counts are 0. */
 struct pipnn_found {
     uint32_t number; /* 0 or an enum pipnn_refusal */
-    uint32_t count;  /* how many places of docs and distances were written, from the front; the places past them stay. It is
-                        min(k, n) on every store made by these calls */
-    uint32_t scored; /* how many phones' distances the walk worked out */
+    uint32_t count;  /* how many entries of docs and distances were written, from the front; the others stay as they were.
+                        It is min(k, n) on every store made by these calls */
+    uint32_t scored; /* how many phones' distances the walk computed */
 };
 
-/* What recognising gives. After a refusal all but the number are 0. */
+/* What recognising returns. After a refusal all but the number are 0. */
 struct pipnn_recognised {
     uint32_t number; /* 0 or an enum pipnn_refusal */
     uint32_t known;  /* 1: the phone is one of those stored. 0: it is a new one */
@@ -144,7 +144,7 @@ struct pipnn_recognised {
     uint32_t score;  /* of the nearest phone that was found: 100 * (1 - distance), rounded down exactly, held to 0 to 100 */
 };
 
-/* What the household count gives. */
+/* What the household count returns. */
 struct pipnn_household {
     uint32_t number; /* 0 or PIPNN_BAD_SIGHTINGS */
     uint32_t phones; /* how many different doc ids; 0 after a refusal */
@@ -164,14 +164,14 @@ size_t pipnn_scratch_floats(uint32_t capacity);
  *   max_leaf_size    1 to 2048; usually 2048, with which every index here is one leaf
  *   min_leaf_size    0 to 1024; usually 64
  *   leader_fraction  0 to 1; usually 0.02
- *   max_degree       0 to 32; usually 32. A row of the graph has at most so many entries
+ *   max_degree       0 to 32; usually 32. The largest number of entries in a row of the graph
  *   num_hash_bits    0 to 16; usually 12
  *   final_prune      0 or 1; usually 1. It changes no graph and no answer within these limits
- *   alpha            finite; usually 1.2. Nor does it
+ *   alpha            finite; usually 1.2. It changes no graph and no answer either
  *   ef_search        0 to 1024; usually 100. The ef of pipnn_search
  *   capacity         1 to 1024: how many phones the index can hold
  *
- * Gives 0, 1, 2 or 3. */
+ * Returns 0, 1, 2 or 3. */
 uint32_t pipnn_new(uint32_t *words, size_t words_length,
                    float *floats, size_t floats_length,
                    uint32_t dimension,
@@ -190,27 +190,27 @@ uint32_t pipnn_new(uint32_t *words, size_t words_length,
  *
  *   vector           'dimension' floats, each finite
  *
- * Gives 0, 3, 4, 5, 6, 7 or 8. */
+ * Returns 0, 3, 4, 5, 6, 7 or 8. */
 uint32_t pipnn_add(uint32_t *words, size_t words_length,
                    float *floats, size_t floats_length,
                    uint32_t doc,
                    const float *vector, size_t vector_length);
 
-/* Makes an open index that has phones a built one: its graph goes into the word store. Every phone can then be reached.
+/* Makes an open index that has phones a built one: writes its graph to the word store. Every phone can then be reached.
  *
  *   scratch_words, scratch_floats   64 * capacity words, 16 * capacity + 256 floats
  *
- * Gives 0, 3, 4 or 9. */
+ * Returns 0, 3, 4 or 9. */
 uint32_t pipnn_build(uint32_t *words, size_t words_length,
                      const float *floats, size_t floats_length,
                      uint32_t *scratch_words, size_t scratch_words_length,
                      float *scratch_floats, size_t scratch_floats_length);
 
-/* The nearest k of the phones that a walk with max(ef, k) places scores, nearest first (see HOW TO CHOOSE ef).
+/* The nearest k of the phones that a walk with b = max(ef, k) scores, nearest first (see HOW TO CHOOSE ef).
  *
  *   query            'dimension' floats, each finite; it need not be scaled
  *   k, ef            0 to 1024
- *   docs, distances  at least min(k, n) places each; k is always enough
+ *   docs, distances  at least min(k, n) entries each; k is always enough
  *   scratch_words, scratch_floats   64 * capacity words, 16 * capacity + 256 floats
  *
  * Its number is 0, 3, 4, 10, 6, 7, 11 or 12. */
