@@ -3,8 +3,8 @@
 
     declarations.py          in the repository, from any folder
 
-The source is crates/drintelbok/src/lib.rt: its functions marked `pub extern "C"` and its `#[repr(C)]` structs. Declared are they in
-include/pipnn.h and in bindings/rust/src/sys.rs. Every function must stand in all three, with the same parameters in the same order, of
+The source is crates/drintelbok/src/lib.rt: its functions marked `pub extern "C"` and its `#[repr(C)]` structs. They are declared in
+include/pipnn.h and in bindings/rust/src/sys.rs. Every function must be in all three, with the same parameters in the same order, of
 the same names and types, and the same result; every struct with the same fields. A slice x of the source is a pointer x and a length
 x_length. Names of structs are snake case in C. Refusals and limits are compared with the definitions and constants of the library.
 
@@ -59,9 +59,9 @@ def once(pairs, where):
 
 def source_parameter(text):
     name, kind = re.fullmatch(r"(\w+): (.+)", text).groups()
-    lent = re.fullmatch(r"&(mut )?\[(\w+)\]", kind)
-    if lent and lent[2] in NUMBERS:
-        return [(name, f"*{'mut' if lent[1] else 'const'} {lent[2]}"), (f"{name}_length", "usize")]
+    slice_of = re.fullmatch(r"&(mut )?\[(\w+)\]", kind)
+    if slice_of and slice_of[2] in NUMBERS:
+        return [(name, f"*{'mut' if slice_of[1] else 'const'} {slice_of[2]}"), (f"{name}_length", "usize")]
     if kind in NUMBERS:
         return [(name, kind)]
     raise Unreadable(f"{SOURCE}: parameter '{text}'")
@@ -242,7 +242,7 @@ def compare(files):
     return found, (len(functions), len(structs), len(defined), len(there))
 
 
-# Edits that the comparison must notice: the file, what stands there, what is put in its first place.
+# Edits that the comparison must notice: the file, the old text, and the new text for its first occurrence.
 EDITS = [
     (HEADER, "uint32_t k,\n", "uint32_t ef,\n"),
     (HEADER, "uint32_t max_leaf_size,\n                   uint32_t min_leaf_size", "uint32_t min_leaf_size,\n                   uint32_t max_leaf_size"),

@@ -61,7 +61,7 @@ fn folder() -> Result<PathBuf, String> {
     match env::var_os("PWD").map(PathBuf::from) {
         Some(start) if start.is_absolute() => Ok(start.join(named)),
         _ => Err(format!(
-            "{VARIABLE} is the relative folder {}, and PWD does not say where cargo is run: give an absolute one",
+            "{VARIABLE} is the relative folder {}, and PWD does not say where cargo is run: set an absolute one",
             named.display()
         )),
     }

@@ -1,5 +1,5 @@
-//! A program over the published `PipnnIndex`, and the same over this crate. Where the two differ both lines stand, the published one
-//! under `cfg(published)`; every other line is the same:
+//! A program over the published `PipnnIndex`, and the same over this crate. Where the two differ there are both lines, the published
+//! one under `cfg(published)`; every other line is the same:
 //!
 //! - the names: `Index` and `Params` are taken under the published ones;
 //! - `new` has the capacity, since all memory is allocated there;
@@ -47,7 +47,7 @@ fn main() -> Result<(), Error> {
         }
     }
 
-    // as many places as phones: nothing can be missed
+    // ef is the number of phones: nothing can be missed
     let nearest = index.search_with_ef(&features(1000, 0), 1, PHONES as usize)?;
     println!("a phone that is not stored: {} at {:.4}", nearest[0].0, nearest[0].1);
 

@@ -1,10 +1,10 @@
-//! Why a call was turned back.
+//! Why a call was refused.
 use core::fmt;
 
 macro_rules! errors {
     ($($name:ident = $number:literal, $message:literal;)*) => {
-        /// Why a call was turned back. `number` gives the number that the library itself returns; include/pipnn.h says which call
-        /// gives which, in which order it checks, and what stays unchanged (everything but scratch).
+        /// Why a call was refused. `number` is the number that the library itself returns; include/pipnn.h says which call returns
+        /// which, in which order it checks, and what stays unchanged (everything but scratch).
         #[derive(Clone, Copy, Debug, PartialEq, Eq, Hash)]
         #[non_exhaustive]
         pub enum Error {

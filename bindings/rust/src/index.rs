@@ -5,8 +5,8 @@ use crate::params::{number, Params, Sizes};
 use crate::sys;
 use std::fmt;
 
-/// An index with its stores and scratch, in place of the published `PipnnIndex`: the same calls, with a capacity in `new`.
-/// All memory is allocated there.
+/// An index with its stores and scratch, to replace the published `PipnnIndex`: the same calls, with a capacity in `new`, where all
+/// memory is allocated.
 #[derive(Clone)]
 pub struct Index {
     words: Vec<u32>,
@@ -27,12 +27,12 @@ impl Scratch {
     /// Enough for an index of that capacity.
     pub fn new(capacity: usize) -> Scratch {
         let sizes = Sizes::needed(1, &Params::default(), capacity);
-        let places = if sizes.scratch_words == 0 { 0 } else { capacity };
+        let entries = if sizes.scratch_words == 0 { 0 } else { capacity };
         Scratch {
             words: vec![0; sizes.scratch_words],
             floats: vec![0.0; sizes.scratch_floats],
-            docs: vec![0; places],
-            distances: vec![0.0; places],
+            docs: vec![0; entries],
+            distances: vec![0.0; entries],
         }
     }
 }
@@ -50,8 +50,7 @@ impl Index {
         Ok(index)
     }
 
-    /// An index out of stores that `words` and `floats` of another returned, however long they were kept. Stores that hold no index are
-    /// refused.
+    /// An index from stores that `words` and `floats` of another returned, however long ago. Stores that hold no index are refused.
     pub fn from_stores(words: Vec<u32>, floats: Vec<f32>) -> Result<Index, Error> {
         let mut index = Index {
             words,
@@ -94,7 +93,7 @@ impl Index {
         Ok(s.pairs(found(given)?))
     }
 
-    /// The nearest `k` of what a walk with max(ef, k) places scores. Where that is at least `len()`, nothing is missed.
+    /// The nearest `k` of what a walk that keeps max(ef, k) nodes scores. Where that is at least `len()`, nothing is missed.
     pub fn search_with_ef(&mut self, query: &[f32], k: usize, ef: usize) -> Result<Vec<(u32, f32)>, Error> {
         let found = search_in(&self.words, &self.floats, query, k, ef, &mut self.scratch)?;
         Ok(self.scratch.pairs(found))
@@ -161,7 +160,7 @@ impl Index {
         &self.floats
     }
 
-    /// The same memory, as lent.
+    /// The same memory as a `Lent`.
     pub fn lent(&mut self) -> Lent<'_> {
         Lent::over(
             &mut self.words,

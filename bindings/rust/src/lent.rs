@@ -1,4 +1,4 @@
-//! The index over memory that the caller lends: no allocation, no std.
+//! The index over memory that the caller passes in: no allocation, no std.
 use crate::error::{accepted, Error};
 use crate::params::{number, Params};
 use crate::sys;
@@ -14,7 +14,7 @@ pub(crate) mod header {
     pub const CAPACITY: usize = 11;
 }
 
-/// How many places of a search's outputs were written, and how many vectors it scored.
+/// How many entries of a search's outputs were written, and how many vectors it scored.
 #[derive(Clone, Copy, Debug, PartialEq, Eq)]
 pub struct Found {
     pub count: usize,
@@ -89,8 +89,8 @@ impl<'a> Lent<'a> {
         ))
     }
 
-    /// The nearest `k` of what a walk with max(ef, k) places scores: doc ids and distances go to the front of the two outputs,
-    /// which need min(k, len) places each.
+    /// The nearest `k` of what a walk that keeps max(ef, k) nodes scores: doc ids and distances go to the front of the two outputs,
+    /// which need min(k, len) entries each.
     pub fn search_with_ef(
         &mut self,
         query: &[f32],

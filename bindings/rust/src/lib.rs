@@ -1,8 +1,8 @@
 //! Drintelbok's nearest-neighbour index for home gateways, as a safe Rust crate over its proved static library.
 //!
-//! [`Index`] owns its memory and takes the place of the published `PipnnIndex`; [`Lent`] works over memory that the caller lends, and
-//! without the feature `std` the crate is `no_std` and has that alone. [`sys`] has the library's functions over slices. What each
-//! call promises, and how to choose `ef`, stands in include/pipnn.h.
+//! [`Index`] owns its memory and replaces the published `PipnnIndex`; [`Lent`] works over memory that the caller passes in, and
+//! without the feature `std` the crate is `no_std` and has only that. [`sys`] has the library's functions over slices. What each
+//! call promises, and how to choose `ef`, is in include/pipnn.h.
 //!
 //! ```
 //! # #[cfg(feature = "std")]

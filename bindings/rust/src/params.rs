@@ -22,7 +22,7 @@ pub struct Params {
     pub max_leaf_size: usize,
     /// Buckets smaller than this are gathered: 0 to 1024. Default: 64.
     pub min_leaf_size: usize,
-    /// Share of a segment that leads: 0 to 1. Default: 0.02.
+    /// Share of a segment's nodes that become leaders: 0 to 1. Default: 0.02.
     pub leader_fraction: f64,
     /// Maximum out-degree before repair: 0 to 32. Default: 32.
     pub max_degree: usize,

@@ -1,6 +1,6 @@
 //! The archive's functions, and for each a safe function over slices. All unsafe code of the crate is here.
 //!
-//! Every function of the archive is total: for any content and any length of its slices it ends, stays within them, and gives 0
+//! Every function of the archive is total: for any content and any length of its slices it ends, stays within them, and returns 0
 //! or the number of a refusal. What it asks of a caller is what a Rust slice is: a pointer that is not null and is aligned, to
 //! that many initialised elements, and nothing written overlaps anything else. So each block below is safe for one reason, `SLICES`:
 //! pointer and length come from one slice that is borrowed over the whole call, `&mut` where the function may write and `&`
@@ -8,7 +8,7 @@
 //! bindings/declarations.py compares with their source.
 #![allow(clippy::too_many_arguments)]
 
-/// What a search gives besides its outputs, as it crosses C.
+/// What a search returns besides its outputs, as it crosses C.
 #[repr(C)]
 #[derive(Clone, Copy, Debug, PartialEq, Eq)]
 pub struct PipnnFound {
@@ -17,7 +17,7 @@ pub struct PipnnFound {
     pub scored: u32,
 }
 
-/// What recognising gives, as it crosses C.
+/// What recognising returns, as it crosses C.
 #[repr(C)]
 #[derive(Clone, Copy, Debug, PartialEq, Eq)]
 pub struct PipnnRecognised {
@@ -27,7 +27,7 @@ pub struct PipnnRecognised {
     pub score: u32,
 }
 
-/// What the household count gives, as it crosses C.
+/// What the household count returns, as it crosses C.
 #[repr(C)]
 #[derive(Clone, Copy, Debug, PartialEq, Eq)]
 pub struct PipnnHousehold {

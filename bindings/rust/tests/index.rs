@@ -34,7 +34,7 @@ fn filled(n: usize, params: Params) -> (Index, Vec<f32>) {
     (index, vectors)
 }
 
-/// Where the places are as many as the nodes, an answer is the exact nearest k, bit for bit.
+/// Where ef is the number of nodes, an answer is the exact nearest k, bit for bit.
 #[test]
 fn exact_where_nothing_can_be_missed() {
     let n = 300;

@@ -1,4 +1,4 @@
-//! The scope's worked example, over lent memory.
+//! The scope's worked example, over memory that is passed in.
 mod common;
 use common::{bits, three_phones, Memory};
 use pipnn_gateway::{Error, Found, Params, Recognition};
@@ -50,7 +50,7 @@ fn searches() {
     assert_eq!(memory.stores(), stores);
 }
 
-/// Every parameter arrives at its place of the header.
+/// Every parameter arrives at its word of the header.
 #[test]
 fn header() {
     let params = Params {
