@@ -42,7 +42,7 @@ impl Question<'_> {
         (0..count).map(|_| self.float()).collect()
     }
 
-    /// a count, then so many floats
+    /// a count n, then n floats
     fn vector(&mut self) -> Vec<f32> {
         let count = self.size();
         self.floats(count)
@@ -77,7 +77,7 @@ impl Answer {
     }
 }
 
-/// What stays from line to line: the whole stores, and how much of them is lent.
+/// What stays from line to line: the whole stores, and how much of them is passed to the calls.
 #[derive(Default)]
 struct State {
     words: Vec<u32>,
@@ -377,7 +377,7 @@ fn call(state: &mut State, kind: &str, q: &mut Question, a: &mut Answer) {
     }
 }
 
-/// Adds generated vectors up to the first refusal, and gives the last number.
+/// Adds generated vectors up to the first refusal, and returns the last number.
 fn adds(stores: &mut Stores, count: usize, seed: u64, style: u64) -> u32 {
     let dimension = stores.words.get(1).map_or(0, |&x| x as usize);
     let vectors = generated(

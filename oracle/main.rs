@@ -1,10 +1,10 @@
-//! The oracle: the published Rust with the edits of edits.py, behind the probe's lines (01) and behind the recorded answers' lines.
+//! The oracle: the published Rust with the edits of edits.py, behind the probe's lines (scope, Checked values) and behind the recorded answers' lines.
 //!
 //! usage: oracle probe    reads the probe's lines and prints the probe's lines
 //!        oracle all      the same lines, and prints whatever the published code hands out
 //!        oracle answer   reads questions (recorded/README.md) and prints them with their answers
 //!
-//! compare/ links it as a library, for its stores, its order and what 01 adds.
+//! compare/ links it as a library, for its stores, its order and what the scope adds to the Rust.
 mod answer;
 mod distance;
 mod error;

@@ -1,4 +1,4 @@
-//! The program probe (01): key=value lines in, what the calls give out. A line that cannot be read as its kind ends it.
+//! The program probe (scope, Checked values): key=value lines in, what the calls return out. A line that cannot be read as its kind ends it.
 use crate::order;
 use crate::stores::{Asked, Scratch, Stores};
 use crate::trace::{self, Trace};

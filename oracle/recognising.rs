@@ -1,5 +1,5 @@
-//! What 01 adds last, the score of a distance, Known or New, and the household count. The published code has none of it: these are 01's words,
-//! worked out in another way than the project's own code does.
+//! Recognising (scope, Recognising): the score of a distance, Known or New, and the household count. The published code has none of it:
+//! these are the scope's words, computed in another way than in the project's own code.
 use std::collections::BTreeSet;
 
 /// What recognising answers, refusals aside.

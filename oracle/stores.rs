@@ -1,4 +1,4 @@
-//! The two stores of 01 and the calls on them: layout, well-formedness, sizes and refusals in 01's words. Vectors, lists, bridges, entry
+//! The two stores and the calls on them: layout, well-formedness, sizes and refusals in the words of docs/SCOPE.md. Vectors, lists, bridges, entry
 //! nodes and answers come from the published code.
 use crate::pipnn::{PipnnIndex, PipnnParams};
 use crate::recognising::{decide, Recognised};
@@ -21,7 +21,7 @@ pub struct Asked {
     pub capacity: u32,
 }
 
-/// What a search gives back.
+/// What a search returns.
 #[derive(Default)]
 pub struct Found {
     pub docs: Vec<u32>,
@@ -29,10 +29,10 @@ pub struct Found {
     pub scored: Vec<(u32, f32)>,
 }
 
-/// The words and floats of scratch that a call is lent.
+/// The words and floats of scratch that a call is passed.
 pub type Scratch = (usize, usize);
 
-/// The words and floats that a call is lent. Floats are bits.
+/// The words and floats that a call is passed. Floats are bits.
 pub struct Stores<'a> {
     pub words: &'a mut [u32],
     pub floats: &'a mut [u32],
@@ -309,7 +309,7 @@ impl Stores<'_> {
         (0, Some(trace))
     }
 
-    /// `outputs` are the lengths of the two that a search is lent, doc ids and distances.
+    /// `outputs` are the lengths of the two outputs of a search, doc ids and distances.
     pub fn find(
         &self,
         scratch: Scratch,

@@ -1,4 +1,4 @@
-"""Questions about single numbers and vectors (01, parts 1 to 3, and the numbers of parts 4 and 6)."""
+"""Questions about single numbers and vectors (scope, parts 1 to 3, and the numbers of parts 4 and 6)."""
 from draws import *
 
 d = Draws(1)

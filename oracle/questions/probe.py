@@ -1,4 +1,4 @@
-"""Inputs of the program probe (01): its example, every refusal that it can reach, every kind of line that ends it."""
+"""Inputs of the program probe (scope, Checked values): the worked example, every refusal that it can reach, every kind of line that ends it."""
 from draws import *
 
 HEADER = dict(dim='2', leaf='256', min='0', fraction='3fe0000000000000', degree='1', bits='0', final='1', alpha='3f99999a', ef='3', cap='8')

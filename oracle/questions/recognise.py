@@ -1,4 +1,4 @@
-"""Questions about recognising (01's last section): scores at every edge, answers at the limit, the call on stores, household counts."""
+"""Questions about recognising (scope, Recognising): scores at every edge, answers at the limit, the call on stores, household counts."""
 from history import *
 
 d = Draws(6)

@@ -137,7 +137,7 @@ def walked_by_hand():
     # 1.5 · cutoff is rounded up to the distance of node 2, which is therefore expanded
     yield from graph([2.0, 1 + 2**-23, 1.5 + 2**-22, 1.0], star)
     yield from graph([2.0, 1 + 2**-23, 1.5 + 2**-22 + 2**-23, 1.0], star)
-    # a cutoff below 0 times 1.5 is lower still; it is infinite on the push that fills the places
+    # a cutoff below 0 times 1.5 is lower still; it is infinite on the push with which b nodes are held
     yield from graph([-1.0, -2.0, -0.5, 1.0], star)
     yield from graph([-4.0, -3.0, -5.0, -6.0], [[1], [2], [3], [0]])
     # ties in the frontier: the lower node first

@@ -1,4 +1,4 @@
-"""Questions about the order of distances (01, part 1): all of them sorted, and the first few."""
+"""Questions about the order of distances (scope, part 1): all of them sorted, and the first few."""
 from draws import *
 
 d = Draws(2)

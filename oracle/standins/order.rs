@@ -1,4 +1,4 @@
-//! The order of distances (01, part 1): `total_cmp`, a NaN taken as positive. All NaNs are one value.
+//! The order of distances (scope, part 1): `total_cmp`, a NaN taken as positive. All NaNs are one value.
 use std::cmp::Ordering;
 
 pub fn compare(a: f32, b: f32) -> Ordering {
