@@ -152,7 +152,7 @@ fn misses(n: usize) {
     }
 }
 
-/// Bytes: the Rust's index as it stands built, and the most that was in use at once while it was filled, built and searched; ours by
+/// Bytes: the Rust's index once built, and the most that was in use at once while it was filled, built and searched; ours by
 /// the sizes that it asks for.
 #[cfg(counted)]
 fn room(n: usize, vectors: &[f32]) {

@@ -38,7 +38,7 @@ fn same_bits(a: &[f32], b: &[f32]) {
     }
 }
 
-/// Turns rows into blocks of eight, in which a component's eight numbers stand together.
+/// Transposes rows into blocks of eight, in which a component's eight numbers are adjacent.
 fn turn(rows: &[f32], features: usize, blocks: &mut [f32]) {
     for (eight, block) in rows.chunks_exact(8 * features).zip(blocks.chunks_exact_mut(8 * features)) {
         for (i, together) in block.chunks_exact_mut(8).enumerate() {

@@ -49,7 +49,7 @@ pub fn clusters(seed: u64, n: usize, dimension: usize) -> Vec<f32> {
 }
 
 /// The Rust's time in nanoseconds, and two shares of it: ours, and the Rust's own when it is measured once more in the same rounds,
-/// which tells how far shares can be trusted.
+/// which shows how far shares can be trusted.
 pub struct Compared {
     pub rust: f64,
     pub ours: f64,
@@ -57,12 +57,12 @@ pub struct Compared {
 }
 
 impl Compared {
-    /// Of one of so many calls.
+    /// Of a single call, where `calls` were measured.
     pub fn each(self, calls: usize) -> Self {
         Compared { rust: self.rust / calls as f64, ..self }
     }
 
-    /// Without so many nanoseconds that the Rust spends beside what is measured.
+    /// Without the nanoseconds that the Rust spends beside what is measured.
     pub fn without(self, beside: f64) -> Self {
         let rust = self.rust - beside;
         Compared { rust, ours: self.ours * self.rust / rust, again: (self.again * self.rust - beside) / rust }

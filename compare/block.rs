@@ -1,17 +1,17 @@
-//! A slice as the library is lent it, in an allocation of its own.
+//! A slice that is passed to the library, in an allocation of its own.
 
 const GUARD: usize = 8;
 
 pub struct Block<T> {
     all: Vec<T>,
-    /// What has to stand before and behind the slice.
+    /// What has to be before and behind the slice.
     before: Vec<T>,
     behind: Vec<T>,
     length: usize,
 }
 
 impl<T: Copy + PartialEq + From<u32>> Block<T> {
-    /// The first `length` of the content. If guarded, guard words stand before it, the rest of the content and guard words behind it.
+    /// The first `length` of the content. If guarded, guard words are before it, the rest of the content and guard words behind it.
     pub fn of(content: &[T], length: usize, guarded: bool) -> Self {
         let guard = |first: u32| (0..GUARD as u32).map(move |i| T::from(first ^ i));
         let (mut before, mut behind) = (Vec::new(), Vec::new());

@@ -1,11 +1,11 @@
-//! What a call has to do: the oracle's stores and what it says of recognising, and 01's sizes.
+//! What a call has to do: the oracle's stores and what it says of recognising, and the scope's sizes.
 use crate::history::{Call, Search, Sightings, State};
 use crate::library::outputs_before;
 use crate::outcome::Outcome;
 use oracle::recognising::{self, Recognised};
 use oracle::stores::Stores;
 
-/// Both stores, as far as they are lent, and the outputs, before a call.
+/// Both stores, as far as they are passed in, and the outputs, before a call.
 pub fn before(call: &Call, state: &State) -> Outcome {
     let (docs, distances) = outputs_before(call);
     Outcome {
@@ -70,7 +70,7 @@ fn find(outcome: &mut Outcome, search: &Search, state: &State) {
     }
 }
 
-/// 01's sizes, 0 where a number is beyond its limits.
+/// The sizes of docs/SCOPE.md, 0 where a number is beyond its limits.
 fn sizes([capacity, max_degree, dimension]: [u32; 3]) -> Vec<u64> {
     if !(1..=1024).contains(&capacity) {
         return vec![0; 4];

@@ -10,13 +10,13 @@ pub enum Store {
 
 #[derive(Clone)]
 pub enum Step {
-    /// Makes the stores anew, of so many words and floats, as the recorded line `fill` does from a seed; all of it is lent.
+    /// Makes the stores anew, of n words and m floats, as the recorded line `fill` does from a seed; all of it is passed to the calls.
     Fill(usize, usize, u64),
-    /// The calls that follow are lent only the first words and floats.
+    /// The calls that follow are passed only the first words and floats.
     Lend(usize, usize),
-    /// Writes from a place on, as far as the store goes.
+    /// Writes from an index on, as far as the store goes.
     Put(Store, usize, Vec<u32>),
-    /// Writes one place, so that `Mend` can set it back.
+    /// Writes one word, so that `Mend` can set it back.
     Damage(Store, usize, u32),
     /// Sets back all that was damaged since the last `Mend`.
     Mend,
@@ -84,7 +84,7 @@ pub const KINDS: [&str; 8] = [
 ];
 
 impl Call {
-    /// The place of its name in `KINDS`.
+    /// The index of its name in `KINDS`.
     pub fn kind(&self) -> usize {
         match self {
             Call::New(_) => 0,
@@ -147,12 +147,12 @@ impl State {
         &self.floats[..self.lent.1]
     }
 
-    /// A header word of what is lent; 0 if it is not lent.
+    /// A header word of what is passed in; 0 if it is not.
     pub fn header(&self, place: usize) -> u32 {
         self.lent_words().get(place).copied().unwrap_or(0)
     }
 
-    /// Takes a step that is not a call, and gives what it wrote.
+    /// Takes a step that is not a call, and returns what it wrote.
     pub fn prepare(&mut self, step: &Step) -> Vec<(Store, usize, u32)> {
         let mut written = Vec::new();
         match step {

@@ -52,17 +52,17 @@ extern "C" {
     fn pipnn_scratch_floats(capacity: u32) -> usize;
 }
 
-/// How slices are lent.
+/// How slices are passed in.
 #[derive(Clone, Copy, PartialEq)]
 pub enum Lending {
-    /// With guard words around each; what is not lent of a store stands behind what is.
+    /// With guard words around each; the part of a store that is not passed in is behind the part that is.
     Guarded,
     /// Each in an allocation of just its length, scratch undefined: for valgrind, which then sees every access outside a slice and every
-    /// decision that hangs on old scratch.
+    /// decision that depends on old scratch.
     Bare,
 }
 
-/// The slices that a call is lent.
+/// The slices that a call is passed.
 struct Lent {
     lending: Lending,
     words: Block<u32>,
@@ -129,7 +129,7 @@ impl Lent {
         ]
     }
 
-    /// The outcome, or in words what was written outside of what was lent.
+    /// The outcome, or in words what was written outside of what was passed in.
     fn outcome(&self, number: u32, given: Vec<u64>) -> Result<Outcome, String> {
         if let Some((name, _)) = self.blocks().iter().find(|(_, block)| !block.sound()) {
             return Err(format!("something was written outside of {name}"));

@@ -1,4 +1,4 @@
-//! Random parameters of `new`: within 01's limits, at their ends, and beyond.
+//! Random parameters of `new`: within their limits, at the ends, and beyond.
 use crate::random::Random;
 use oracle::stores::Asked;
 

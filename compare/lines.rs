@@ -3,7 +3,7 @@ use crate::history::{Call, Scratch, Sightings, State, Step, Store};
 use crate::play::take;
 use oracle::stores::Asked;
 
-/// The lines, and remarks on those that stand for a call which has no line there.
+/// The lines, and remarks on those for a call that has no line there.
 pub fn lines(steps: &[Step]) -> (Vec<String>, Vec<String>) {
     let (mut lines, mut remarks) = (Vec::new(), Vec::new());
     let mut state = State::default();

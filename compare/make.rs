@@ -43,7 +43,7 @@ struct Maker {
     steps: Vec<Step>,
 }
 
-/// The lengths that 01 asks for.
+/// The lengths that the stores and scratch need (docs/SCOPE.md, Records).
 fn lengths(asked: &Asked) -> (usize, usize) {
     let capacity = asked.capacity as usize;
     let words = 16 + capacity * (4 + asked.max_degree as usize);
@@ -274,7 +274,7 @@ impl Maker {
         }
     }
 
-    /// Damage of one place: a header word, a row, a bridge, a component, or any place, also past the sizes.
+    /// Damage to one word: of the header, a row, a bridge, a component, or any word, also past the sizes.
     fn damage(&mut self) {
         let (capacity, degree) = (self.plan.capacity as usize, self.plan.max_degree as usize);
         let rows = 16 + capacity;
@@ -319,7 +319,7 @@ impl Maker {
         }
     }
 
-    /// A call that is lent one word or float less than 01 asks for, or far less; or just what it asks for.
+    /// A call that is passed one word or float less than it needs, or far less; or exactly what it needs.
     fn short_lending(&mut self) {
         let (words, floats) = lengths(&self.plan);
         let lend = match self.random.below(4) {

@@ -5,9 +5,9 @@ use oracle::order::bits;
 #[derive(Clone, Default)]
 pub struct Outcome {
     pub number: u32,
-    /// What it gives back besides: count and scored; known, doc id and score; phones; sizes.
+    /// What else it returns: count and scored; known, doc id and score; phones; sizes.
     pub given: Vec<u64>,
-    /// The lent parts of both stores.
+    /// The parts of both stores that are passed in.
     pub words: Vec<u32>,
     pub floats: Vec<u32>,
     /// The two outputs of a search, all of them.
@@ -48,7 +48,7 @@ impl Outcome {
         })
     }
 
-    /// In words, what a refused call changed of what it had been lent.
+    /// In words, what a refused call changed of what was passed in.
     pub fn changed(&self, before: &Outcome) -> Option<String> {
         let before = Outcome {
             number: self.number,

@@ -49,7 +49,7 @@ fn expect(call: &Call, state: &State) -> Option<Outcome> {
     catch_unwind(AssertUnwindSafe(|| expected::outcome(call, state))).ok()
 }
 
-/// Takes a step by the oracle alone, and gives what it wrote if it is not a call.
+/// Takes a step by the oracle alone, and returns what it wrote if it is not a call.
 pub fn take(state: &mut State, step: &Step) -> Vec<(Store, usize, u32)> {
     if let Step::Call(call) = step {
         if let Some(outcome) = expect(call, state) {

@@ -151,7 +151,7 @@ fn capacity(step: &Step) -> Option<u32> {
     }
 }
 
-/// One node and one place less.
+/// One node less, and a capacity less by one.
 fn empty(step: &mut Step, from: u32) {
     match step {
         Step::Call(Call::New(asked)) if asked.capacity == from => asked.capacity -= 1,
@@ -193,7 +193,7 @@ fn plainer(bits: u32) -> Vec<u32> {
     plain[..known.unwrap_or(plain.len())].to_vec()
 }
 
-/// For each place of a list the list with a simpler value there; before these, its two halves.
+/// For each index of a list the list with a simpler value there; before these, its two halves.
 fn simpler_list<T: Clone>(list: &[T], simpler: impl Fn(&T) -> Vec<T>, cut: bool) -> Vec<Vec<T>> {
     let mut lists = Vec::new();
     if cut && !list.is_empty() {

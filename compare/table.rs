@@ -4,7 +4,7 @@ use crate::outcome::Outcome;
 
 const NUMBERS: usize = 15;
 
-/// The sizes that built stores are counted by: up to so many nodes.
+/// The sizes by which built stores are counted: up to this number of nodes.
 const BANDS: [usize; 5] = [1, 10, 40, 300, 1024];
 
 /// Besides numbers, what is counted of calls that were accepted.
