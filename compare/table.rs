@@ -15,7 +15,7 @@ const FACTS: [&str; 9] = [
     "builds of built stores",
     "nodes found",
     ".. of these at an infinite distance",
-    "searches that give fewer than min(k, n): nodes out of reach",
+    "searches that return fewer than min(k, n): nodes out of reach",
     "searches that score fewer than n nodes",
     "phones recognised as known",
 ];
