@@ -6,7 +6,8 @@
 The source is crates/drintelbok/src/lib.rt: its functions marked `pub extern "C"` and its `#[repr(C)]` structs. They are declared in
 include/pipnn.h and in bindings/rust/src/sys.rs. Every function must be in all three, with the same parameters in the same order, of
 the same names and types, and the same result; every struct with the same fields. A slice x of the source is a pointer x and a length
-x_length. Names of structs are snake case in C. Refusals and limits are compared with the definitions and constants of the library.
+x_length. Names of structs are snake case in C. Refusals have their names and numbers in crates/error, for code and for definitions:
+header and Rust must have the same, and every check of a definition one of these names. Limits are compared with the library's constants.
 
 Then it tries edits of these files, one at a time and in memory, and fails if one goes unnoticed.
 """
@@ -19,6 +20,8 @@ HOME = pathlib.Path(__file__).resolve().parent.parent
 SOURCE = "crates/drintelbok/src/lib.rt"
 HEADER = "include/pipnn.h"
 RUST = "bindings/rust/src/sys.rs"
+REFUSALS = "crates/error/src/lib.rt"
+DEFINED_REFUSALS = "crates/error/specs/Numbers.antt"
 ERRORS = "bindings/rust/src/error.rs"
 LIMITS = "bindings/rust/src/params.rs"
 LIMIT_SOURCES = ["crates/params/src/lib.rt", "crates/search/src/lib.rt", "crates/household/src/lib.rt"]
@@ -166,27 +169,41 @@ def closing(text, at):
     return at
 
 
-def refusals(files):
-    """Of the definitions: each `check (..) N` and each refusal with no values, `(N, [])`."""
-    numbers = set()
-    for name, text in files.items():
-        if re.fullmatch(r"crates/\w+/specs/\w+\.antt", name):
+def upper(name):
+    return name[0].upper() + name[1:]
+
+
+def defined_checks(files, known):
+    """Of the definitions: the name in each `check (..) NAME` and in each refusal with no values, `(NAME, [])`."""
+    names = set()
+    for file, text in files.items():
+        if file.startswith("crates/") and "/specs/" in file:
             for test in re.finditer(r"\bcheck \(", text):
-                number = re.match(r" (\d+)\b", text[closing(text, test.end()) :])
-                if not number:
-                    raise Unreadable(f"{name}: a check without a number: '{text[test.start():test.end() + 40]}'")
-                numbers.add(int(number[1]))
-            numbers |= {int(n) for n in re.findall(r"\((\d+), \[\]\)", text)}
-    return numbers
+                name = re.match(r" ([a-z]\w*)\b", text[closing(text, test.end()) :])
+                if not name:
+                    raise Unreadable(f"{file}: a check without a refusal's name: '{text[test.start():test.end() + 40]}'")
+                names.add(upper(name[1]))
+            bare = re.search(r"\([1-9]\d*, \[\]\)", text)
+            if bare:
+                raise Unreadable(f"{file}: a refusal without a name: '{bare[0]}'")
+            names |= {upper(name) for name in re.findall(r"\((\w+), \[\]\)", text)} & known
+    return names
 
 
 def named_refusals(files):
-    header = once(re.findall(r"^    PIPNN_(\w+) = (\d+)", files[HEADER], re.M), HEADER)
-    rust = once(re.findall(r"^    (\w+) = (\d+), \"", files[ERRORS], re.M), ERRORS)
-    return (
-        {camel(name): int(number) for name, number in header.items()},
-        {"Ok": 0} | {name: int(number) for name, number in rust.items()},
-    )
+    """Name and number of each refusal, and of success: in the code, the definitions, the header and the Rust crate."""
+    found = {
+        REFUSALS: [(camel(name), number) for name, number in re.findall(r"^pub const (\w+): u32 = (\d+);", files[REFUSALS], re.M)],
+        DEFINED_REFUSALS: [(upper(name), number) for name, number in re.findall(r"^(\w+) = (\d+)$", files[DEFINED_REFUSALS], re.M)],
+        HEADER: [(camel(name), number) for name, number in re.findall(r"^    PIPNN_(\w+) = (\d+)", files[HEADER], re.M)],
+        ERRORS: re.findall(r"^    (\w+) = (\d+), \"", files[ERRORS], re.M),
+    }
+    for where in (REFUSALS, DEFINED_REFUSALS, ERRORS):
+        found[where].append(("Ok", "0"))
+    named = {where: once(pairs, where) for where, pairs in found.items()}
+    if len(set(named[REFUSALS].values())) != len(named[REFUSALS]):
+        raise Unreadable(f"{REFUSALS}: two names for one number")
+    return named
 
 
 def limits(files):
@@ -231,15 +248,17 @@ def compare(files):
     ):
         found += differences("struct", structs, other_structs, where)
         found += differences("function", functions, other_functions, where)
-    in_header, in_rust = named_refusals(files)
-    found += differences("refusal", in_header, in_rust, ERRORS, HEADER)
-    defined = refusals(files) | {0}
-    if sorted(in_header.values()) != sorted(defined):
-        found.append(f"{HEADER}: refusals {sorted(in_header.values())}, but the definitions have {sorted(defined)}")
+    named = named_refusals(files)
+    refusals = named[REFUSALS]
+    for where in (DEFINED_REFUSALS, HEADER, ERRORS):
+        found += differences("refusal", refusals, named[where], where, REFUSALS)
+    checked = defined_checks(files, refusals.keys()) | {"Ok"}
+    if checked != refusals.keys():
+        found.append(f"{REFUSALS}: not in both it and the definitions' checks: {sorted(checked ^ refusals.keys())}")
     there, in_header, in_rust = limits(files)
     found += differences("limit", there, in_header, HEADER)
     found += differences("limit", there, in_rust, LIMITS)
-    return found, (len(functions), len(structs), len(defined), len(there))
+    return found, (len(functions), len(structs), len(refusals), len(there))
 
 
 # Edits that the comparison must notice: the file, the old text, and the new text for its first occurrence.
@@ -269,7 +288,14 @@ EDITS = [
     (SOURCE, "min_leaf_size: u32,\n", "min_leaf_size: u64,\n"),
     (SOURCE, "    pub scored: u32,\n", "    pub scored: u32,\n    pub bridges: u32,\n"),
     (SOURCE, "query: &[f32]", "query: &mut [f32]"),
-    ("crates/def_calls/specs/Search.antt", "builtState)) 10", "builtState)) 15"),
+    (ERRORS, 'BadSightings = 14, "', 'Sightings = 14, "'),
+    (REFUSALS, "FULL: u32 = 8", "FULL: u32 = 15"),
+    (REFUSALS, "FULL: u32 = 8", "FULL: u32 = 9"),
+    (DEFINED_REFUSALS, "emptyIndex = 9", "emptyIndex = 10"),
+    (DEFINED_REFUSALS, "abbrev pub full : ℕ\nfull = 8\n", ""),
+    ("crates/def_calls/specs/Search.antt", "builtState)) notBuilt", "builtState)) alreadyBuilt"),
+    ("crates/def_calls/specs/Search.antt", "builtState)) notBuilt", "builtState)) 10"),
+    ("crates/household/specs/Household.antt", "(badSightings, [])", "(14, [])"),
     ("crates/params/src/lib.rt", "MOST_DIMENSION: u32 = 64", "MOST_DIMENSION: u32 = 96"),
 ]
 
@@ -290,8 +316,8 @@ def unnoticed(files):
 
 
 def main():
-    names = [SOURCE, HEADER, RUST, ERRORS, LIMITS, *LIMIT_SOURCES]
-    names += [str(path.relative_to(HOME)) for path in sorted(HOME.glob("crates/*/specs/*.antt"))]
+    names = [SOURCE, HEADER, RUST, REFUSALS, ERRORS, LIMITS, *LIMIT_SOURCES]
+    names += [str(path.relative_to(HOME)) for path in sorted(HOME.glob("crates/*/specs/**/*.antt"))]
     files = {name: (HOME / name).read_text(encoding="utf-8") for name in names}
     try:
         found, (functions, structs, numbers, bounds) = compare(files)
@@ -301,7 +327,7 @@ def main():
     if found:
         sys.exit("\n".join(found))
     print(
-        f"declarations: {functions} functions, {structs} structs, {numbers} numbers and {bounds} limits agree; "
+        f"declarations: {functions} functions, {structs} structs, {numbers} return numbers and {bounds} limits agree; "
         f"{len(EDITS)} edits of them were noticed"
     )
 

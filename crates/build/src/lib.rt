@@ -35,7 +35,7 @@ fn build_refusal(words: &[u32], floats: &[f32], scratch_words: usize, scratch_fl
         return refusal;
     }
     if store::word_at(words, store::NODES) == 0 {
-        return 9;
+        return error::EMPTY_INDEX;
     }
     0
 }

@@ -7,6 +7,7 @@ use lib.ListN.{length, take, drop, set}
 use lib.Ieee.{Float}
 use Rattle.basics.specs.Choice.{pick}
 use Rattle.basics.specs.Refusals.{Check, check, firstRefusal}
+use Rattle.error.specs.Numbers.{emptyIndex}
 use Rattle.store.specs.declared.Lent.the-variants.{Scratch}
 use Rattle.store.specs.Layout.{word, builtState, stateAt, nodesAt, degreeAt, entryAt, bridgeCountAt, capacityAt, rowsAt, bridgesAt}
 use Rattle.store.specs.View.{rowBlock, bridgeBlock, view}
@@ -17,7 +18,7 @@ use Rattle.def_calls.specs.Graph.{Graph, graphOf, graphFor}
 -- ---- its checks: 3, 4, 3 with scratch, 4, then 9
 
 unfoldable pub ownBuildChecks : List ℕ → List Check
-ownBuildChecks w = check (eqb (word w nodesAt) 0) 9 ∷ []
+ownBuildChecks w = check (eqb (word w nodesAt) 0) emptyIndex ∷ []
 
 -- scratch of ws words and fs floats is lent
 unfoldable pub buildChecks : (ws fs : ℕ) → List ℕ → List Float → List Check

@@ -11,6 +11,7 @@ use Rattle.basics.specs.Choice.{pick}
 use Rattle.basics.specs.Lists.{every}
 use Rattle.basics.specs.Graph.{listOf}
 use Rattle.basics.specs.Refusals.{Check, check, firstRefusal}
+use Rattle.error.specs.Numbers.{dimensionMismatch, nonFiniteInput, notBuilt, kOrEfTooLarge, outputTooShort}
 use Rattle.norm.specs.Norm.{scaledOf}
 use Rattle.store.specs.declared.Lent.the-variants.{Scratch}
 use Rattle.store.specs.Layout.{word, builtState, stateAt, dimensionAt, nodesAt, efSearchAt}
@@ -30,10 +31,10 @@ mostBeam = 1024
 -- what is asked, of whatever is written: 10, 6, 7, 11. Recognising begins with these too.
 abbrev pub askingChecks : List ℕ → List Float → ℕ → ℕ → List Check
 askingChecks w query k ef =
-    check (not (eqb (word w stateAt) builtState)) 10
-    ∷ check (not (eqb (length query) (word w dimensionAt))) 6
-    ∷ check (not (every finite query)) 7
-    ∷ check (ltb mostNodes k || ltb mostBeam ef) 11
+    check (not (eqb (word w stateAt) builtState)) notBuilt
+    ∷ check (not (eqb (length query) (word w dimensionAt))) dimensionMismatch
+    ∷ check (not (every finite query)) nonFiniteInput
+    ∷ check (ltb mostNodes k || ltb mostBeam ef) kOrEfTooLarge
     ∷ []
 
 module _ (w : List ℕ) (query : List Float) (k ef : ℕ) (docs : List ℕ) (distances : List Float) where
@@ -42,7 +43,7 @@ module _ (w : List ℕ) (query : List Float) (k ef : ℕ) (docs : List ℕ) (dis
   unfolding every
   ownSearchChecks =
       askingChecks w query k ef
-      ++ (check (ltb (length docs) (min k (word w nodesAt)) || ltb (length distances) (min k (word w nodesAt))) 12 ∷ [])
+      ++ (check (ltb (length docs) (min k (word w nodesAt)) || ltb (length distances) (min k (word w nodesAt))) outputTooShort ∷ [])
 
   -- scratch of ws words and fs floats is lent
   unfoldable pub searchChecks : (ws fs : ℕ) → List Float → List Check

@@ -6,6 +6,7 @@ use Prim.Native.Nat.{ℕ}
 use lib.Dec.{ltb}
 use lib.Ieee.{Float}
 use Rattle.basics.specs.Choice.{pick-true, pick-false}
+use Rattle.error.specs.Numbers.{parameterOutOfRange}
 use Rattle.params.specs.declared.PipnnParams.{PipnnParams}
 use Rattle.params.specs.Limits.{dimensionWithin}
 use Rattle.pipnn.specs.Answer.{Answer}
@@ -16,7 +17,7 @@ module _ (dimension finalPrune : ℕ) (p : PipnnParams) (capacity : ℕ) (w : Li
   same-test : (dimensionWithin dimension && ltb 1 finalPrune) ≡ (within && ltb 1 finalPrune)
   same-test = ap (λ (b : Bool). b && ltb 1 finalPrune) (sym e)
 
-  pub turned-back : (within && ltb 1 finalPrune) ≡ true → _≡_ {A = Answer} (2, w, f) (newFrom dimension finalPrune p capacity w f)
+  pub turned-back : (within && ltb 1 finalPrune) ≡ true → _≡_ {A = Answer} (parameterOutOfRange, w, f) (newFrom dimension finalPrune p capacity w f)
   unfolding newFrom
   turned-back t = sym (pick-true _ _ (same-test ∙ t))
 

@@ -6,6 +6,7 @@ use Prim.Native.Nat.{ℕ}
 use lib.Dec.{eqb, ltb}
 use lib.Ieee.{Float}
 use Rattle.basics.specs.Choice.{pick}
+use Rattle.error.specs.Numbers.{parameterOutOfRange}
 use Rattle.params.specs.declared.PipnnParams.{PipnnParams}
 use Rattle.params.specs.Limits.{dimensionWithin}
 use Rattle.pipnn.specs.Answer.{Answer}
@@ -25,4 +26,4 @@ paramsFrom maxLeafSize minLeafSize leaderFraction maxDegree numHashBits finalPru
 
 unfoldable pub newFrom : (dimension finalPrune : ℕ) → PipnnParams → (capacity : ℕ) → List ℕ → List Float → Answer
 unfolding pick newSpec
-newFrom dimension finalPrune p capacity w f = pick (dimensionWithin dimension && ltb 1 finalPrune) (2, w, f) (newSpec dimension p capacity w f)
+newFrom dimension finalPrune p capacity w f = pick (dimensionWithin dimension && ltb 1 finalPrune) (parameterOutOfRange, w, f) (newSpec dimension p capacity w f)

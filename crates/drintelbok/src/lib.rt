@@ -110,7 +110,7 @@ pub extern "C" fn pipnn_new(
     ensures { λ r. ⌜ (r, now (words .exit), now (floats .exit)) ≡ newFrom dimension «final_prune» (paramsFrom «max_leaf_size» «min_leaf_size» «leader_fraction» «max_degree» «num_hash_bits» «final_prune» alpha «ef_search») capacity (now (words .entry)) (now (floats .entry)) ⌝ }
 {
     if params::dimension_within(dimension) & (1 < final_prune) {
-        return 2;
+        return error::PARAMETER_OUT_OF_RANGE;
     }
     let p = PipnnParams {
         max_leaf_size,

@@ -8,6 +8,7 @@ use lib.ListN.{length}
 use Rattle.basics.specs.Choice.{pick}
 use Rattle.basics.specs.Nodes.{has}
 use Rattle.basics.specs.Refusals.{Values}
+use Rattle.error.specs.Numbers.{badSightings}
 use Rattle.household.specs.declared.Household.{Household}
 use Rattle.household.specs.declared.Household.the-variants.{Refused, Phones}
 use Rattle.household.specs.Day.{dayOf}
@@ -36,4 +37,4 @@ householdValues (Phones phones) = (0, phones ∷ [])
 
 unfoldable pub householdOf : ℕ → List ℕ → List ℕ → Values
 unfolding pick docsOn different
-householdOf day seconds docs = pick {X = Values} (turnedBack seconds docs) (14, []) (0, length (different (docsOn day seconds docs)) ∷ [])
+householdOf day seconds docs = pick {X = Values} (turnedBack seconds docs) (badSightings, []) (0, length (different (docsOn day seconds docs)) ∷ [])

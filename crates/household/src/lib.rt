@@ -25,7 +25,7 @@ pub fn household_count(day: u64, seconds: &[u64], docs: &[u32]) -> Household
     ensures { λ r. ⌜ householdValues r ≡ householdOf day (now (seconds .entry)) (now (docs .entry)) ⌝ }
 {
     if (seconds.len() > MOST_SIGHTINGS) | (seconds.len() != docs.len()) {
-        return Household::Refused(14);
+        return Household::Refused(error::BAD_SIGHTINGS);
     }
     let mut today = [0u32; MOST_SIGHTINGS];
     let sighted = gather(day, seconds, docs, &mut today);

@@ -8,6 +8,7 @@ use lib.Ieee.{Float, binary32}
 use lib.Ieee.Scale.{finite}
 use Rattle.basics.specs.Lists.{every}
 use Rattle.basics.specs.Refusals.{Check, check, firstRefusal}
+use Rattle.error.specs.Numbers.{alreadyBuilt, dimensionMismatch, nonFiniteInput, full}
 use Rattle.store.specs.declared.Lent.the-variants.{Nothing}
 use Rattle.store.specs.Layout.{word, builtState, stateAt, dimensionAt, nodesAt, capacityAt, docsAt, floatsSize}
 use Rattle.store.specs.Opening.{opening}
@@ -18,10 +19,10 @@ use Rattle.pipnn.specs.Answer.{Answer, unlessRefused}
 unfoldable pub ownChecks : List ℕ → List Float → List Check
 unfolding every
 ownChecks w v =
-    check (eqb (word w stateAt) builtState) 5
-    ∷ check (not (eqb (length v) (word w dimensionAt))) 6
-    ∷ check (not (every finite v)) 7
-    ∷ check (eqb (word w nodesAt) (word w capacityAt)) 8
+    check (eqb (word w stateAt) builtState) alreadyBuilt
+    ∷ check (not (eqb (length v) (word w dimensionAt))) dimensionMismatch
+    ∷ check (not (every finite v)) nonFiniteInput
+    ∷ check (eqb (word w nodesAt) (word w capacityAt)) full
     ∷ []
 
 unfoldable pub addChecks : List ℕ → List Float → List Float → List Check

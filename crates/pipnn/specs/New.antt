@@ -5,6 +5,7 @@ use Prim.Native.Nat.{ℕ, _-_}
 use lib.ListN.{drop, replicate}
 use lib.Ieee.{Float}
 use Rattle.basics.specs.Refusals.{Check, check, firstRefusal}
+use Rattle.error.specs.Numbers.{dimensionOutOfRange, parameterOutOfRange, sliceTooShort}
 use Rattle.basics.specs.Sum.{+zero}
 use Rattle.params.specs.declared.PipnnParams.{PipnnParams}
 use Rattle.params.specs.Limits.{dimensionWithin, capacityWithin, withinLimits}
@@ -17,9 +18,9 @@ module _ (dimension : ℕ) (p : PipnnParams) (capacity : ℕ) (w : List ℕ) (f 
   unfoldable pub newChecks : List Check
   unfolding withinLimits
   newChecks =
-      check (not (dimensionWithin dimension)) 1
-      ∷ check (not (withinLimits p && capacityWithin capacity)) 2
-      ∷ check (storeShort capacity (p .«max_degree») dimension w f) 3
+      check (not (dimensionWithin dimension)) dimensionOutOfRange
+      ∷ check (not (withinLimits p && capacityWithin capacity)) parameterOutOfRange
+      ∷ check (storeShort capacity (p .«max_degree») dimension w f) sliceTooShort
       ∷ []
 
   -- the header, then zeros up to the size; what lies past it stays

@@ -32,14 +32,14 @@ fn new_refusal(words: &[u32], floats: &[f32], dimension: u32, p: PipnnParams, ca
     ensures { λ r. ⌜ r ≡ firstRefusal (newChecks dimension p capacity (now (words .entry)) (now (floats .entry))) ⌝ }
 {
     if !params::dimension_within(dimension) {
-        return 1;
+        return error::DIMENSION_OUT_OF_RANGE;
     }
     if !(params::within_limits(p) & params::capacity_within(capacity)) {
-        return 2;
+        return error::PARAMETER_OUT_OF_RANGE;
     }
     let degree = p.max_degree as u16;
     if store::store_short(words, floats, capacity, degree, dimension) {
-        return 3;
+        return error::SLICE_TOO_SHORT;
     }
     0
 }
@@ -101,16 +101,16 @@ fn add_refusal(words: &[u32], floats: &[f32], vector: &[f32]) -> u32
         return refusal;
     }
     if store::word_at(words, store::STATE) == store::BUILT {
-        return 5;
+        return error::ALREADY_BUILT;
     }
     if vector.len() != store::word_at(words, store::DIMENSION) as usize {
-        return 6;
+        return error::DIMENSION_MISMATCH;
     }
     if !finite::all_finite(vector) {
-        return 7;
+        return error::NON_FINITE_INPUT;
     }
     if store::word_at(words, store::NODES) == store::word_at(words, store::CAPACITY) {
-        return 8;
+        return error::FULL;
     }
     0
 }

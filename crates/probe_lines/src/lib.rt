@@ -76,9 +76,9 @@ fn new(values: [u64; 10], words: &mut [u32], floats: &mut [f32]) -> u32 {
     let dimension = probe_text::word(values[0]);
     if values[6] > 1 {
         return if params::dimension_within(dimension) {
-            2
+            error::PARAMETER_OUT_OF_RANGE
         } else {
-            1
+            error::DIMENSION_OUT_OF_RANGE
         };
     }
     pipnn::new(

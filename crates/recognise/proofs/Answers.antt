@@ -12,6 +12,7 @@ use lib.Ieee.Scale.{finite}
 use borrow.Author.Tests.{eq-eqb, ne-eqb, le-ltb}
 use Rattle.basics.specs.Choice.{pick, pick-ind, pick-true, pick-false}
 use Rattle.basics.specs.Refusals.{Check, check, firstRefusal, Values}
+use Rattle.error.specs.Numbers.{limitNotFinite}
 use Rattle.basics.proofs.Refusals.{then-first, then-second, both-none}
 use Rattle.store.specs.declared.Lent.the-variants.{Scratch}
 use Rattle.store.specs.Layout.{word, nodesAt}
@@ -41,7 +42,7 @@ module _ (ws fs : ℕ) (w : List ℕ) (f query : List Float) (ef : ℕ) (limit :
   asked = first ++ askingChecks w query 1 ef
 
   abbrev limitCheck : Check
-  limitCheck = check (not (finite limit)) 13
+  limitCheck = check (not (finite limit)) limitNotFinite
 
   abbrev refusal : ℕ
   refusal = firstRefusal (recogniseChecks ws fs w f query ef limit)
@@ -76,7 +77,7 @@ module _ (ws fs : ℕ) (w : List ℕ) (f query : List Float) (ef : ℕ) (limit :
   unfolding firstRefusal
   limit-passed e h = asked-right e ∙ pick-false 13 0 (ap not h)
 
-  limit-failed : firstRefusal asked ≡ 0 → finite limit ≡ false → refusal ≡ 13
+  limit-failed : firstRefusal asked ≡ 0 → finite limit ≡ false → refusal ≡ limitNotFinite
   unfolding firstRefusal
   limit-failed e h = asked-right e ∙ pick-true 13 0 (ap not h)
 
@@ -138,8 +139,8 @@ module _ (ws fs : ℕ) (w : List ℕ) (f query : List Float) (ef : ℕ) (limit :
       pub search-refused : (left .number ≡ 0 → ⊥) → refusedAs (left .number) ≡ recogniseSpec ws fs w f query ef limit
       search-refused n = turned-with (left .number) (asked-first (λ e. n (numbered ∙ e)) ∙ sym numbered) n
 
-      pub limit-refused : left .number ≡ 0 → finite limit ≡ false → refusedAs 13 ≡ recogniseSpec ws fs w f query ef limit
-      limit-refused e h = turned-with 13 (limit-failed (sym numbered ∙ e) h) (λ z. omega arith)
+      pub limit-refused : left .number ≡ 0 → finite limit ≡ false → refusedAs limitNotFinite ≡ recogniseSpec ws fs w f query ef limit
+      limit-refused e h = turned-with limitNotFinite (limit-failed (sym numbered ∙ e) h) (λ z. omega arith)
 
       module _ (e : left .number ≡ 0) (h : finite limit ≡ true) where
         left-is : left ≡ replyOf (view w f) query 1 ef docs distances

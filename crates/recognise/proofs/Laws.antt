@@ -14,6 +14,7 @@ use lib.Ieee.Scale.{finite}
 use borrow.Author.Tests.{eqb-true, not-false}
 use Rattle.basics.specs.Choice.{pick-ind}
 use Rattle.basics.specs.Refusals.{Check, check, firstRefusal, Values}
+use Rattle.error.specs.Numbers.{limitNotFinite}
 use Rattle.basics.proofs.Refusals.{passes, both-none}
 use Rattle.sorting.specs.Sorting.{sortBy}
 use Rattle.sorting.proofs.Laws.{length-sort}
@@ -54,7 +55,7 @@ some x (y ∷ l) m = omega arith
 
 module _ (ws fs : ℕ) (w : List ℕ) (f query : List Float) (ef : ℕ) (limit : Float) (e : firstRefusal (recogniseChecks ws fs w f query ef limit) ≡ 0) where
   abbrev asking : List Check
-  asking = askingChecks w query 1 ef ++ (check (not (finite limit)) 13 ∷ [])
+  asking = askingChecks w query 1 ef ++ (check (not (finite limit)) limitNotFinite ∷ [])
 
   lists : (firstRefusal (opening (Scratch ws fs) w f) ≡ 0) × (firstRefusal asking ≡ 0)
   unfolding recogniseChecks

@@ -10,6 +10,7 @@ use lib.Ieee.{Float}
 use lib.Ieee.Scale.{finite}
 use Rattle.basics.specs.Choice.{pick}
 use Rattle.basics.specs.Refusals.{Check, check, firstRefusal, Values}
+use Rattle.error.specs.Numbers.{limitNotFinite}
 use Rattle.store.specs.declared.Lent.the-variants.{Scratch}
 use Rattle.store.specs.View.{View, view}
 use Rattle.store.specs.Opening.{opening}
@@ -21,7 +22,7 @@ use Rattle.recognise.specs.Recognised.{newAs, refusedAs, recognisedAs}
 -- scratch of ws words and fs floats is lent
 unfoldable pub recogniseChecks : (ws fs : ℕ) → List ℕ → List Float → List Float → ℕ → Float → List Check
 unfolding opening
-recogniseChecks ws fs w f query ef limit = opening (Scratch ws fs) w f ++ (askingChecks w query 1 ef ++ (check (not (finite limit)) 13 ∷ []))
+recogniseChecks ws fs w f query ef limit = opening (Scratch ws fs) w f ++ (askingChecks w query 1 ef ++ (check (not (finite limit)) limitNotFinite ∷ []))
 
 -- ---- what it answers
 

@@ -50,7 +50,7 @@ pub fn recognise(
         return Recognised::Refused(found.number);
     }
     if !finite::is_finite(limit) {
-        return Recognised::Refused(13);
+        return Recognised::Refused(error::LIMIT_NOT_FINITE);
     }
     if found.count == 0 {
         return Recognised::New(0);

@@ -85,20 +85,20 @@ fn search_refusal(
         return refusal;
     }
     if store::word_at(words, store::STATE) != store::BUILT {
-        return 10;
+        return error::NOT_BUILT;
     }
     if query.len() != store::word_at(words, store::DIMENSION) as usize {
-        return 6;
+        return error::DIMENSION_MISMATCH;
     }
     if !finite::all_finite(query) {
-        return 7;
+        return error::NON_FINITE_INPUT;
     }
     if (MOST_NODES < k) | (MOST_BEAM < ef) {
-        return 11;
+        return error::K_OR_EF_TOO_LARGE;
     }
     let room = wanted(words, k);
     if (docs.len() < room) | (distances.len() < room) {
-        return 12;
+        return error::OUTPUT_TOO_SHORT;
     }
     0
 }

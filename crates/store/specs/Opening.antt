@@ -6,6 +6,7 @@ use lib.Dec.{ltb}
 use lib.ListN.{length}
 use lib.Ieee.{Float}
 use Rattle.basics.specs.Refusals.{Check, check}
+use Rattle.error.specs.Numbers.{sliceTooShort, notWellFormed}
 use Rattle.store.specs.declared.Lent.{Lent}
 use Rattle.store.specs.declared.Lent.the-variants.{Nothing, Scratch}
 use Rattle.store.specs.Layout.{word, headerSize, dimensionAt, degreeAt, capacityAt, wordsSize, floatsSize, scratchWords, scratchFloats}
@@ -27,8 +28,8 @@ tooShort lent w f = storeShort (word w capacityAt) (word w degreeAt) (word w dim
 unfoldable pub opening : Lent → List ℕ → List Float → List Check
 unfolding headerOk restOk
 opening lent w f =
-    check (ltb (length w) headerSize) 3
-    ∷ check (not (headerOk w)) 4
-    ∷ check (tooShort lent w f) 3
-    ∷ check (not (restOk w f)) 4
+    check (ltb (length w) headerSize) sliceTooShort
+    ∷ check (not (headerOk w)) notWellFormed
+    ∷ check (tooShort lent w f) sliceTooShort
+    ∷ check (not (restOk w f)) notWellFormed
     ∷ []

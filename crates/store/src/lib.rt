@@ -386,16 +386,16 @@ pub fn opening_refusal(words: &[u32], floats: &[f32], lent: Lent) -> u32
     ensures { λ r. ⌜ r ≡ firstRefusal (opening lent (now (words .entry)) (now (floats .entry))) ⌝ }
 {
     if words.len() < HEADER_SIZE {
-        return 3;
+        return error::SLICE_TOO_SHORT;
     }
     if !header_ok(words) {
-        return 4;
+        return error::NOT_WELL_FORMED;
     }
     if too_short(words, floats, lent) {
-        return 3;
+        return error::SLICE_TOO_SHORT;
     }
     if !rest_ok(words, floats) {
-        return 4;
+        return error::NOT_WELL_FORMED;
     }
     0
 }

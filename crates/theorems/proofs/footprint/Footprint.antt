@@ -14,6 +14,7 @@ use lib.Ieee.{Float, binary32}
 use lib.Ieee.Scale.{finite}
 use Rattle.basics.specs.Choice.{pick, pick-false}
 use Rattle.basics.specs.Refusals.{check, firstRefusal, Values}
+use Rattle.error.specs.Numbers.{limitNotFinite}
 use Rattle.norm.specs.Norm.{scaledOf}
 use Rattle.norm.proofs.Laws.{length-scaled}
 use Rattle.params.specs.declared.PipnnParams.{PipnnParams}
@@ -160,7 +161,7 @@ module _ (w w′ : List ℕ) (f f′ : List Float) (a : Agree w w′ f f′) whe
     on-recognise : (ef : ℕ) (limit : Float) → recogniseSpec ws fs w f query ef limit ≡ recogniseSpec ws′ fs′ w′ f′ query ef limit
     unfolding recogniseSpec recogniseChecks h
     on-recognise ef limit =
-        let same : (askingChecks w query 1 ef ++ (check (not (finite limit)) 13 ∷ [])) ≡ (askingChecks w′ query 1 ef ++ (check (not (finite limit)) 13 ∷ [])) = cc (h .w0, h .w1) in
+        let same : (askingChecks w query 1 ef ++ (check (not (finite limit)) limitNotFinite ∷ [])) ≡ (askingChecks w′ query 1 ef ++ (check (not (finite limit)) limitNotFinite ∷ [])) = cc (h .w0, h .w1) in
         searched {X = Values} (firstRefusal (recogniseChecks ws fs w f query ef limit)) (firstRefusal (recogniseChecks ws′ fs′ w′ f′ query ef limit))
         (λ (v : View). nearestOf (docIn v) (farIn v query) limit (foundIn v query 1 ef)) (λ (r : ℕ). refusedAs r)
         (numbers-same (Scratch ws fs) (Scratch ws′ fs′) a s same)
