@@ -123,15 +123,9 @@ fn nodes_at(ids: &[u32], positions: &mut [u32])
 {
     let mut i: usize = 0;
     while i < positions.len() {
-        positions[i] = node_at(ids, positions[i] as usize);
+        positions[i] = slices::word_at(ids, positions[i] as usize);
         i += 1;
     }
-}
-
-fn node_at(ids: &[u32], p: usize) -> u32
-    ensures { λ r. ⌜ r ≡ getD (now (ids .entry)) p 0 ⌝ }
-{
-    if p < ids.len() { ids[p] } else { 0 }
 }
 
 // As many leaders as the last slice holds, in the order in which they were drawn. `left` is room for the

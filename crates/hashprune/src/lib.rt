@@ -227,15 +227,6 @@ fn dedup(ids: &mut [u32]) -> usize
     from
 }
 
-fn node_or_zero(nodes: &[u32], k: usize) -> u32
-    ensures { λ r. ⌜ r ≡ getD (now (nodes .entry)) k 0 ⌝ }
-{
-    if k < nodes.len() {
-        return nodes[k];
-    }
-    0
-}
-
 // A row: a count, as many of the nodes as there is room for, and zeros.
 fn write_row(row: &mut [u32], nodes: &[u32])
     requires { ⌜ (1 ≤ length (now row)) × (length (now nodes) ≤ 64) ⌝ }
@@ -244,7 +235,7 @@ fn write_row(row: &mut [u32], nodes: &[u32])
     row[0] = slices::lesser(row.len() - 1, nodes.len()) as u32;
     let mut k: usize = 1;
     while k < row.len() {
-        row[k] = node_or_zero(nodes, k - 1);
+        row[k] = slices::word_at(nodes, k - 1);
         k += 1;
     }
 }

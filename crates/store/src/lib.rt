@@ -39,9 +39,11 @@ ghost use Rattle.store.specs.WellFormed.{isNode, headerOk, rowOk, countO
 ghost use Rattle.store.specs.Opening.{storeShort, scratchShort, tooShort, opening};
 use params::PipnnParams;
 use params::finite;
+pub use slices::word_at;
 use words::bits;
 use words::ids::DocId;
 use words::ids::Node;
+use words::slices;
 
 // The header's words.
 pub const STATE: usize = 0;
@@ -85,13 +87,6 @@ pub const BRIDGE_SIZE: usize = 2;
 pub const OPEN: u32 = 0;
 
 pub const BUILT: u32 = 1;
-
-// A word; one that is missing counts as 0.
-pub fn word_at(words: &[u32], i: usize) -> u32
-    ensures { λ r. ⌜ r ≡ word (now (words .entry)) i ⌝ }
-{
-    if i < words.len() { words[i] } else { 0 }
-}
 
 // A node's doc id. Here and in `put_doc` nodes and doc ids meet, and nowhere else.
 pub fn doc_of(words: &[u32], node: Node) -> DocId

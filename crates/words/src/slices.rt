@@ -1,16 +1,24 @@
-// Clearing and copying slices, and the lesser of two lengths. The Rust uses `vec![0; n]`, `fill`, `extend_from_slice` and `min`.
+// Reading single words, clearing and copying slices, and the lesser of two lengths. The Rust uses `get`, `vec![0; n]`, `fill`,
+// `extend_from_slice` and `min`.
 //
 // Each function is total, and its contract gives the whole slice that it leaves.
 ghost use mathlib.Core.Path.{_≡_};
 ghost use mathlib.Core.List.{_++_};
 ghost use Prim.Native.Nat.{min};
-ghost use lib.ListN.{length, take, drop, replicate};
+ghost use lib.ListN.{length, getD, take, drop, replicate};
 ghost use Rattle.basics.specs.Sum.{+zero};
 
 pub fn lesser(a: usize, b: usize) -> usize
     ensures { λ r. ⌜ r ≡ min a b ⌝ }
 {
     if a < b { a } else { b }
+}
+
+// A word; one that is missing counts as 0.
+pub fn word_at(words: &[u32], i: usize) -> u32
+    ensures { λ r. ⌜ r ≡ getD (now (words .entry)) i 0 ⌝ }
+{
+    if i < words.len() { words[i] } else { 0 }
 }
 
 // Zeroes every word.

@@ -21,14 +21,14 @@ kept c = let x = c .before .before .before .args in ap length (c .loop .inv .1) 
 loop-holds : tie.Need-loop-holds Inv-loop μ-loop
 loop-holds c = (omega arith, refl)
 
-mul-node-at : tie.Need-mul-node-at Inv-loop μ-loop
-mul-node-at c = let n = kept (c .before) in search needs
+mul-word-at : tie.Need-mul-word-at Inv-loop μ-loop
+mul-word-at c = let n = kept (c .before) in search needs
 
-slice-read-node-at : tie.Need-slice-read-node-at Inv-loop μ-loop
-slice-read-node-at c = omega arith
+slice-read-word-at : tie.Need-slice-read-word-at Inv-loop μ-loop
+slice-read-word-at c = omega arith
 
-cast-node-at : tie.Need-cast-node-at Inv-loop μ-loop
-cast-node-at c = omega (arith, c .slice-known2 .given (c .before .before .loop .i))
+cast-word-at : tie.Need-cast-word-at Inv-loop μ-loop
+cast-word-at c = omega (arith, c .slice-known2 .given (c .before .before .loop .i))
 
 mul-positions : tie.Need-mul-positions Inv-loop μ-loop
 mul-positions c = let n = kept (c .before .before .before) in search needs
@@ -46,7 +46,7 @@ loop-again c =
     let n = kept (c .before .before .before) in
     let g : ℕ → ℕ = λ (p : ℕ). getD (x .ids .now) p 0 in (
       omega arith,
-      ap₂ (λ (r : List ℕ) (v : ℕ). set r (l .i) v) (l .inv .1) (c .node-at .ensures ∙ ap (λ (r : List ℕ). g (getD r (l .i) 0)) (l .inv .1) ∙ ap g (part-get g (x .positions .now) 0 (l .i) (omega arith)))
+      ap₂ (λ (r : List ℕ) (v : ℕ). set r (l .i) v) (l .inv .1) (c .word-at .ensures ∙ ap (λ (r : List ℕ). g (getD r (l .i) 0)) (l .inv .1) ∙ ap g (part-get g (x .positions .now) 0 (l .i) (omega arith)))
           ∙ part-set g (x .positions .now) 0 (l .i) (omega arith),
     )
 
@@ -67,10 +67,10 @@ nodes-at-spec =
     Inv-loop
     μ-loop
     loop-holds
-    mul-node-at
-    slice-read-node-at
-    cast-node-at
-    -- node_at
+    mul-word-at
+    slice-read-word-at
+    cast-word-at
+    -- word_at
     (λ c κs. search needs)
     mul-positions
     -- positions

@@ -35,7 +35,7 @@ loop-again c =
     let l = c .before .before .loop in
     let a = c .before .before .before .before .before .before .args in
     let n = c .before .before .before .lesser .result in
-    written-more (a .nodes .now) (set (a .row .now) 0 n) (l .row) (l .k) (c .node-or-zero .result) (omega arith) (l .inv) (c .node-or-zero .ensures)
+    written-more (a .nodes .now) (set (a .row .now) 0 n) (l .row) (l .k) (c .word-at .result) (omega arith) (l .inv) (c .word-at .ensures)
 
 same-length : tie.Need-same-length Inv-loop μ-loop
 same-length c = long (c .before)

@@ -1,9 +1,9 @@
--- `store::word_at` meets its contract: past the end `getD` gives its default. Assumes nothing.
+-- `slices::word_at` meets its contract: past the end `getD` gives its default. Assumes nothing.
 use mathlib.Core.Path.{sym}
 use lib.ListN.{List·getD-eq-default}
 use borrow.Author.Needs.{needs}
-use Rattle.store.proofs.word_at.Statement.{statement}
-use Rattle.store.proofs.word_at.Tie as tie
+use Rattle.words.proofs.slices.word_at.Statement.{statement}
+use Rattle.words.proofs.slices.word_at.Tie as tie
 
 returns-2 : tie.Need-returns-2
 returns-2 c = sym (List·getD-eq-default (c .before .args .words .now) 0 (c .if1 .left))
