@@ -20,6 +20,7 @@ ghost use Rattle.graph_utils.specs.Connectivity.{Repairs};
 ghost use Rattle.graph_utils.specs.Turns.{work, putBridge, turned, begun, turnedTo};
 use lists::chains;
 use words::ids::Node;
+use words::slices;
 
 // Builds the bridges that make every node reachable from the entry, and returns how many there are. `words`
 // is scratch for four words a node.
@@ -133,6 +134,6 @@ fn turn(
 fn put_bridge(bridges: &mut [u32], count: u32, near: Node, far: Node)
     ensures { λ _. ⌜ now (bridges .exit) ≡ putBridge count (near .0) (far .0) (now (bridges .entry)) ⌝ }
 {
-    chains::put(bridges, 2 * count as usize, near.0);
-    chains::put(bridges, 2 * count as usize + 1, far.0);
+    slices::put_word(bridges, 2 * count as usize, near.0);
+    slices::put_word(bridges, 2 * count as usize + 1, far.0);
 }

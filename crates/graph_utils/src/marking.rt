@@ -12,6 +12,7 @@ ghost use Rattle.lists.specs.Chains.{firstLink, linkedEnds};
 ghost use Rattle.graph_utils.specs.Marking.{marks, visited, visitedAll, marked, listWords};
 use lists::chains;
 use words::ids::Node;
+use words::slices;
 
 // Marks every node that the lists lead to from a node that is not marked; from a marked one, nothing.
 pub fn mark_reachable(
@@ -83,8 +84,8 @@ fn visit(state: &mut [u32], n: u32, top: u32, v: u32) -> u32
 {
     let mark = store::word_at(state, v as usize);
     if (v < n) & (mark == 0) & (top < n) {
-        chains::put(state, v as usize, 1);
-        chains::put(state, n as usize + top as usize, v);
+        slices::put_word(state, v as usize, 1);
+        slices::put_word(state, n as usize + top as usize, v);
         return top + 1;
     }
     top

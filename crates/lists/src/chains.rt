@@ -11,7 +11,6 @@
 // proofs/Laws     chains with one bridge more; what a reader finds is the other ends, in order
 ghost use mathlib.Core.Path.{_≡_};
 ghost use Prim.Native.Nat.{_-_, _<_, _^_};
-ghost use lib.ListN.{set};
 ghost use Rattle.lists.specs.Chains.{otherEndAt, firstLink, nextLink, clearedLinks, linkPlace, appendSlot, chainBridge};
 use words::ids::Node;
 use words::slices;
@@ -77,9 +76,9 @@ fn append_slot(links: &mut [u32], n: u32, node: Node, slot: u32)
 {
     let tail = store::word_at(links, n as usize + node.0 as usize);
     let place = link_place(n, node, tail);
-    put(links, place, slot + 1);
-    put(links, 2 * n as usize + slot as usize, 0);
-    put(links, n as usize + node.0 as usize, slot + 1);
+    slices::put_word(links, place, slot + 1);
+    slices::put_word(links, 2 * n as usize + slot as usize, 0);
+    slices::put_word(links, n as usize + node.0 as usize, slot + 1);
 }
 
 fn link_place(n: u32, node: Node, tail: u32) -> usize
@@ -89,15 +88,6 @@ fn link_place(n: u32, node: Node, tail: u32) -> usize
         return node.0 as usize;
     }
     2 * n as usize + tail as usize - 1
-}
-
-// A word at a place, nothing past the end.
-pub fn put(words: &mut [u32], at: usize, word: u32)
-    ensures { λ _. ⌜ now (words .exit) ≡ set (now (words .entry)) at word ⌝ }
-{
-    if at < words.len() {
-        words[at] = word;
-    }
 }
 
 fn before(x: usize) -> usize

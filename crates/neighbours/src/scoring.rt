@@ -10,15 +10,13 @@ ghost use Rattle.neighbours.specs.Scoring.{scoredAt, scoredEight, placed
 use distance::vectors;
 use simd::Eight;
 use words::ids::Node;
+use words::slices;
 
 // A distance goes to its node's place, where there is one.
 fn place(floats: &mut [f32], node: Node, distance: f32)
     ensures { λ _. ⌜ now (floats .exit) ≡ set (now (floats .entry)) (node .0) distance ⌝ }
 {
-    let at = node.0 as usize;
-    if at < floats.len() {
-        floats[at] = distance;
-    }
+    slices::put_float(floats, node.0 as usize, distance);
 }
 
 fn score_one(floats: &mut [f32], query: &[f32], vectors: &[f32], dimension: u32, node: Node)

@@ -99,10 +99,7 @@ pub fn doc_of(words: &[u32], node: Node) -> DocId
 pub fn put_doc(words: &mut [u32], node: Node, doc: DocId)
     ensures { λ _. ⌜ now (words .exit) ≡ set (now (words .entry)) (docsAt + node .0) (doc .0) ⌝ }
 {
-    let at = HEADER_SIZE + node.0 as usize;
-    if at < words.len() {
-        words[at] = doc.0;
-    }
+    slices::put_word(words, HEADER_SIZE + node.0 as usize, doc.0);
 }
 
 // Where the rows start. Of the offsets and sizes below none can leave a usize, since a degree comes as a u16.

@@ -1,11 +1,11 @@
-// Reading single words, clearing and copying slices, and the lesser of two lengths. The Rust uses `get`, `vec![0; n]`, `fill`,
-// `extend_from_slice` and `min`.
+// Reading and writing single elements of slices, clearing and copying them, and the lesser of two lengths. The Rust
+// uses `get`, `get_mut`, `vec![0; n]`, `fill`, `extend_from_slice` and `min`.
 //
 // Each function is total, and its contract gives the whole slice that it leaves.
 ghost use mathlib.Core.Path.{_≡_};
 ghost use mathlib.Core.List.{_++_};
 ghost use Prim.Native.Nat.{min};
-ghost use lib.ListN.{length, getD, take, drop, replicate};
+ghost use lib.ListN.{length, getD, set, take, drop, replicate};
 ghost use Rattle.basics.specs.Sum.{+zero};
 
 pub fn lesser(a: usize, b: usize) -> usize
@@ -19,6 +19,24 @@ pub fn word_at(words: &[u32], i: usize) -> u32
     ensures { λ r. ⌜ r ≡ getD (now (words .entry)) i 0 ⌝ }
 {
     if i < words.len() { words[i] } else { 0 }
+}
+
+// Writes a word; an index past the end is ignored.
+pub fn put_word(words: &mut [u32], at: usize, word: u32)
+    ensures { λ _. ⌜ now (words .exit) ≡ set (now (words .entry)) at word ⌝ }
+{
+    if at < words.len() {
+        words[at] = word;
+    }
+}
+
+// The same for a float.
+pub fn put_float(floats: &mut [f32], at: usize, float: f32)
+    ensures { λ _. ⌜ now (floats .exit) ≡ set (now (floats .entry)) at float ⌝ }
+{
+    if at < floats.len() {
+        floats[at] = float;
+    }
 }
 
 // Zeroes every word.

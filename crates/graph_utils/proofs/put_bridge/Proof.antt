@@ -10,11 +10,11 @@ use Rattle.graph_utils.proofs.put_bridge.Tie as tie
 returns : tie.Need-returns
 returns c =
     let a = c .before .before .before .before .before .before .before .before .before .args in
-    c .before .before .put2 .ensures ∙ ap (λ (l : List ℕ). set l (2 * a .count + 1) (a .far .0)) (c .before .before .before .before .before .before .put .ensures)
+    c .before .before .put-word2 .ensures ∙ ap (λ (l : List ℕ). set l (2 * a .count + 1) (a .far .0)) (c .before .before .before .before .before .before .put-word .ensures)
 
 pub put-bridge-spec : {M : Type 1} → statement M
 put-bridge-spec =
     tie.close (tie.spec
-    -- put, lengths stay
+    -- put_word, lengths stay
     (λ c. search needs) (λ c κs. search needs) (λ c. search needs) (λ c. search needs) (λ c κs. search needs) (λ c. search needs)
     returns)

@@ -26,7 +26,7 @@ returns c =
     let a = start .args in
     let w = at-word-at .word-at in
     visit-new (a .n) (a .v) (a .top) (w .result) (a .state .now) _ (w .ensures) (at-if1 .if1 .taken)
-    (at-put2 .put2 .ensures ∙ ap (λ (l : List ℕ). set l (a .n + a .top) (a .v)) (at-put .put .ensures))
+    (at-put2 .put-word2 .ensures ∙ ap (λ (l : List ℕ). set l (a .n + a .top) (a .v)) (at-put .put-word .ensures))
 
 returns-2 : tie.Need-returns-2
 returns-2 c =
@@ -38,7 +38,7 @@ pub visit-spec : {M : Type 1} → statement M
 visit-spec =
     tie.close
     (tie.spec
-    -- word_at, put
+    -- word_at, put_word
     (λ c κs. search needs) (λ c κs. search needs) (λ c. search needs) (λ c κs. search needs)
     add-result
     -- lengths stay

@@ -18,9 +18,9 @@ returns c =
     let at-word-at = at-link-place .before in
     let start = at-word-at .before .before .before .before in
     let a = start .args in
-    let three = at-put3 .put3 in
-    let two = at-put2 .put2 in
-    let one = at-put .put in
+    let three = at-put3 .put-word3 in
+    let two = at-put2 .put-word2 in
+    let one = at-put .put-word in
     let place = at-link-place .link-place in
     let tail = at-word-at .word-at in
     three .ensures
@@ -33,9 +33,9 @@ pub append-slot-spec : {M : Type 1} → statement M
 append-slot-spec =
     tie.close
     (tie.spec
-    -- word_at, link_place, put
+    -- word_at, link_place, put_word
     (λ c. search needs) (λ c. search needs) (λ c κs. search needs) (λ c κs. search needs) (λ c. search needs) (λ c κs. search needs)
     (λ c. search needs) (λ c. search needs) (λ c κs. search needs) (λ c. search needs) (λ c. search needs) (λ c. search needs)
-    -- put, lengths stay
+    -- put_word, lengths stay
     (λ c κs. search needs) (λ c. search needs)
     returns)
