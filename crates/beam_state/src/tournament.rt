@@ -11,9 +11,10 @@
 // Every function is total. What a tree stands for is `Tournament` of specs/Tournament; proofs/Laws says that
 // its first pair is one of the places' and that no place's comes before it.
 ghost use mathlib.Core.Path.{_≡_};
-ghost use Prim.Native.Nat.{_*_, _+_, _-_, _/_, _%_, _<_, min};
+ghost use Prim.Native.Nat.{_*_, _+_, _-_, _/_, _%_, _<_};
 ghost use lib.ListN.{length, replicate};
 ghost use Rattle.beam_state.specs.Tournament.{rankOf, rankAt, withPair, emptyRank, Tournament, firstOf, Putting, Climbing};
+use words::slices;
 
 const NOTHING: u32 = 0xffff_ffff;
 
@@ -27,12 +28,6 @@ fn rank(key: u32, id: u32) -> u64
     ensures { λ r. ⌜ r ≡ rankOf key id ⌝ }
 {
     (key as u64) * 4294967296 + (id as u64)
-}
-
-fn lesser(a: u64, b: u64) -> u64
-    ensures { λ r. ⌜ r ≡ min a b ⌝ }
-{
-    if a < b { a } else { b }
 }
 
 // Leaves every place empty.
@@ -72,7 +67,7 @@ fn climb(tree: &mut [u32], from: usize, rank: u64)
     let mut least = rank;
     while p > 1 {
         let beside = p + 1 - 2 * (p % 2);
-        least = lesser(least, rank_at(tree, beside));
+        least = slices::lesser_u64(least, rank_at(tree, beside));
         p = p / 2;
         lay(tree, p, least);
     }

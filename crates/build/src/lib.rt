@@ -4,7 +4,7 @@
 // It promises one equation for the number and both stores, whole: `buildSpec` of Rattle.calls. What
 // scratch held before never shows.
 ghost use mathlib.Core.Path.{_≡_};
-ghost use Prim.Native.Nat.{_+_, _≤_, min};
+ghost use Prim.Native.Nat.{_+_, _≤_};
 ghost use lib.ListN.{length, set};
 ghost use Rattle.basics.specs.Refusals.{firstRefusal};
 ghost use Rattle.distance.specs.Vectors.{vectorsIn};
@@ -171,17 +171,11 @@ fn repair(
         scratch_words,
     );
     // there are fewer than n, which only rows as a build makes them promise
-    let count = lesser(built, n);
+    let count = slices::lesser_u32(built, n);
     let end = 2 * count as usize;
     let at = store::bridges_at(capacity, degree);
     put_header(words, entry, count);
     put_bridges(words, at, &bridges[..end]);
-}
-
-fn lesser(a: u32, b: u32) -> u32
-    ensures { λ r. ⌜ r ≡ min a b ⌝ }
-{
-    if a < b { a } else { b }
 }
 
 // The graph of an open store that has nodes: its rows, then its entry node and bridges.

@@ -9,7 +9,9 @@ ghost use lib.ListN.{length, take};
 ghost use Rattle.replay.specs.Bounds.{Advanced};
 use libc::STDIN_FILENO;
 use libc::STDOUT_FILENO;
+pub use slices::lesser;
 use words::bits;
+use words::slices;
 
 // A line that was read: how many tokens it has, of which the first `asked` are the question, whether its
 // end was seen, and where the next line starts.
@@ -222,12 +224,6 @@ pub fn words(tokens: &[u64], from: usize, n: usize, out: &mut [u32]) -> usize
         i += 1;
     }
     count
-}
-
-pub fn lesser(a: usize, b: usize) -> usize
-    ensures { λ r. ⌜ (r ≤ a) × (r ≤ b) ⌝ }
-{
-    if a < b { a } else { b }
 }
 
 // The first n, or all if there are fewer.

@@ -1,4 +1,4 @@
-// Reading and writing single elements of slices, clearing and copying them, and the lesser of two lengths. The Rust
+// Reading and writing single elements of slices, clearing and copying them, and the lesser of two numbers. The Rust
 // uses `get`, `get_mut`, `vec![0; n]`, `fill`, `extend_from_slice` and `min`.
 //
 // Each function is total, and its contract gives the whole slice that it leaves.
@@ -9,6 +9,18 @@ ghost use lib.ListN.{length, getD, set, take, drop, replicate};
 ghost use Rattle.basics.specs.Sum.{+zero};
 
 pub fn lesser(a: usize, b: usize) -> usize
+    ensures { λ r. ⌜ r ≡ min a b ⌝ }
+{
+    if a < b { a } else { b }
+}
+
+pub fn lesser_u32(a: u32, b: u32) -> u32
+    ensures { λ r. ⌜ r ≡ min a b ⌝ }
+{
+    if a < b { a } else { b }
+}
+
+pub fn lesser_u64(a: u64, b: u64) -> u64
     ensures { λ r. ⌜ r ≡ min a b ⌝ }
 {
     if a < b { a } else { b }

@@ -26,12 +26,12 @@ part-ensure-connectivity-end c =
 slice-aggregate-put-bridges : tie.Need-slice-aggregate-put-bridges
 slice-aggregate-put-bridges c =
     let s = c .before .before .before .before .before .before .before .before .before .before .before .before .before .before .before .before .before .before .before .before .before .before .before .before .before .before .before .before in
-    sym (length-take-le _ _ (omega (arith, c .before .before .before .before .before .before .before .lesser .ensures, c .before .before .before .before .before .before .before .before .before .before .before .before .ensure-connectivity .kept .1 .1 .1 .1 .1 .0, s .pre .bridges-room)))
+    sym (length-take-le _ _ (omega (arith, c .before .before .before .before .before .before .before .lesser-u32 .ensures, c .before .before .before .before .before .before .before .before .before .before .before .before .ensure-connectivity .kept .1 .1 .1 .1 .1 .0, s .pre .bridges-room)))
 
 put-bridges-requires : tie.Need-put-bridges-requires
 put-bridges-requires c κs =
     let s = c .before .before .before .before .before .before .before .before .before .before .before .before .before .before .before .before .before .before .before .before .before .before .before .before .before .before .before .before in
-    let count = c .before .before .before .before .before .before .before .lesser in
+    let count = c .before .before .before .before .before .before .before .lesser-u32 in
     let repair = c .before .before .before .before .before .before .before .before .before .before .before .before .ensure-connectivity in
     let list : List ℕ = repair .last .1 .1 .1 .1 .1 .0 in
     let fits : 2 * count .result ≤ length list = omega (arith, count .ensures, repair .kept .1 .1 .1 .1 .1 .0, s .pre .bridges-room) in
@@ -47,7 +47,7 @@ returns c =
     let from = c .before .before .before .before .before .before .before .before .before .before .before .before .before .before .before .before .before .before .before .before .before .rows-at in
     let to = c .before .before .before .before .before .before .before .before .before .before .before .before .before .before .before .before .before .before .before .before .row-at in
     let repair = c .before .before .before .before .before .before .before .before .before .before .before .before .before .before .before .ensure-connectivity in
-    let count = c .before .before .before .before .before .before .before .before .before .before .lesser in
+    let count = c .before .before .before .before .before .before .before .before .before .before .lesser-u32 in
     let at = c .before .before .before .before .before .before .before .before .before .bridges-at in
     let header = c .before .before .before .before .before .before .before .put-header in
     let put = c .before .before .put-bridges in
@@ -71,7 +71,7 @@ repair-spec =
     -- compute_medoid, rows_at, row_at, ensure_connectivity, part-ensure-connectivity-start
     (λ c κs. search needs) (λ c κs. search needs) (λ c κs. search needs) (λ c. search needs) (λ c. search needs) (λ c. search needs)
     part-ensure-connectivity-end
-    -- ensure_connectivity, lesser, end, bridges_at, put_header, slice-reshare-prefix-put-bridges
+    -- ensure_connectivity, lesser_u32, end, bridges_at, put_header, slice-reshare-prefix-put-bridges
     (λ c κs. search needs) (λ c κs. search needs) (λ c. search needs) (λ c. search needs) (λ c κs. search needs) (λ c κs. search needs)
     (λ c. search needs)
     slice-aggregate-put-bridges

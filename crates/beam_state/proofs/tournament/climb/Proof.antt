@@ -35,8 +35,8 @@ loop-again c =
     let start = back .before .before in
     let x = back in
     let a = start .args in
-    climbed-more (a .tree .now) (x .loop .tree) (at-lay .lay .last .0) (a .from) (x .loop .p) (x .loop .least) (at-rank-at .rank-at .result) (at-lesser .lesser .result) (x .loop .inv)
-    (at-loop-test .loop-test .taken) (at-rank-at .rank-at .ensures) (at-lesser .lesser .ensures) (at-lay .lay .ensures)
+    climbed-more (a .tree .now) (x .loop .tree) (at-lay .lay .last .0) (a .from) (x .loop .p) (x .loop .least) (at-rank-at .rank-at .result) (at-lesser .lesser-u64 .result) (x .loop .inv)
+    (at-loop-test .loop-test .taken) (at-rank-at .rank-at .ensures) (at-lesser .lesser-u64 .ensures) (at-lay .lay .ensures)
 
 same-length : tie.Need-same-length Inv-loop μ-loop
 same-length c = c .before .loop .inv .kept
@@ -55,7 +55,7 @@ climb-spec =
     -- beside
     (λ c. search needs) (λ c. search needs)
     rank-at-requires
-    -- lesser
+    -- lesser_u64
     (λ c κs. search needs)
     lay-requires
     -- the loop measure
