@@ -1,6 +1,7 @@
 -- Laws of the sizes: products that fit a usize, and what lies within stores that are as long as their shape asks. Assumes nothing.
+use mathlib.Core.Path.{_≡_}
 use mathlib.Core.List.{List}
-use Prim.Native.Nat.{ℕ, _+_, _*_, _≤_}
+use Prim.Native.Nat.{ℕ, _+_, _*_, _≤_, _<_}
 use native.Mathlib.Nat.{mul-le-mul}
 use native.Mathlib.Omega.{arith}
 use lib.ListN.{length}
@@ -10,6 +11,10 @@ use Rattle.store.proofs.Header.{Header}
 
 pub product-le : (a b x y : ℕ) → a ≤ x → b ≤ y → a * b ≤ x * y
 product-le a b x y h k = mul-le-mul h k
+
+-- of n rows from `from` on, the i-th, which starts at `at`, lies within
+pub row-within : (from n D i at size room : ℕ) → i < n → at ≡ from + i * rowSize D → size ≡ rowSize D → from + n * rowSize D ≤ room → at + size ≤ room
+row-within from n D i at size room below start is all = omega (arith, product-le (i + 1) (rowSize D) n (rowSize D) (omega arith) (omega arith))
 
 pub record Room (w : List ℕ) (f : List Float) : Type 0 where
   pub docs : rowsAt (word w capacityAt) ≤ length w
