@@ -7,7 +7,6 @@
 // answer by this project's calls and say whether it is the recorded one. All are proved safe on lines and
 // stores of any content, and nothing more.
 ghost use mathlib.Core.Path.{_≡_};
-ghost use Prim.Native.Nat.{_≤_};
 ghost use lib.ListN.{length};
 use params::PipnnParams;
 use random::lcg;
@@ -197,21 +196,14 @@ pub fn add_is_same(
     number == replay::word(tokens, asked, 0)
 }
 
-// A whole number that an f32 holds.
-fn float_of(x: u64) -> f32
-    requires { ⌜ x ≤ 16777216 ⌝ }
-{
-    x as f32
-}
-
 // The number from -1 up to 1 that a state of the generator stands for.
 fn number_of(r: u64) -> f32 {
-    float_of(r / 0x100_0000_0000) / 8388608.0 - 1.0
+    replay::float_of(r / 0x100_0000_0000) / 8388608.0 - 1.0
 }
 
 // The same with many ties: -1, 0 or 1.
 fn tie_of(r: u64) -> f32 {
-    float_of(r / 0x100_0000_0000 % 3) - 1.0
+    replay::float_of(r / 0x100_0000_0000 % 3) - 1.0
 }
 
 // A vector whose states come after r. Answers the last of them.

@@ -7,7 +7,6 @@
 //
 // Everything here is proved safe on every text, and nothing more; `household` has the count.
 ghost use Prim.Native.Nat.{_≤_};
-ghost use lib.ListN.{length};
 use household::Household;
 use libc::STDIN_FILENO;
 use libc::STDOUT_FILENO;
@@ -82,21 +81,6 @@ fn line_of(text: &[u8]) -> Line {
     Line::Sighting(second, DocId(doc as u32))
 }
 
-// Where the line that starts at `at` ends.
-fn line_end(text: &[u8], at: usize) -> usize
-    requires { ⌜ at ≤ length (now text) ⌝ }
-    ensures { λ r. ⌜ (at ≤ r) × (r ≤ length (now (text .entry))) ⌝ }
-{
-    let mut i = at;
-    while i < text.len() {
-        if text[i] == b'\n' {
-            return i;
-        }
-        i += 1;
-    }
-    i
-}
-
 // How many sightings and how many other lines there were.
 pub struct Tally {
     pub sightings: usize,
@@ -133,7 +117,7 @@ fn read_lines(text: &[u8], seconds: &mut [u64], docs: &mut [u32]) -> Tally {
     };
     let mut at: usize = 0;
     while at < text.len() {
-        let end = line_end(text, at);
+        let end = replay::line_end(text, at);
         tally = put(line_of(&text[at..end]), seconds, docs, tally);
         at = end + 1;
     }

@@ -226,6 +226,13 @@ pub fn words(tokens: &[u64], from: usize, n: usize, out: &mut [u32]) -> usize
     count
 }
 
+// A whole number that an f32 holds.
+pub fn float_of(x: u64) -> f32
+    requires { ⌜ x ≤ 16777216 ⌝ }
+{
+    x as f32
+}
+
 // The first n, or all if there are fewer.
 pub fn front(xs: &[f32], n: usize) -> &[f32] {
     if xs.len() <= n {

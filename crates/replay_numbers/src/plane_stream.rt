@@ -9,18 +9,11 @@ use random::hyperplanes;
 use random::lcg;
 use words::bits;
 
-// A whole number that an f32 holds.
-fn float_of(x: u64) -> f32
-    requires { ⌜ x ≤ 16777216 ⌝ }
-{
-    x as f32
-}
-
 // a/2^30, rounded once, for an a of at most 2^30.
 fn fraction(a: u64) -> f32
     requires { ⌜ a ≤ 1073741824 ⌝ }
 {
-    (float_of(a / 4096) * 4096.0 + float_of(a % 4096)) / 1073741824.0
+    (replay::float_of(a / 4096) * 4096.0 + replay::float_of(a % 4096)) / 1073741824.0
 }
 
 // The number that r stands for.

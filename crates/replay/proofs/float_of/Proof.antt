@@ -2,8 +2,8 @@
 use lib.Dec.{le→leb}
 use lib.Ieee.{inFloat}
 use borrow.Author.Needs.{needs}
-use Rattle.histories.proofs.float_of.Statement.{statement}
-use Rattle.histories.proofs.float_of.Tie as tie
+use Rattle.replay.proofs.float_of.Statement.{statement}
+use Rattle.replay.proofs.float_of.Tie as tie
 
 int-to-float-result : tie.Need-int-to-float-result
 unfolding inFloat
