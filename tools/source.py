@@ -39,7 +39,7 @@ def tool(name):
 
 def tree_of(where):
     """{path: text} of a folder or a git revision of this repository."""
-    if os.path.isdir(where):
+    if os.path.isdir(os.path.join(where, "crates")):
         return folder(where)
     run = subprocess.run(["git", "archive", "--format=tar", where], capture_output=True)
     if run.returncode:
