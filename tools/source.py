@@ -178,6 +178,15 @@ class File:
             for name in [declaration.name] + (declaration.owns if path.endswith(".antt") else []):
                 self.own.update({part: f"{self.module}.{name}" for part in parts(name)})
 
+    def rust_path(self, path):
+        """The full name of a::b::c, where a is a crate, a module, an import or a type of this file."""
+        first, rest = path.split("::", 1)
+        steps = self.module.split(".")
+        near = {"crate": ".".join(steps[:2]), "self": self.module, "super": ".".join(steps[:-1])}
+        near.update({name: f"{self.module}.{name}" for name in self.inner})
+        first = near.get(first) or self.aliases.get(first) or self.imports.get(first) or self.own.get(first) or first + ".src"
+        return f"{first}.{rest}".replace("::", ".")
+
     def declare(self, declaration):
         if declaration.name in self.declarations:
             raise Unreadable(f"{self.path}:{declaration.line}: '{declaration.name}' is declared twice")
@@ -190,14 +199,7 @@ class File:
         if word in self.own:
             return self.own[word]
         if "::" in word:
-            first, rest = word.split("::", 1)
-            if first in ("crate", "self", "super"):
-                first = self.module.split(".")[0] + ".src"
-            elif first in self.inner:
-                first = f"{self.module}.{first}"
-            else:
-                first = self.imports.get(first) or self.own.get(first) or first + ".src"
-            return f"{first}.{rest}".replace("::", ".")
+            return self.rust_path(word)
         if "." in word and not word.startswith("."):
             first, rest = word.split(".", 1)
             if word.startswith("Rattle·"):
@@ -367,6 +369,7 @@ def block_end(text, at):
 
 def read_rust(file):
     text = without_comments(file.text, "//")
+    file.inner = set(re.findall(r"(?m)^(?:pub\s+)?mod\s+(\w+)", text))
     for use in re.finditer(r"(?m)^\s*(?:pub\s+)?(ghost\s+)?use\s+([^;]*);", text):
         if use[1]:
             read_use(file, tokens(use[2]))
@@ -396,9 +399,7 @@ def read_rust(file):
                 inner = text[text.index("{", found.end()) + 1:end - 1]
                 declaration.owns = re.findall(r"(\w+)\s*(?:\([^)]*\)|\{[^}]*\})?\s*(?:,|$)", inner.strip())
         declaration.lines = clean(text[start:end])
-        if kind == "mod":
-            file.inner.add(name)
-        else:
+        if kind != "mod":
             file.declare(declaration)
         position = end
 
@@ -449,12 +450,12 @@ def constant_end(text, at):
 
 
 def read_rust_use(file, path):
+    """use a::b::Type is an import; use a::b, of a module, gives the paths b::x a meaning and no word alone."""
     words = path.replace(" ", "").replace("\n", "")
     group = re.fullmatch(r"(.*)::\{(.*)\}", words)
     for one in [f"{group[1]}::{x}" for x in group[2].split(",") if x] if group else [words]:
-        steps = one.split("::")
-        crate = file.module.split(".")[0] if steps[0] in ("crate", "super", "self") else steps[0]
-        file.imports[steps[-1]] = ".".join([crate, "src"] + steps[1:])
+        name = one.split("::")[-1]
+        (file.aliases if name.islower() else file.imports)[name] = file.rust_path(one)
 
 
 # ---- a whole tree
