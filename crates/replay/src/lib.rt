@@ -9,9 +9,9 @@ ghost use lib.ListN.{length, take};
 ghost use Rattle.replay.specs.Bounds.{Advanced};
 use libc::STDIN_FILENO;
 use libc::STDOUT_FILENO;
-pub use slices::lesser;
 use words::bits;
 use words::slices;
+pub use words::slices::lesser;
 
 // A line that was read: how many tokens it has, of which the first `asked` are the question, whether its
 // end was seen, and where the next line starts.

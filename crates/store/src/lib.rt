@@ -39,11 +39,11 @@ ghost use Rattle.store.specs.WellFormed.{isNode, headerOk, rowOk, countO
 ghost use Rattle.store.specs.Opening.{storeShort, scratchShort, tooShort, opening};
 use params::PipnnParams;
 use params::finite;
-pub use slices::word_at;
 use words::bits;
 use words::ids::DocId;
 use words::ids::Node;
 use words::slices;
+pub use words::slices::word_at;
 
 // The header's words.
 pub const STATE: usize = 0;
