@@ -17,7 +17,8 @@ use Rattle.store.specs.View.{bridgeBlock}
 use Rattle.lists.specs.Words.{rowLists}
 use Rattle.lists.specs.Chains.{clearedLinks, chainBridge, Chained, bridgesIn}
 use Rattle.lists.proofs.chains.Laws.{chain-none, chain-more, length-chained, chained-ends, laid-bridges}
-use Rattle.graph_utils.specs.Marking.{listWords}
+use Rattle.lists.specs.declared.Shape.{Shape}
+use Rattle.lists.specs.Lists.{listWords}
 use Rattle.graph_utils.proofs.marking.Refining.{Marked, mark-marked}
 use Rattle.graph_utils.specs.Candidates.{startOf}
 use Rattle.graph_utils.proofs.candidates.Refining.{start-refines}
@@ -25,7 +26,7 @@ use Rattle.def_walk.specs.Repair.{markReachable, Repaired, bridgeTo, turn, turn
 use Rattle.def_walk.proofs.graph_utils.Bridges.{Ends, AllEnds, list-below}
 use Rattle.def_walk.proofs.graph_utils.Laws.{Turned, turns-turned}
 use Rattle.graph_utils.specs.Connectivity.{withBridges, Repairable}
-use Rattle.graph_utils.specs.Turns.{Work, putBridge, bridged, turned, begun, turnedTo}
+use Rattle.graph_utils.specs.Turns.{Work, putBridge, bridged, turned, begun, turnedTo, repaired}
 
 -- ---- words of bridges
 
@@ -60,12 +61,18 @@ length-cleared n links h =
 
 -- ---- the turns
 
-module _ (D : ℕ) (rowWords : List ℕ) (entry : ℕ) (vs : List (List Float)) (bridges₀ links₀ : List ℕ) (given : Repairable (rowLists D rowWords) entry bridges₀ links₀) where
+module _ (D d : ℕ) (rowWords : List ℕ) (entry : ℕ) (vs : List (List Float)) (bridges₀ links₀ : List ℕ) (given : Repairable (rowLists D rowWords) entry bridges₀ links₀) where
   abbrev rows : List (List ℕ)
   rows = rowLists D rowWords
 
   abbrev n : ℕ
   n = length rows
+
+  abbrev shapeOf : ℕ → Shape
+  shapeOf k = record { n = k; degree = D; dimension = d }
+
+  abbrev shape : Shape
+  shape = shapeOf n
 
   pub record Stands (r : Repaired) (w : Work) : Type 0 where
     pub count-is : w .count ≡ length (r .bridges)
@@ -79,7 +86,7 @@ module _ (D : ℕ) (rowWords : List ℕ) (entry : ℕ) (vs : List (List Float)) 
 
   -- lists in words and in the definition
   alike : (bs : List Bridge) (bridges links : List ℕ) → bridges ≡ withBridges bs bridges₀ → Chained n bs links → (u : ℕ) → u < n
-      → listWords D n rowWords bridges links u ≡ listOf rows bs u
+      → listWords shape rowWords bridges links u ≡ listOf rows bs u
   unfolding listOf
   alike bs bridges links e c u h =
       ap (λ (l : List ℕ). getD rows u [] ++ l)
@@ -92,7 +99,7 @@ module _ (D : ℕ) (rowWords : List ℕ) (entry : ℕ) (vs : List (List Float)) 
   laws i h = turns-turned rows entry vs (given .entry-below) (λ u v m. given .inside u v m) i h
 
   -- before the first turn
-  first : (state₀ : List ℕ) → Marked n [] state₀ → Stands (turnsTo rows entry vs 0) (begun D rowWords vs entry n bridges₀ links₀ state₀)
+  first : (state₀ : List ℕ) → Marked n [] state₀ → Stands (turnsTo rows entry vs 0) (begun shape rowWords vs entry bridges₀ links₀ state₀)
   unfolding turnsTo begun flatten
   first state₀ m =
       let c : Chained n [] (clearedLinks n links₀) = chain-none n links₀ (omega (arith, given .word-room)) in record {
@@ -100,7 +107,7 @@ module _ (D : ℕ) (rowWords : List ℕ) (entry : ℕ) (vs : List (List Float)) 
         bridges-are = refl;
         chained = c;
         size = length-cleared n links₀ (omega (arith, given .word-room));
-        marks-are = mark-marked n (listOf rows []) (listWords D n rowWords bridges₀ (clearedLinks n links₀)) (alike [] bridges₀ (clearedLinks n links₀) refl c) (within [] tt) [] state₀ entry
+        marks-are = mark-marked n (listOf rows []) (listWords shape rowWords bridges₀ (clearedLinks n links₀)) (alike [] bridges₀ (clearedLinks n links₀) refl c) (within [] tt) [] state₀ entry
             (given .entry-below) m;
       }
 
@@ -112,10 +119,10 @@ module _ (D : ℕ) (rowWords : List ℕ) (entry : ℕ) (vs : List (List Float)) 
     b = bridgeTo rows entry vs r i
 
     -- the node that the bridge starts from
-    near-is : startOf (w .state) n vs (listWords D n rowWords (w .bridges) (w .links)) entry i ≡ b .near
+    near-is : startOf (w .state) n vs (listWords shape rowWords (w .bridges) (w .links)) entry i ≡ b .near
     unfolding bridgeTo
     near-is =
-        start-refines (listOf rows (r .bridges)) (listWords D n rowWords (w .bridges) (w .links)) n (alike (r .bridges) (w .bridges) (w .links) (s .bridges-are) (s .chained))
+        start-refines (listOf rows (r .bridges)) (listWords shape rowWords (w .bridges) (w .links)) n (alike (r .bridges) (w .bridges) (w .links) (s .bridges-are) (s .chained))
         (within (r .bridges) (laws i (omega arith) .ends)) (w .state) (r .reached) (s .marks-are) vs entry i (given .entry-below) i-below
 
     far-is : b .far ≡ i
@@ -154,7 +161,7 @@ module _ (D : ℕ) (rowWords : List ℕ) (entry : ℕ) (vs : List (List Float)) 
           (chain-more n (b .near) i (r .bridges) (w .links) (s .chained) (ends-last n (r .bridges) b next-ends .near-below) i-below
           (omega (arith, few, s .size, given .word-room)) (omega (arith, few, given .many))))
 
-      next-stands : Stands next (bridged D rowWords vs entry n i w (b .near))
+      next-stands : Stands next (bridged shape rowWords vs entry i w (b .near))
       unfolding bridged
       next-stands = record {
         count-is = omega (arith, s .count-is, length-append (r .bridges) (b ∷ []));
@@ -163,7 +170,7 @@ module _ (D : ℕ) (rowWords : List ℕ) (entry : ℕ) (vs : List (List Float)) 
         size = length-chained n (w .count) (b .near) i (w .links) ∙ s .size;
         marks-are =
             mark-marked n (listOf rows (r .bridges ++ (b ∷ [])))
-            (listWords D n rowWords (putBridge (w .count) (b .near) i (w .bridges)) (chainBridge n (w .count) (b .near) i (w .links)))
+            (listWords shape rowWords (putBridge (w .count) (b .near) i (w .bridges)) (chainBridge n (w .count) (b .near) i (w .links)))
             (alike (r .bridges ++ (b ∷ [])) (putBridge (w .count) (b .near) i (w .bridges)) (chainBridge n (w .count) (b .near) i (w .links)) next-bridges next-chained)
             (within (r .bridges ++ (b ∷ [])) next-ends) (r .reached) (w .state) i i-below (s .marks-are);
       }
@@ -172,36 +179,35 @@ module _ (D : ℕ) (rowWords : List ℕ) (entry : ℕ) (vs : List (List Float)) 
     unfolding turn
     passed e = pick-true r _ e
 
-    kept : eqb (getD (w .state) i 0) 0 ≡ false → turned D rowWords vs entry n i w ≡ w
+    kept : eqb (getD (w .state) i 0) 0 ≡ false → turned shape rowWords vs entry i w ≡ w
     unfolding turned
     kept e = pick-false _ w e
 
-    made : eqb (getD (w .state) i 0) 0 ≡ true → turned D rowWords vs entry n i w ≡ bridged D rowWords vs entry n i w (b .near)
+    made : eqb (getD (w .state) i 0) 0 ≡ true → turned shape rowWords vs entry i w ≡ bridged shape rowWords vs entry i w (b .near)
     unfolding turned
-    made e = pick-true _ w e ∙ ap (bridged D rowWords vs entry n i w) near-is
+    made e = pick-true _ w e ∙ ap (bridged shape rowWords vs entry i w) near-is
 
-    turn-stands : Stands (turn rows entry vs i r) (turned D rowWords vs entry n i w)
+    turn-stands : Stands (turn rows entry vs i r) (turned shape rowWords vs entry i w)
     turn-stands = go (has i (r .reached)) refl
       where
         told : (c : Bool) → has i (r .reached) ≡ c → eqb (getD (w .state) i 0) 0 ≡ not c
         told c e = s .marks-are .told i i-below ∙ ap not e
 
-        go : (c : Bool) → has i (r .reached) ≡ c → Stands (turn rows entry vs i r) (turned D rowWords vs entry n i w)
+        go : (c : Bool) → has i (r .reached) ≡ c → Stands (turn rows entry vs i r) (turned shape rowWords vs entry i w)
         go true e = stands-by (passed e) (kept (told true e)) s
         go false e = stands-by (turn-is e) (made (told false e)) (next-stands e)
 
-  all-stand : (state₀ : List ℕ) → Marked n [] state₀ → (i : ℕ) → i ≤ n → Stands (turnsTo rows entry vs i) (turnedTo D rowWords vs entry n (begun D rowWords vs entry n bridges₀ links₀ state₀) i)
+  all-stand : (state₀ : List ℕ) → Marked n [] state₀ → (i : ℕ) → i ≤ n → Stands (turnsTo rows entry vs i) (turnedTo shape rowWords vs entry (begun shape rowWords vs entry bridges₀ links₀ state₀) i)
   unfolding turnsTo turnedTo
   all-stand state₀ m zero h = first state₀ m
-  all-stand state₀ m (suc i) h = turn-stands i h (turnedTo D rowWords vs entry n (begun D rowWords vs entry n bridges₀ links₀ state₀) i) (all-stand state₀ m i (omega arith))
+  all-stand state₀ m (suc i) h = turn-stands i h (turnedTo shape rowWords vs entry (begun shape rowWords vs entry bridges₀ links₀ state₀) i) (all-stand state₀ m i (omega arith))
 
   -- after all turns the bridges are the definition's
   pub all-repaired : (state₀ : List ℕ) → Marked n [] state₀ → (k : ℕ) → k ≡ n → (w : Work)
-      → w ≡ turnedTo D rowWords vs entry k (begun D rowWords vs entry k bridges₀ links₀ state₀) k
+      → w ≡ repaired (shapeOf k) rowWords vs entry bridges₀ links₀ state₀
       → (w .count ≡ length (ensureConnectivity rows entry vs)) × (w .bridges ≡ withBridges (ensureConnectivity rows entry vs) bridges₀)
   unfolding ensureConnectivity
   all-repaired state₀ m k q w e =
-      let same : w ≡ turnedTo D rowWords vs entry n (begun D rowWords vs entry n bridges₀ links₀ state₀) n =
-      e ∙ ap (λ (x : ℕ). turnedTo D rowWords vs entry x (begun D rowWords vs entry x bridges₀ links₀ state₀) x) q in
+      let same : w ≡ repaired shape rowWords vs entry bridges₀ links₀ state₀ = e ∙ ap (λ (x : ℕ). repaired (shapeOf x) rowWords vs entry bridges₀ links₀ state₀) q in
       let s : Stands (turnsTo rows entry vs n) w = stands-by refl same (all-stand state₀ m n (omega arith)) in
       (s .count-is, s .bridges-are)

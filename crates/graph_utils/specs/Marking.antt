@@ -1,13 +1,11 @@
 -- Marking as words do it (01, part 7). Of n nodes the first n words are marks, not 0 where a node is reached, and the next n a stack of nodes
 -- whose lists are still to be looked at.
 use mathlib.Core.Bool.{_&&_}
-use mathlib.Core.List.{List, [], _∷_, _++_}
+use mathlib.Core.List.{List, [], _∷_}
 use Prim.Native.Nat.{ℕ, zero, suc, _+_}
 use lib.Dec.{eqb, ltb}
 use lib.ListN.{getD, set}
 use Rattle.basics.specs.Choice.{pick}
-use Rattle.lists.specs.Words.{rowLists}
-use Rattle.lists.specs.Chains.{firstLink, linkedEnds}
 
 -- the words, and how many nodes stand on the stack
 pub record Marks : Type 0 where
@@ -16,10 +14,6 @@ pub record Marks : Type 0 where
 
 abbrev pub marks : List ℕ → ℕ → Marks
 marks words top = record { words = words; top = top }
-
--- a node's list: its row, then its bridges' other ends, by their chain
-abbrev pub listWords : ℕ → ℕ → List ℕ → List ℕ → List ℕ → ℕ → List ℕ
-listWords degree n rows bridges links u = getD (rowLists degree rows) u [] ++ linkedEnds n bridges links (firstLink n links u)
 
 -- a node that is not marked is marked, and goes on the stack
 unfoldable pub visited : ℕ → ℕ → Marks → Marks

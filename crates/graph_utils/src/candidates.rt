@@ -1,16 +1,16 @@
 // Where a bridge starts (01, part 7), as the middle of `ensure_connectivity` of src/graph_utils.rs: of the
 // nodes on the lists of a node's neighbours, and of the entry's neighbours with their lists, the nearest
-// that is reached, or the entry. The first n words of `state` are marks, and a node's list is its row, then
-// its bridges' other ends, which chains link. A node that is not reached is not scored.
+// that is reached, or the entry. The first n words of `state` are marks. A node's list is its row, then its
+// bridges' other ends; a cursor of `chains` goes along it. A node that is not reached is not scored.
 //
 // specs/Candidates   candidates on words, with the distance kept
 // proofs/Refining    it is `nearestReached` of the definition
 ghost use mathlib.Core.Path.{_≡_};
-ghost use Rattle.lists.specs.Chains.{firstLink, linkedEnds};
-ghost use Rattle.graph_utils.specs.Marking.{listWords};
+ghost use Rattle.lists.specs.Lists.{listWords};
 ghost use Rattle.distance.specs.Vectors.{vectorsIn};
-ghost use Rattle.graph_utils.specs.Candidates.{considered, consideredAll, around, aroundAll, startOf};
+ghost use Rattle.graph_utils.specs.Candidates.{seeking, considered, consideredAll, around, aroundList, startOf};
 use distance::vectors;
+use lists::Shape;
 use lists::chains;
 use words::ids::Node;
 
@@ -23,22 +23,21 @@ pub struct Nearest {
 // The node that a bridge to node i starts from.
 pub fn bridge_start(
     rows: &[u32],
-    degree: u16,
     bridges: &[u32],
     links: &[u32],
     state: &[u32],
-    n: u32,
     vectors: &[f32],
-    dimension: u32,
+    shape: Shape,
     entry: Node,
     i: Node,
 ) -> Node
-    ensures { λ r. ⌜ r .0 ≡ startOf (now (state .entry)) n (vectorsIn dimension (now (vectors .entry))) (listWords degree n (now (rows .entry)) (now (bridges .entry)) (now (links .entry))) (entry .0) (i .0) ⌝ }
+    ensures { λ r. ⌜ r .0 ≡ startOf (now (state .entry)) (shape .n) (vectorsIn (shape .dimension) (now (vectors .entry)))
+        (listWords shape (now (rows .entry)) (now (bridges .entry)) (now (links .entry))) (entry .0) (i .0) ⌝ }
 {
-    let query = vectors::get_vector(vectors, dimension, i);
+    let query = vectors::get_vector(vectors, shape.dimension, i);
     let far = distance::cosine_distance_normalized(
         query,
-        vectors::get_vector(vectors, dimension, entry),
+        vectors::get_vector(vectors, shape.dimension, entry),
     );
     let first = Nearest {
         node: entry,
@@ -46,28 +45,24 @@ pub fn bridge_start(
     };
     let own = around_list(
         rows,
-        degree,
         bridges,
         links,
         state,
-        n,
         vectors,
-        dimension,
         query,
+        shape,
         first,
         false,
         i,
     );
     let last = around_list(
         rows,
-        degree,
         bridges,
         links,
         state,
-        n,
         vectors,
-        dimension,
         query,
+        shape,
         own,
         true,
         entry,
@@ -75,248 +70,91 @@ pub fn bridge_start(
     last.node
 }
 
-// The candidates around the nodes of a node's list.
+// The candidates around the nodes of a node's list: their lists, and with `own` the nodes themselves.
 fn around_list(
     rows: &[u32],
-    degree: u16,
     bridges: &[u32],
     links: &[u32],
     state: &[u32],
-    n: u32,
     vectors: &[f32],
-    dimension: u32,
     query: &[f32],
+    shape: Shape,
     best: Nearest,
     own: bool,
     u: Node,
 ) -> Nearest
-    ensures { λ r. ⌜ r ≡ consideredAll (now (state .entry)) n (vectorsIn dimension (now (vectors .entry))) (now (query .entry)) (aroundAll own (listWords degree n (now (rows .entry)) (now (bridges .entry)) (now (links .entry))) (listWords degree n (now (rows .entry)) (now (bridges .entry)) (now (links .entry)) (u .0))) best ⌝ }
+    ensures { λ r. ⌜ r ≡ consideredAll (seeking shape (now (state .entry)) (now (vectors .entry)) (now (query .entry)))
+        (aroundList own (listWords shape (now (rows .entry)) (now (bridges .entry)) (now (links .entry))) (u .0)) best ⌝ }
 {
-    let row = lists::row_of(rows, degree, u);
-    let after = around_row(
-        row,
-        rows,
-        degree,
-        bridges,
-        links,
-        state,
-        n,
-        vectors,
-        dimension,
-        query,
-        best,
-        own,
-    );
-    around_ends(
-        rows,
-        degree,
-        bridges,
-        links,
-        state,
-        n,
-        vectors,
-        dimension,
-        query,
-        after,
-        own,
-        u,
-    )
-}
-
-fn around_row(
-    row: &[u32],
-    rows: &[u32],
-    degree: u16,
-    bridges: &[u32],
-    links: &[u32],
-    state: &[u32],
-    n: u32,
-    vectors: &[f32],
-    dimension: u32,
-    query: &[f32],
-    best: Nearest,
-    own: bool,
-) -> Nearest
-    ensures { λ r. ⌜ r ≡ consideredAll (now (state .entry)) n (vectorsIn dimension (now (vectors .entry))) (now (query .entry)) (aroundAll own (listWords degree n (now (rows .entry)) (now (bridges .entry)) (now (links .entry))) (now (row .entry))) best ⌝ }
-{
+    let n = shape.n;
+    let row = lists::row_of(rows, shape.degree, u);
     let mut near = best;
-    let mut i: usize = 0;
-    while i < row.len() {
+    let mut at = chains::list_start(links, n, u);
+    while chains::has_entry(row, at) {
+        let v = chains::list_entry(row, bridges, at);
         near = consider_around(
             rows,
-            degree,
             bridges,
             links,
             state,
-            n,
             vectors,
-            dimension,
             query,
-            near,
-            own,
-            Node(row[i]),
-        );
-        i += 1;
-    }
-    near
-}
-
-fn around_ends(
-    rows: &[u32],
-    degree: u16,
-    bridges: &[u32],
-    links: &[u32],
-    state: &[u32],
-    n: u32,
-    vectors: &[f32],
-    dimension: u32,
-    query: &[f32],
-    best: Nearest,
-    own: bool,
-    u: Node,
-) -> Nearest
-    ensures { λ r. ⌜ r ≡ consideredAll (now (state .entry)) n (vectorsIn dimension (now (vectors .entry))) (now (query .entry)) (aroundAll own (listWords degree n (now (rows .entry)) (now (bridges .entry)) (now (links .entry))) (linkedEnds n (now (bridges .entry)) (now (links .entry)) (firstLink n (now (links .entry)) (u .0)))) best ⌝ }
-{
-    let mut near = best;
-    let mut link = chains::first_link(links, n, u);
-    while link != 0 {
-        let v = chains::other_end(bridges, link);
-        near = consider_around(
-            rows,
-            degree,
-            bridges,
-            links,
-            state,
-            n,
-            vectors,
-            dimension,
-            query,
+            shape,
             near,
             own,
             v,
         );
-        link = chains::next_link(links, n, link);
+        at = chains::list_next(row, links, n, at);
     }
     near
 }
 
-// A node's list, and the node itself first where it counts too.
+// The candidates around one node: with `own` the node itself, then its list.
 fn consider_around(
     rows: &[u32],
-    degree: u16,
     bridges: &[u32],
     links: &[u32],
     state: &[u32],
-    n: u32,
     vectors: &[f32],
-    dimension: u32,
     query: &[f32],
+    shape: Shape,
     best: Nearest,
     own: bool,
     u: Node,
 ) -> Nearest
-    ensures { λ r. ⌜ r ≡ consideredAll (now (state .entry)) n (vectorsIn dimension (now (vectors .entry))) (now (query .entry)) (around own (listWords degree n (now (rows .entry)) (now (bridges .entry)) (now (links .entry))) (u .0)) best ⌝ }
+    ensures { λ r. ⌜ r ≡ consideredAll (seeking shape (now (state .entry)) (now (vectors .entry)) (now (query .entry)))
+        (around own (listWords shape (now (rows .entry)) (now (bridges .entry)) (now (links .entry))) (u .0)) best ⌝ }
 {
     if own {
-        let first = consider(state, n, vectors, dimension, query, best, u);
-        return consider_list(
-            rows,
-            degree,
-            bridges,
-            links,
-            state,
-            n,
-            vectors,
-            dimension,
-            query,
-            first,
-            u,
-        );
+        let first = consider(state, vectors, query, shape, best, u);
+        return consider_list(rows, bridges, links, state, vectors, query, shape, first, u);
     }
-    consider_list(
-        rows,
-        degree,
-        bridges,
-        links,
-        state,
-        n,
-        vectors,
-        dimension,
-        query,
-        best,
-        u,
-    )
+    consider_list(rows, bridges, links, state, vectors, query, shape, best, u)
 }
 
+// The nodes of a node's list.
 fn consider_list(
     rows: &[u32],
-    degree: u16,
     bridges: &[u32],
     links: &[u32],
     state: &[u32],
-    n: u32,
     vectors: &[f32],
-    dimension: u32,
     query: &[f32],
+    shape: Shape,
     best: Nearest,
     u: Node,
 ) -> Nearest
-    ensures { λ r. ⌜ r ≡ consideredAll (now (state .entry)) n (vectorsIn dimension (now (vectors .entry))) (now (query .entry)) (listWords degree n (now (rows .entry)) (now (bridges .entry)) (now (links .entry)) (u .0)) best ⌝ }
+    ensures { λ r. ⌜ r ≡ consideredAll (seeking shape (now (state .entry)) (now (vectors .entry)) (now (query .entry)))
+        (listWords shape (now (rows .entry)) (now (bridges .entry)) (now (links .entry)) (u .0)) best ⌝ }
 {
-    let row = lists::row_of(rows, degree, u);
-    let after = consider_row(row, state, n, vectors, dimension, query, best);
-    consider_ends(
-        bridges,
-        links,
-        state,
-        n,
-        vectors,
-        dimension,
-        query,
-        after,
-        u,
-    )
-}
-
-fn consider_row(
-    row: &[u32],
-    state: &[u32],
-    n: u32,
-    vectors: &[f32],
-    dimension: u32,
-    query: &[f32],
-    best: Nearest,
-) -> Nearest
-    ensures { λ r. ⌜ r ≡ consideredAll (now (state .entry)) n (vectorsIn dimension (now (vectors .entry))) (now (query .entry)) (now (row .entry)) best ⌝ }
-{
+    let n = shape.n;
+    let row = lists::row_of(rows, shape.degree, u);
     let mut near = best;
-    let mut i: usize = 0;
-    while i < row.len() {
-        near = consider(state, n, vectors, dimension, query, near, Node(row[i]));
-        i += 1;
-    }
-    near
-}
-
-fn consider_ends(
-    bridges: &[u32],
-    links: &[u32],
-    state: &[u32],
-    n: u32,
-    vectors: &[f32],
-    dimension: u32,
-    query: &[f32],
-    best: Nearest,
-    u: Node,
-) -> Nearest
-    ensures { λ r. ⌜ r ≡ consideredAll (now (state .entry)) n (vectorsIn dimension (now (vectors .entry))) (now (query .entry)) (linkedEnds n (now (bridges .entry)) (now (links .entry)) (firstLink n (now (links .entry)) (u .0))) best ⌝ }
-{
-    let mut near = best;
-    let mut link = chains::first_link(links, n, u);
-    while link != 0 {
-        let c = chains::other_end(bridges, link);
-        near = consider(state, n, vectors, dimension, query, near, c);
-        link = chains::next_link(links, n, link);
+    let mut at = chains::list_start(links, n, u);
+    while chains::has_entry(row, at) {
+        let c = chains::list_entry(row, bridges, at);
+        near = consider(state, vectors, query, shape, near, c);
+        at = chains::list_next(row, links, n, at);
     }
     near
 }
@@ -324,20 +162,22 @@ fn consider_ends(
 // A candidate is the nearest where it is reached and its distance is below the distance so far, as numbers.
 fn consider(
     state: &[u32],
-    n: u32,
     vectors: &[f32],
-    dimension: u32,
     query: &[f32],
+    shape: Shape,
     best: Nearest,
     c: Node,
 ) -> Nearest
-    ensures { λ r. ⌜ r ≡ considered (now (state .entry)) n (vectorsIn dimension (now (vectors .entry))) (now (query .entry)) (c .0) best ⌝ }
+    ensures { λ r. ⌜ r ≡ considered (seeking shape (now (state .entry)) (now (vectors .entry)) (now (query .entry))) (c .0) best ⌝ }
 {
     let mark = store::word_at(state, c.0 as usize);
-    if (n <= c.0) | (mark == 0) {
+    if (shape.n <= c.0) | (mark == 0) {
         return best;
     }
-    let d = distance::cosine_distance_normalized(query, vectors::get_vector(vectors, dimension, c));
+    let d = distance::cosine_distance_normalized(
+        query,
+        vectors::get_vector(vectors, shape.dimension, c),
+    );
     if d < best.distance {
         return Nearest {
             node: c,

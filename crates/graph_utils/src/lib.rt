@@ -17,7 +17,8 @@ ghost use Prim.Native.Nat.{_≤_, _<_};
 ghost use Rattle.lists.specs.Words.{rowLists};
 ghost use Rattle.distance.specs.Vectors.{vectorsIn};
 ghost use Rattle.graph_utils.specs.Connectivity.{Repairs};
-ghost use Rattle.graph_utils.specs.Turns.{work, putBridge, turned, begun, turnedTo};
+ghost use Rattle.graph_utils.specs.Turns.{work, putBridge, turned, repaired};
+use lists::Shape;
 use lists::chains;
 use words::ids::Node;
 use words::slices;
@@ -33,59 +34,44 @@ pub fn ensure_connectivity(
     bridges: &mut [u32],
     words: &mut [u32],
 ) -> u32
-    ensures { λ r. ⌜ Repairs (rowLists degree (now (rows .entry))) (entry .0) (vectorsIn dimension (now (vectors .entry))) (now (bridges .entry)) (now (words .entry)) r (now (bridges .exit)) ⌝ }
+    ensures { λ r. ⌜ Repairs (rowLists degree (now (rows .entry))) (entry .0) (vectorsIn dimension (now (vectors .entry)))
+        (now (bridges .entry)) (now (words .entry)) r (now (bridges .exit)) ⌝ }
 {
     let n = rows.len() / (1 + degree as usize);
     if n > 1024 {
         return 0;
     }
-    let mut state = [0u32; 2048];
-    repair(
-        rows,
+    let shape = Shape {
+        n: n as u32,
         degree,
-        vectors,
         dimension,
-        entry,
-        bridges,
-        words,
-        &mut state[..],
-        n as u32,
-    )
+    };
+    let mut state = [0u32; 2048];
+    repair(rows, vectors, shape, entry, bridges, words, &mut state[..])
 }
 
-// The same, with links and marks lent.
+// The same, with links and marks passed in.
 fn repair(
     rows: &[u32],
-    degree: u16,
     vectors: &[f32],
-    dimension: u32,
+    shape: Shape,
     entry: Node,
     bridges: &mut [u32],
     links: &mut [u32],
     state: &mut [u32],
-    n: u32,
 ) -> u32
-    requires { ⌜ n ≤ 1024 ⌝ }
-    ensures { λ r. ⌜ work r (now (bridges .exit)) (now (links .exit)) (now (state .exit)) ≡ turnedTo degree (now (rows .entry)) (vectorsIn dimension (now (vectors .entry))) (entry .0) n (begun degree (now (rows .entry)) (vectorsIn dimension (now (vectors .entry))) (entry .0) n (now (bridges .entry)) (now (links .entry)) (now (state .entry))) n ⌝ }
+    requires { ⌜ shape .n ≤ 1024 ⌝ }
+    ensures { λ r. ⌜ work r (now (bridges .exit)) (now (links .exit)) (now (state .exit))
+        ≡ repaired shape (now (rows .entry)) (vectorsIn (shape .dimension) (now (vectors .entry))) (entry .0)
+        (now (bridges .entry)) (now (links .entry)) (now (state .entry)) ⌝ }
 {
+    let n = shape.n;
     chains::clear_links(links, n);
-    marking::mark_reachable(rows, degree, bridges, links, state, n, entry);
+    marking::mark_reachable(rows, bridges, links, state, shape, entry);
     let mut count: u32 = 0;
     let mut i: u32 = 0;
     while i < n {
-        count = turn(
-            rows,
-            degree,
-            vectors,
-            dimension,
-            entry,
-            bridges,
-            links,
-            state,
-            n,
-            count,
-            i,
-        );
+        count = turn(rows, vectors, shape, entry, bridges, links, state, count, i);
         i += 1;
     }
     count
@@ -94,40 +80,29 @@ fn repair(
 // The turn of node i: nothing if it is reached, else a bridge and what that makes reachable.
 fn turn(
     rows: &[u32],
-    degree: u16,
     vectors: &[f32],
-    dimension: u32,
+    shape: Shape,
     entry: Node,
     bridges: &mut [u32],
     links: &mut [u32],
     state: &mut [u32],
-    n: u32,
     count: u32,
     i: u32,
 ) -> u32
     requires { ⌜ count < 1024 ⌝ }
-    ensures { λ r. ⌜ work r (now (bridges .exit)) (now (links .exit)) (now (state .exit)) ≡ turned degree (now (rows .entry)) (vectorsIn dimension (now (vectors .entry))) (entry .0) n i (work count (now (bridges .entry)) (now (links .entry)) (now (state .entry))) ⌝ }
+    ensures { λ r. ⌜ work r (now (bridges .exit)) (now (links .exit)) (now (state .exit))
+        ≡ turned shape (now (rows .entry)) (vectorsIn (shape .dimension) (now (vectors .entry))) (entry .0) i
+        (work count (now (bridges .entry)) (now (links .entry)) (now (state .entry))) ⌝ }
 {
     let mark = store::word_at(state, i as usize);
     if 0 < mark {
         return count;
     }
     let node = Node(i);
-    let near = candidates::bridge_start(
-        rows,
-        degree,
-        bridges,
-        links,
-        state,
-        n,
-        vectors,
-        dimension,
-        entry,
-        node,
-    );
+    let near = candidates::bridge_start(rows, bridges, links, state, vectors, shape, entry, node);
     put_bridge(bridges, count, near, node);
-    chains::chain_bridge(links, n, count, near, node);
-    marking::mark_reachable(rows, degree, bridges, links, state, n, node);
+    chains::chain_bridge(links, shape.n, count, near, node);
+    marking::mark_reachable(rows, bridges, links, state, shape, node);
     count + 1
 }
 

@@ -4,14 +4,19 @@
 // node has a chain: a lent slice holds its first link, its last link, and for each word of the bridges the
 // next link of the node that stands there. Appending a bridge and following a link cost a few steps each.
 //
+// A reader goes along a node's whole list with a `Cursor`: over the row's entries, then from link to link.
+//
 // Every function is total. On any content each link leads to a larger one, so that a reader's loop ends.
 //
 // specs/Chains    what is read from a link on, how a bridge is appended, and when chains are those of bridges
+// specs/Lists     a node's list, and what is left of it from a cursor on
 // proofs/Reading  the equations of a chain's reader: none, one more
+// proofs/Cursors  the equations of a list's reader: none left, one more
 // proofs/Laws     chains with one bridge more; what a reader finds is the other ends, in order
 ghost use mathlib.Core.Path.{_≡_};
 ghost use Prim.Native.Nat.{_-_, _<_, _^_};
 ghost use Rattle.lists.specs.Chains.{otherEndAt, firstLink, nextLink, clearedLinks, linkPlace, appendSlot, chainBridge};
+ghost use Rattle.lists.specs.Lists.{cursorAt, hasEntry, entryAt, nextCursor};
 use words::ids::Node;
 use words::slices;
 
@@ -67,6 +72,54 @@ pub fn other_end(bridges: &[u32], link: u32) -> Node
     let slot = before(link as usize);
     let bridge = (slot / 2) as u32;
     super::end_of(bridges, bridge, 1 - slot % 2)
+}
+
+// Where a reader of a node's list is: at an index of its row and, past the row, at a link.
+pub struct Cursor {
+    pub index: usize,
+    pub link: u32,
+}
+
+// The start of a node's list.
+pub fn list_start(links: &[u32], n: u32, node: Node) -> Cursor
+    ensures { λ r. ⌜ r ≡ cursorAt 0 (firstLink n (now (links .entry)) (node .0)) ⌝ }
+{
+    let link = first_link(links, n, node);
+    Cursor { index: 0, link }
+}
+
+// Whether the list has an entry at the cursor.
+pub fn has_entry(row: &[u32], at: Cursor) -> bool
+    ensures { λ r. ⌜ r ≡ hasEntry (now (row .entry)) at ⌝ }
+{
+    (at.index < row.len()) | (at.link != 0)
+}
+
+// The list's entry at the cursor.
+pub fn list_entry(row: &[u32], bridges: &[u32], at: Cursor) -> Node
+    ensures { λ r. ⌜ r .0 ≡ entryAt (now (row .entry)) (now (bridges .entry)) at ⌝ }
+{
+    let index = at.index;
+    if index < row.len() {
+        return Node(row[index]);
+    }
+    other_end(bridges, at.link)
+}
+
+// The cursor one entry further.
+pub fn list_next(row: &[u32], links: &[u32], n: u32, at: Cursor) -> Cursor
+    ensures { λ r. ⌜ r ≡ nextCursor n (now (row .entry)) (now (links .entry)) at ⌝ }
+{
+    let index = at.index;
+    let link = at.link;
+    if index < row.len() {
+        return Cursor {
+            index: index + 1,
+            link,
+        };
+    }
+    let next = next_link(links, n, link);
+    Cursor { index, link: next }
 }
 
 // A slot comes to the end of a node's chain.

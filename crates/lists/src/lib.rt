@@ -1,5 +1,5 @@
 // Lists of the graph, as words hold them (01, "Records"): rows of a count and D entries, one after the
-// other, and bridges of two words.
+// other, and bridges of two words. `Shape` has the sizes that readers of an index go by.
 //
 // One view of the words serves every reader: `ListView`, the slice and the stride, which is how many words a
 // row or a bridge takes. A struct that holds a slice is proved by hand, so what touches it is thin: `view`
@@ -24,6 +24,13 @@ ghost use lib.ListN.{getD};
 ghost use Rattle.store.specs.Layout.{word, bridgeSize};
 ghost use Rattle.lists.specs.Words.{blockAt, rowLists};
 use words::ids::Node;
+
+// The sizes of an index: n nodes, rows with room for `degree` entries, vectors of `dimension` floats.
+pub struct Shape {
+    pub n: u32,
+    pub degree: u16,
+    pub dimension: u32,
+}
 
 // Blocks of `stride` words each, one after the other: rows, or bridges.
 pub struct ListView<'a> {

@@ -15,34 +15,37 @@ use Rattle.distance.specs.Vectors.{vectorOf, between}
 use Rattle.def_walk.specs.Repair.{listsOf, withLists, candidatesFor, nearestReached}
 use Rattle.graph_utils.proofs.marking.Refining.{Marked}
 use Rattle.graph_utils.specs.declared.candidates.Nearest.{Nearest}
-use Rattle.graph_utils.specs.Candidates.{nearest, distanceFrom, considered, consideredAll, around, aroundAll, startOf}
+use Rattle.graph_utils.specs.Candidates.{Seeking, nearest, distanceFrom, considered, consideredAll, around, aroundAll, aroundList, startOf}
 use Rattle.graph_utils.proofs.candidates.Steps.{both-lists}
 
 -- ---- the nearest
 
 module _ (words : List ℕ) (n : ℕ) (reached : List ℕ) (marked : Marked n reached words) (vs : List (List Float)) (i : ℕ) where
-  -- node k with its distance
+  abbrev k : Seeking
+  k = record { marks = words; n = n; vs = vs; query = vectorOf vs i }
+
+  -- a node with its distance
   abbrev at : ℕ → Nearest
-  at k = nearest k (distanceFrom vs (vectorOf vs i) k)
+  at u = nearest u (distanceFrom k u)
 
-  choose : (h l : Bool) (c k : ℕ) → pick (false || not h) (at k) (pick l (at c) (at k)) ≡ at (pick (h && l) c k)
+  choose : (h l : Bool) (c u : ℕ) → pick (false || not h) (at u) (pick l (at c) (at u)) ≡ at (pick (h && l) c u)
   unfolding pick
-  choose true true c k = refl
-  choose true false c k = refl
-  choose false l c k = refl
+  choose true true c u = refl
+  choose true false c u = refl
+  choose false l c u = refl
 
-  one-refines : (c k : ℕ) → c < n → considered words n vs (vectorOf vs i) c (at k) ≡ at (pick (has c reached && lt (between vs i c) (between vs i k)) c k)
+  one-refines : (c u : ℕ) → c < n → considered k c (at u) ≡ at (pick (has c reached && lt (between vs i c) (between vs i u)) c u)
   unfolding considered between
-  one-refines c k h =
-      ap₂ (λ (x : Bool) (y : Bool). pick (x || y) (at k) (pick (lt (distanceFrom vs (vectorOf vs i) c) (distanceFrom vs (vectorOf vs i) k)) (at c) (at k))) (lt-leb n c h) (marked .told c h)
-      ∙ choose (has c reached) (lt (distanceFrom vs (vectorOf vs i) c) (distanceFrom vs (vectorOf vs i) k)) c k
+  one-refines c u h =
+      ap₂ (λ (x : Bool) (y : Bool). pick (x || y) (at u) (pick (lt (distanceFrom k c) (distanceFrom k u)) (at c) (at u))) (lt-leb n c h) (marked .told c h)
+      ∙ choose (has c reached) (lt (distanceFrom k c) (distanceFrom k u)) c u
 
-  all-refines : (cs : List ℕ) (k : ℕ) → Below n cs → consideredAll words n vs (vectorOf vs i) cs (at k) ≡ at (nearestReached vs reached i k cs)
+  all-refines : (cs : List ℕ) (u : ℕ) → Below n cs → consideredAll k cs (at u) ≡ at (nearestReached vs reached i u cs)
   unfolding consideredAll nearestReached
-  all-refines [] k b = refl
-  all-refines (c ∷ cs) k b =
-      ap (consideredAll words n vs (vectorOf vs i) cs) (one-refines c k (b c (here refl)))
-      ∙ all-refines cs (pick (has c reached && lt (between vs i c) (between vs i k)) c k) (λ x m. b x (there m))
+  all-refines [] u b = refl
+  all-refines (c ∷ cs) u b =
+      ap (consideredAll k cs) (one-refines c u (b c (here refl)))
+      ∙ all-refines cs (pick (has c reached && lt (between vs i c) (between vs i u)) c u) (λ x m. b x (there m))
 
 -- ---- the candidates
 
@@ -83,10 +86,10 @@ module _ (list list′ : ℕ → List ℕ) (n : ℕ) (alike : (u : ℕ) → u < 
       → startOf words n vs list′ entry i ≡ nearestReached vs reached i entry (candidatesFor list entry i)
   unfolding startOf candidatesFor
   start-refines words reached m vs entry i e h =
-      let q : List Float = vectorOf vs i in
-      let first : Nearest = nearest entry (distanceFrom vs q entry) in
-      let a : aroundAll false list′ (list′ i) ≡ listsOf list (list i) = ap (aroundAll false list′) (alike i h) ∙ around-lists (list i) (within i) in
-      let b : aroundAll true list′ (list′ entry) ≡ withLists list (list entry) = ap (aroundAll true list′) (alike entry e) ∙ around-with (list entry) (within entry) in
-      ap₂ (λ (x : List ℕ) (y : List ℕ). consideredAll words n vs q y (consideredAll words n vs q x first) .node .0) a b
-      ∙ ap (λ (z : Nearest). z .node .0) (both-lists words n vs q (listsOf list (list i)) (withLists list (list entry)) first
+      let k : Seeking = record { marks = words; n = n; vs = vs; query = vectorOf vs i } in
+      let first : Nearest = nearest entry (distanceFrom k entry) in
+      let a : aroundList false list′ i ≡ listsOf list (list i) = ap (aroundAll false list′) (alike i h) ∙ around-lists (list i) (within i) in
+      let b : aroundList true list′ entry ≡ withLists list (list entry) = ap (aroundAll true list′) (alike entry e) ∙ around-with (list entry) (within entry) in
+      ap₂ (λ (x : List ℕ) (y : List ℕ). consideredAll k y (consideredAll k x first) .node .0) a b
+      ∙ ap (λ (z : Nearest). z .node .0) (both-lists k (listsOf list (list i)) (withLists list (list entry)) first
       ∙ all-refines words n reached m vs i (listsOf list (list i) ++ withLists list (list entry)) entry (either (lists-below (list i)) (with-below (list entry) (within entry))))

@@ -45,9 +45,9 @@ returns-2 c =
     let a = start .args in
     let p = at-repair .repair in
     let n : ℕ = length (a .rows .now) / rowSize (a .degree) in
-    λ g. all-repaired (a .degree) (a .rows .now) (a .entry .0) (vectorsIn (a .dimension) (a .vectors .now)) (a .bridges .now) (a .words .now) g (replicate 2048 0)
+    λ g. all-repaired (a .degree) (a .dimension) (a .rows .now) (a .entry .0) (vectorsIn (a .dimension) (a .vectors .now)) (a .bridges .now) (a .words .now) g (replicate 2048 0)
     (none-marked (length (rowLists (a .degree) (a .rows .now))) (g .many)) n (sym (many-rows (a .degree) (a .rows .now)))
-    (work (p .result) (p .last .1 .1 .1 .1 .1 .0) (p .last .1 .1 .1 .1 .1 .1 .0) (p .last .1 .1 .1 .1 .1 .1 .1 .0)) (p .ensures)
+    (work (p .result) (p .last .1 .1 .1 .1 .0) (p .last .1 .1 .1 .1 .1 .0) (p .last .1 .1 .1 .1 .1 .1 .0)) (p .ensures)
 
 pub ensure-connectivity-spec : {M : Type 1} → statement M
 ensure-connectivity-spec =

@@ -11,15 +11,17 @@ use Rattle.graph_utils.proofs.repair.Statement.{statement}
 use Rattle.graph_utils.proofs.repair.Tie as tie
 
 abbrev Inv-loop : tie.InvT-loop
-Inv-loop rows degree vectors dimension entry bridges₀ links₀ state₀ n count₀ i₀ bridges links state count i = (i ≤ n) × (count ≤ i) × (length bridges ≡ length bridges₀) × (length links ≡ length links₀) × (length state ≡ length state₀) × (work count bridges links state ≡ turnedTo degree rows (vectorsIn dimension vectors) (entry .0) n (work 0 bridges₀ links₀ state₀) i)
+Inv-loop rows vectors shape entry bridges₀ links₀ state₀ n count₀ i₀ bridges links state count i =
+    (i ≤ n) × (count ≤ i) × (length bridges ≡ length bridges₀) × (length links ≡ length links₀) × (length state ≡ length state₀)
+    × (work count bridges links state ≡ turnedTo shape rows (vectorsIn (shape .dimension) vectors) (entry .0) (work 0 bridges₀ links₀ state₀) i)
 
 abbrev μ-loop : tie.MeasureT-loop
-μ-loop rows degree vectors dimension entry bridges₀ links₀ state₀ n count₀ i₀ bridges links state count i = n - i
+μ-loop rows vectors shape entry bridges₀ links₀ state₀ n count₀ i₀ bridges links state count i = n - i
 
 loop-holds : tie.Need-loop-holds Inv-loop μ-loop
 loop-holds c =
     let a = c .before .before .before .before .before .before .before .before .before .before .before .before .before .before .before .args in
-    (omega arith, omega arith, refl, refl, refl, no-turn (a .degree) (a .rows .now) (vectorsIn (a .dimension) (a .vectors .now)) (a .entry .0) (a .n) (work 0 _ _ _))
+    (omega arith, omega arith, refl, refl, refl, no-turn (a .shape) (a .rows .now) (vectorsIn (a .shape .dimension) (a .vectors .now)) (a .entry .0) (work 0 _ _ _))
 
 loop-again : tie.Need-loop-again Inv-loop μ-loop
 loop-again c =
@@ -27,11 +29,11 @@ loop-again c =
     let a = c .before .before .before .before .before .before .before .before .before .before .before .before .before .before .before .before .before .before .before .before .before .before .before .before .before .before .before .args in
     let t = c .before .before .before .before .before .before .turn in (
       omega arith,
-      omega (arith, ap (λ (w : Work). w .count) (t .ensures), turned-count (a .degree) (a .rows .now) (vectorsIn (a .dimension) (a .vectors .now)) (a .entry .0) (a .n) (l .i) (work (l .count) (l .bridges) (l .links) (l .state))),
-      t .kept .1 .1 .1 .1 .1 .0 ∙ l .inv .2,
-      t .kept .1 .1 .1 .1 .1 .1 .0 ∙ l .inv .3,
-      t .kept .1 .1 .1 .1 .1 .1 .1 .0 ∙ l .inv .4,
-      one-turn (a .degree) (a .rows .now) (vectorsIn (a .dimension) (a .vectors .now)) (a .entry .0) (a .n) _ (work (l .count) (l .bridges) (l .links) (l .state)) _ (l .i) (l .inv .5) (t .ensures),
+      omega (arith, ap (λ (w : Work). w .count) (t .ensures), turned-count (a .shape) (a .rows .now) (vectorsIn (a .shape .dimension) (a .vectors .now)) (a .entry .0) (l .i) (work (l .count) (l .bridges) (l .links) (l .state))),
+      t .kept .1 .1 .1 .1 .0 ∙ l .inv .2,
+      t .kept .1 .1 .1 .1 .1 .0 ∙ l .inv .3,
+      t .kept .1 .1 .1 .1 .1 .1 .0 ∙ l .inv .4,
+      one-turn (a .shape) (a .rows .now) (vectorsIn (a .shape .dimension) (a .vectors .now)) (a .entry .0) _ (work (l .count) (l .bridges) (l .links) (l .state)) _ (l .i) (l .inv .5) (t .ensures),
     )
 
 same-length : tie.Need-same-length Inv-loop μ-loop
@@ -43,17 +45,17 @@ same-length-2 c =
     c .before .loop .inv .3 ∙ at-clear-links .clear-links .kept .0
 
 same-length-3 : tie.Need-same-length-3 Inv-loop μ-loop
-same-length-3 c = c .before .loop .inv .4 ∙ c .before .before .before .before .mark-reachable .kept .1 .1 .1 .1 .0
+same-length-3 c = c .before .loop .inv .4 ∙ c .before .before .before .before .mark-reachable .kept .1 .1 .1 .0
 
 returns : tie.Need-returns Inv-loop μ-loop
 returns c =
     let l = c .before .loop in
     let a = c .before .before .before .before .before .before .before .before .before .before .before .before .before .before .before .before .before .args in
-    let e : l .i ≡ a .n = omega arith in
-    let first = begin-is (a .degree) (a .rows .now) (vectorsIn (a .dimension) (a .vectors .now)) (a .entry .0) (a .n) (a .bridges .now) (a .links .now) (a .state .now) (c .before .before .before .before .before .before .before .before .before .before .clear-links .last .0) (c .before .before .before .before .mark-reachable .last .1 .1 .1 .1 .0) (c .before .before .before .before .before .before .before .before .before .before .clear-links .ensures)
+    let e : l .i ≡ a .shape .n = omega arith in
+    let first = begin-is (a .shape) (a .rows .now) (vectorsIn (a .shape .dimension) (a .vectors .now)) (a .entry .0) (a .bridges .now) (a .links .now) (a .state .now) (c .before .before .before .before .before .before .before .before .before .before .clear-links .last .0) (c .before .before .before .before .mark-reachable .last .1 .1 .1 .0) (c .before .before .before .before .before .before .before .before .before .before .clear-links .ensures)
     (c .before .before .before .before .mark-reachable .ensures) in
-    l .inv .5 ∙ ap (λ (k : ℕ). turnedTo (a .degree) (a .rows .now) (vectorsIn (a .dimension) (a .vectors .now)) (a .entry .0) (a .n) (work 0 (a .bridges .now) (c .before .before .before .before .before .before .before .before .before .before .clear-links .last .0) (c .before .before .before .before .mark-reachable .last .1 .1 .1 .1 .0)) k) e
-    ∙ ap (λ (w : Work). turnedTo (a .degree) (a .rows .now) (vectorsIn (a .dimension) (a .vectors .now)) (a .entry .0) (a .n) w (a .n)) first
+    l .inv .5 ∙ ap (λ (k : ℕ). turnedTo (a .shape) (a .rows .now) (vectorsIn (a .shape .dimension) (a .vectors .now)) (a .entry .0) (work 0 (a .bridges .now) (c .before .before .before .before .before .before .before .before .before .before .clear-links .last .0) (c .before .before .before .before .mark-reachable .last .1 .1 .1 .0)) k) e
+    ∙ ap (λ (w : Work). turnedTo (a .shape) (a .rows .now) (vectorsIn (a .shape .dimension) (a .vectors .now)) (a .entry .0) w (a .shape .n)) first
 
 pub repair-spec : {M : Type 1} → statement M
 repair-spec =

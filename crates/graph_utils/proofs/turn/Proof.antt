@@ -9,7 +9,7 @@ returns : tie.Need-returns
 returns c =
     let a = c .before .before .before .before .before .before .before .before .args in
     let w = c .before .word-at in
-    turn-passed (a .degree) (a .rows .now) (vectorsIn (a .dimension) (a .vectors .now)) (a .entry .0) (a .n) (a .i) (a .count) (w .result) (a .bridges .now) (a .links .now) (a .state .now) (w .ensures) (c .if1 .taken)
+    turn-passed (a .shape) (a .rows .now) (vectorsIn (a .shape .dimension) (a .vectors .now)) (a .entry .0) (a .i) (a .count) (w .result) (a .bridges .now) (a .links .now) (a .state .now) (w .ensures) (c .if1 .taken)
 
 returns-2 : tie.Need-returns-2
 returns-2 c =
@@ -23,8 +23,8 @@ returns-2 c =
     let a = start .args in
     let w = at-word-at .word-at in
     let near = at-bridge-start .bridge-start in
-    turn-bridged (a .degree) (a .rows .now) (vectorsIn (a .dimension) (a .vectors .now)) (a .entry .0) (a .n) (a .i) (a .count) (w .result) (a .bridges .now) (a .links .now) (a .state .now) (w .ensures) (near .result .0) (at-put-bridge .put-bridge .last .0) (at-chain-bridge .chain-bridge .last .0)
-    (at-mark-reachable .mark-reachable .last .1 .1 .1 .1 .0) (at-if1 .if1 .left) (near .ensures) (at-put-bridge .put-bridge .ensures) (at-chain-bridge .chain-bridge .ensures) (at-mark-reachable .mark-reachable .ensures)
+    turn-bridged (a .shape) (a .rows .now) (vectorsIn (a .shape .dimension) (a .vectors .now)) (a .entry .0) (a .i) (a .count) (w .result) (a .bridges .now) (a .links .now) (a .state .now) (w .ensures) (near .result .0) (at-put-bridge .put-bridge .last .0) (at-chain-bridge .chain-bridge .last .0)
+    (at-mark-reachable .mark-reachable .last .1 .1 .1 .0) (at-if1 .if1 .left) (near .ensures) (at-put-bridge .put-bridge .ensures) (at-chain-bridge .chain-bridge .ensures) (at-mark-reachable .mark-reachable .ensures)
 
 pub turn-spec : {M : Type 1} → statement M
 turn-spec =

@@ -3,7 +3,7 @@ use mathlib.Core.Path.{ap, _∙_}
 use lib.Ieee.{binary32}
 use Rattle.distance.specs.Vectors.{vectorsIn}
 use Rattle.distance.specs.Distance.{distanceOf}
-use Rattle.graph_utils.specs.Marking.{listWords}
+use Rattle.lists.specs.Lists.{listWords}
 use Rattle.graph_utils.proofs.candidates.Steps.{start-is}
 use borrow.Author.Needs.{needs}
 use Rattle.graph_utils.proofs.candidates.bridge_start.Statement.{statement}
@@ -19,8 +19,11 @@ returns c =
     let a = start .args in
     let d = at-cosine-distance-normalized .cosine-distance-normalized in
     let query = at-get-vector .get-vector in
-    start-is (a .state .now) (a .n) (vectorsIn (a .dimension) (a .vectors .now)) (listWords (a .degree) (a .n) (a .rows .now) (a .bridges .now) (a .links .now)) (a .entry .0) (a .i .0) _ (d .result) (at-around-list .around-list .result) (c .before .around-list2 .result) (query .ensures)
-    (d .ensures ∙ ap (distanceOf binary32 _) (at-get-vector2 .get-vector2 .ensures)) (at-around-list .around-list .ensures) (c .before .around-list2 .ensures)
+    start-is (a .state .now) (a .shape .n) (vectorsIn (a .shape .dimension) (a .vectors .now))
+    (listWords (a .shape) (a .rows .now) (a .bridges .now) (a .links .now)) (a .entry .0) (a .i .0) _ (d .result)
+    (at-around-list .around-list .result) (c .before .around-list2 .result) (query .ensures)
+    (d .ensures ∙ ap (distanceOf binary32 _) (at-get-vector2 .get-vector2 .ensures)) (at-around-list .around-list .ensures)
+    (c .before .around-list2 .ensures)
 
 pub bridge-start-spec : {M : Type 1} → statement M
 bridge-start-spec =

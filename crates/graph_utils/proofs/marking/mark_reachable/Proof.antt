@@ -8,7 +8,8 @@ use lib.ListN.{length}
 use lib.Dec.{ltb}
 use borrow.Author.Tests.{ltb-true, ltb-false}
 use Rattle.basics.proofs.Tests.{both-true, one-false}
-use Rattle.graph_utils.specs.Marking.{Marks, marks, listWords, visited, markedFrom, marked}
+use Rattle.lists.specs.Lists.{listWords}
+use Rattle.graph_utils.specs.Marking.{Marks, marks, visited, markedFrom, marked}
 use Rattle.graph_utils.proofs.marking.Steps.{walk-step, walk-end, walk-end-fuel}
 use borrow.Author.Needs.{needs}
 use native.Mathlib.Omega.{arith}
@@ -16,10 +17,12 @@ use Rattle.graph_utils.proofs.marking.mark_reachable.Statement.{stateme
 use Rattle.graph_utils.proofs.marking.mark_reachable.Tie as tie
 
 abbrev Inv-loop : tie.InvT-loop
-Inv-loop rows degree bridges links state₀ n top₀ more₀ state top more = (length state ≡ length state₀) × (top < 2 ^ 32) × (markedFrom n (listWords degree n rows bridges links) more state top ≡ markedFrom n (listWords degree n rows bridges links) n state₀ top₀)
+Inv-loop rows bridges links state₀ shape n top₀ more₀ state top more =
+    (length state ≡ length state₀) × (top < 2 ^ 32)
+    × (markedFrom n (listWords shape rows bridges links) more state top ≡ markedFrom n (listWords shape rows bridges links) n state₀ top₀)
 
 abbrev μ-loop : tie.MeasureT-loop
-μ-loop rows degree bridges links state₀ n top₀ more₀ state top more = more
+μ-loop rows bridges links state₀ shape n top₀ more₀ state top more = more
 
 -- in a turn the stack has a node, and an expansion is left
 inside : (c : tie.In-loop Inv-loop μ-loop) → (0 < c .before .loop .top) × (0 < c .before .loop .more)
@@ -43,8 +46,8 @@ sub-top c = let t = inside c in omega arith
 sub-more : tie.Need-sub-more Inv-loop μ-loop
 sub-more c = let t = inside c in omega arith
 
-cast-word-at : tie.Need-cast-word-at Inv-loop μ-loop
-cast-word-at c = let t = inside (c .before) in omega arith
+cast-word-at-2 : tie.Need-cast-word-at-2 Inv-loop μ-loop
+cast-word-at-2 c = let t = inside (c .before) in omega arith
 
 add-word-at : tie.Need-add-word-at Inv-loop μ-loop
 add-word-at c = let t = inside (c .before) in omega arith
@@ -59,9 +62,9 @@ loop-again c =
     let t = inside (c .before .before .before .before .before .before) in
     let w = c .before .before .before .before .word-at in
     let v = c .before .before .visit-list in (
-      v .kept .1 .1 .1 .1 .0 ∙ l .inv .0,
+      v .kept .1 .1 .1 .0 ∙ l .inv .0,
       omega (arith, v .ok),
-      walk-step (a .n) (listWords (a .degree) (a .n) (a .rows .now) (a .bridges .now) (a .links .now)) (l .more) (l .top) (w .result) (l .state) (v .last .1 .1 .1 .1 .0) (v .result) (t .1) (t .0)
+      walk-step (a .shape .n) (listWords (a .shape) (a .rows .now) (a .bridges .now) (a .links .now)) (l .more) (l .top) (w .result) (l .state) (v .last .1 .1 .1 .0) (v .result) (t .1) (t .0)
           (w .ensures) (v .ensures)
           ∙ l .inv .2,
     )
@@ -75,10 +78,10 @@ returns c =
     let start-2 = at-visit .before .before .before .before .before .before in
     let l = c .before .loop in
     let a = start-2 .args in
-    let list : ℕ → List ℕ = listWords (a .degree) (a .n) (a .rows .now) (a .bridges .now) (a .links .now) in
-    ended list (a .n) (l .more) (l .top) (l .state) (one-false (ltb 0 (l .top)) (ltb 0 (l .more)) (c .loop-test .left))
+    let list : ℕ → List ℕ = listWords (a .shape) (a .rows .now) (a .bridges .now) (a .links .now) in
+    ended list (a .shape .n) (l .more) (l .top) (l .state) (one-false (ltb 0 (l .top)) (ltb 0 (l .more)) (c .loop-test .left))
     ∙ l .inv .2
-    ∙ start list (a .n) (a .start .0) (a .state .now) (at-visit .visit .last .0) (at-visit .visit .result) (at-visit .visit .ensures)
+    ∙ start list (a .shape .n) (a .start .0) (a .state .now) (at-visit .visit .last .0) (at-visit .visit .result) (at-visit .visit .ensures)
 
 pub mark-reachable-spec : {M : Type 1} → statement M
 mark-reachable-spec =
@@ -91,7 +94,9 @@ mark-reachable-spec =
     loop-holds
     sub-top
     sub-more
-    cast-word-at
+    -- n
+    (λ c. search needs)
+    cast-word-at-2
     add-word-at
     -- word_at, visit_list
     (λ c κs. search needs) (λ c κs. search needs)
