@@ -1,6 +1,6 @@
 -- Eight rows at once: each number is the single row's.
 use mathlib.Core.List.{List, [], _∷_, _++_}
-use Prim.Native.Nat.{ℕ, zero, suc, _+_, _*_, _/_}
+use Prim.Native.Nat.{ℕ, zero, suc, _+_, _-_, _*_, _/_, _%_, _≤_}
 use lib.ListN.{length, getD, drop}
 use lib.Ieee.{Float, binary32, nan, add, mul}
 use Rattle.basics.specs.Sum.{sumFrom, products}
@@ -22,6 +22,16 @@ eightOf number a b c d e f g h = record {
 
 abbrev pub dotsOf : List Float → List Float → List Float → List Float → List Float → List Float → List Float → List Float → List Float → Eight
 dotsOf q = eightOf (dotOf binary32 q)
+
+-- none of eight rows is shorter than the query
+abbrev pub NoneShorter : List Float → List Float → List Float → List Float → List Float → List Float → List Float → List Float → List Float → Type 0
+NoneShorter q a b c d e f g h =
+    (length q ≤ length a) × (length q ≤ length b) × (length q ≤ length c) × (length q ≤ length d)
+    × (length q ≤ length e) × (length q ≤ length f) × (length q ≤ length g) × (length q ≤ length h)
+
+-- how many components the whole fours of a query have
+abbrev pub fours : List Float → ℕ
+fours q = length q - length q % 4
 
 -- four products added to a sum, one after the other
 abbrev pub fourFrom : Float → Float → Float → Float → Float → List Float → ℕ → Float

@@ -11,7 +11,7 @@ ghost use Prim.Native.Nat.{_+_, _/_, _≤_};
 ghost use lib.ListN.{length};
 ghost use lib.Ieee.{binary32};
 ghost use Rattle.simd.specs.Dot.{dotOf};
-ghost use Rattle.simd.specs.Eight.{dotsOf, fourFrom, sumsFrom, blockDotsOf};
+ghost use Rattle.simd.specs.Eight.{NoneShorter, dotsOf, fourFrom, fours, sumsFrom, blockDotsOf};
 
 pub fn dot(a: &[f32], b: &[f32]) -> f32
     ensures { λ r. ⌜ r ≡ dotOf binary32 (now (a .entry)) (now (b .entry)) ⌝ }
@@ -61,7 +61,8 @@ pub fn dot8(
     g: &[f32],
     h: &[f32],
 ) -> Eight
-    ensures { λ r. ⌜ r ≡ dotsOf (now (q .entry)) (now (a .entry)) (now (b .entry)) (now (c .entry)) (now (d .entry)) (now (e .entry)) (now (f .entry)) (now (g .entry)) (now (h .entry)) ⌝ }
+    ensures { λ r. ⌜ r ≡ dotsOf (now (q .entry)) (now (a .entry)) (now (b .entry)) (now (c .entry)) (now (d .entry))
+        (now (e .entry)) (now (f .entry)) (now (g .entry)) (now (h .entry)) ⌝ }
 {
     let n = q.len();
     if (n <= a.len())
@@ -100,8 +101,9 @@ fn dot8_within(
     g: &[f32],
     h: &[f32],
 ) -> Eight
-    requires { ⌜ (length (now q) ≤ length (now a)) × (length (now q) ≤ length (now b)) × (length (now q) ≤ length (now c)) × (length (now q) ≤ length (now d)) × (length (now q) ≤ length (now e)) × (length (now q) ≤ length (now f)) × (length (now q) ≤ length (now g)) × (length (now q) ≤ length (now h)) ⌝ }
-    ensures { λ r. ⌜ r ≡ dotsOf (now (q .entry)) (now (a .entry)) (now (b .entry)) (now (c .entry)) (now (d .entry)) (now (e .entry)) (now (f .entry)) (now (g .entry)) (now (h .entry)) ⌝ }
+    requires { ⌜ NoneShorter (now q) (now a) (now b) (now c) (now d) (now e) (now f) (now g) (now h) ⌝ }
+    ensures { λ r. ⌜ r ≡ dotsOf (now (q .entry)) (now (a .entry)) (now (b .entry)) (now (c .entry)) (now (d .entry))
+        (now (e .entry)) (now (f .entry)) (now (g .entry)) (now (h .entry)) ⌝ }
 {
     let mut sum_a: f32 = 0.0;
     let mut sum_b: f32 = 0.0;
@@ -138,7 +140,7 @@ fn dot8_within(
         g: sum_g,
         h: sum_h,
     };
-    dot8_rest(q, a, b, c, d, e, f, g, h, i, sums)
+    dot8_rest(q, a, b, c, d, e, f, g, h, sums)
 }
 
 // Four products added to a sum, one after the other: those of a row's components from i on.
@@ -149,7 +151,7 @@ fn add_four(sum: f32, x: f32, y: f32, z: f32, w: f32, row: &[f32], i: usize) -> 
     sum + x * row[i] + y * row[i + 1] + z * row[i + 2] + w * row[i + 3]
 }
 
-// The components from `from` on, added to what the sums are before.
+// The last components, fewer than four, added to what the sums are before.
 fn dot8_rest(
     q: &[f32],
     a: &[f32],
@@ -160,12 +162,12 @@ fn dot8_rest(
     f: &[f32],
     g: &[f32],
     h: &[f32],
-    from: usize,
     sums: Eight,
 ) -> Eight
-    requires { ⌜ (length (now q) ≤ length (now a)) × (length (now q) ≤ length (now b)) × (length (now q) ≤ length (now c)) × (length (now q) ≤ length (now d)) × (length (now q) ≤ length (now e)) × (length (now q) ≤ length (now f)) × (length (now q) ≤ length (now g)) × (length (now q) ≤ length (now h)) ⌝ }
-    requires { ⌜ from ≤ length (now q) ⌝ }
-    ensures { λ r. ⌜ r ≡ sumsFrom from sums (now (q .entry)) (now (a .entry)) (now (b .entry)) (now (c .entry)) (now (d .entry)) (now (e .entry)) (now (f .entry)) (now (g .entry)) (now (h .entry)) ⌝ }
+    requires { ⌜ NoneShorter (now q) (now a) (now b) (now c) (now d) (now e) (now f) (now g) (now h) ⌝ }
+    ensures { λ r. ⌜ r ≡ sumsFrom (fours (now (q .entry))) sums
+        (now (q .entry)) (now (a .entry)) (now (b .entry)) (now (c .entry)) (now (d .entry))
+        (now (e .entry)) (now (f .entry)) (now (g .entry)) (now (h .entry)) ⌝ }
 {
     let mut sum_a = sums.a;
     let mut sum_b = sums.b;
@@ -175,7 +177,7 @@ fn dot8_rest(
     let mut sum_f = sums.f;
     let mut sum_g = sums.g;
     let mut sum_h = sums.h;
-    let mut i = from;
+    let mut i = q.len() - q.len() % 4;
     while i < q.len() {
         let x = q[i];
         sum_a = sum_a + x * a[i];

@@ -3,20 +3,28 @@
 use borrow.Author.Needs.{needs}
 use native.Mathlib.Omega.{arith}
 use mathlib.Core.Path.{refl}
+use mathlib.Core.List.{List}
 use Prim.Native.Nat.{_-_, _≤_, _<_}
 use lib.ListN.{length, drop}
-use lib.Ieee.{binary32}
+use lib.Ieee.{Float, binary32}
 use Rattle.basics.specs.Sum.{sumFrom, products}
+use Rattle.simd.specs.Eight.{fours}
 use Rattle.simd.proofs.Left.{Rest, left-step, left-end}
 use Rattle.simd.proofs.dot8_rest.Statement.{statement}
 use Rattle.simd.proofs.dot8_rest.Tie as tie
 
+-- the sum that a row's last components make of what its sum was before
+abbrev last : List Float → List Float → Float → Float
+last q row sum = sumFrom binary32 sum (products binary32 (drop (fours q) q) (drop (fours q) row))
+
 abbrev Inv-loop : tie.InvT-loop
-Inv-loop q a b c d e f g h from sum-a₀ sum-b₀ sum-c₀ sum-d₀ sum-e₀ sum-f₀ sum-g₀ sum-h₀ i₀ sum-a sum-b sum-c sum-d sum-e sum-f sum-g sum-h i =
-    (i ≤ length q) × Rest q a sum-a i (sumFrom binary32 sum-a₀ (products binary32 (drop from q) (drop from a))) × Rest q b sum-b i (sumFrom binary32 sum-b₀ (products binary32 (drop from q) (drop from b))) × Rest q c sum-c i (sumFrom binary32 sum-c₀ (products binary32 (drop from q) (drop from c))) × Rest q d sum-d i (sumFrom binary32 sum-d₀ (products binary32 (drop from q) (drop from d))) × Rest q e sum-e i (sumFrom binary32 sum-e₀ (products binary32 (drop from q) (drop from e))) × Rest q f sum-f i (sumFrom binary32 sum-f₀ (products binary32 (drop from q) (drop from f))) × Rest q g sum-g i (sumFrom binary32 sum-g₀ (products binary32 (drop from q) (drop from g))) × Rest q h sum-h i (sumFrom binary32 sum-h₀ (products binary32 (drop from q) (drop from h)))
+Inv-loop q a b c d e f g h sum-a₀ sum-b₀ sum-c₀ sum-d₀ sum-e₀ sum-f₀ sum-g₀ sum-h₀ i₀ sum-a sum-b sum-c sum-d sum-e sum-f sum-g sum-h i =
+    (i ≤ length q) × Rest q a sum-a i (last q a sum-a₀) × Rest q b sum-b i (last q b sum-b₀) × Rest q c sum-c i (last q c sum-c₀)
+    × Rest q d sum-d i (last q d sum-d₀) × Rest q e sum-e i (last q e sum-e₀) × Rest q f sum-f i (last q f sum-f₀)
+    × Rest q g sum-g i (last q g sum-g₀) × Rest q h sum-h i (last q h sum-h₀)
 
 abbrev μ-loop : tie.MeasureT-loop
-μ-loop q a b c d e f g h from sum-a₀ sum-b₀ sum-c₀ sum-d₀ sum-e₀ sum-f₀ sum-g₀ sum-h₀ i₀ sum-a sum-b sum-c sum-d sum-e sum-f sum-g sum-h i =
+μ-loop q a b c d e f g h sum-a₀ sum-b₀ sum-c₀ sum-d₀ sum-e₀ sum-f₀ sum-g₀ sum-h₀ i₀ sum-a sum-b sum-c sum-d sum-e sum-f sum-g sum-h i =
     length q - i
 
 loop-holds : tie.Need-loop-holds Inv-loop μ-loop
@@ -29,14 +37,14 @@ loop-again c =
     let l = at .loop in
     let h : l .i < length (x .q .now) = omega arith in (
       omega arith,
-      left-step (x .q .now) (x .a .now) (l .sum-a) (l .i) h (at .before .pre .0 .0) (l .inv .1),
-      left-step (x .q .now) (x .b .now) (l .sum-b) (l .i) h (at .before .pre .0 .1) (l .inv .2),
-      left-step (x .q .now) (x .c .now) (l .sum-c) (l .i) h (at .before .pre .0 .2) (l .inv .3),
-      left-step (x .q .now) (x .d .now) (l .sum-d) (l .i) h (at .before .pre .0 .3) (l .inv .4),
-      left-step (x .q .now) (x .e .now) (l .sum-e) (l .i) h (at .before .pre .0 .4) (l .inv .5),
-      left-step (x .q .now) (x .f .now) (l .sum-f) (l .i) h (at .before .pre .0 .5) (l .inv .6),
-      left-step (x .q .now) (x .g .now) (l .sum-g) (l .i) h (at .before .pre .0 .6) (l .inv .7),
-      left-step (x .q .now) (x .h .now) (l .sum-h) (l .i) h (at .before .pre .0 .7) (l .inv .8),
+      left-step (x .q .now) (x .a .now) (l .sum-a) (l .i) h (at .before .pre .0) (l .inv .1),
+      left-step (x .q .now) (x .b .now) (l .sum-b) (l .i) h (at .before .pre .1) (l .inv .2),
+      left-step (x .q .now) (x .c .now) (l .sum-c) (l .i) h (at .before .pre .2) (l .inv .3),
+      left-step (x .q .now) (x .d .now) (l .sum-d) (l .i) h (at .before .pre .3) (l .inv .4),
+      left-step (x .q .now) (x .e .now) (l .sum-e) (l .i) h (at .before .pre .4) (l .inv .5),
+      left-step (x .q .now) (x .f .now) (l .sum-f) (l .i) h (at .before .pre .5) (l .inv .6),
+      left-step (x .q .now) (x .g .now) (l .sum-g) (l .i) h (at .before .pre .6) (l .inv .7),
+      left-step (x .q .now) (x .h .now) (l .sum-h) (l .i) h (at .before .pre .7) (l .inv .8),
     )
 
 returns : tie.Need-returns Inv-loop μ-loop
@@ -61,6 +69,8 @@ dot8-rest-spec =
     (tie.spec
     Inv-loop
     μ-loop
+    -- i
+    (λ c. search needs)
     loop-holds
     -- x, sum_a, sum_b, sum_c, sum_d, sum_e
     (λ c. search needs) (λ c. search needs) (λ c. search needs) (λ c. search needs) (λ c. search needs) (λ c. search needs) (λ c. search needs)

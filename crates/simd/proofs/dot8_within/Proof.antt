@@ -1,17 +1,19 @@
 -- The invariant: of each of the eight sums, what is left from it on is the whole dot. The measure is what is left of the query. Assumes nothing.
 use borrow.Author.Needs.{needs}
 use native.Mathlib.Omega.{arith}
-use mathlib.Core.Path.{_∙_, sym, subst}
-use Prim.Native.Nat.{_+_, _-_, _≤_}
+use mathlib.Core.Path.{_≡_, refl, sym, subst, _∙_}
+use Prim.Native.Nat.{_+_, _-_, _%_, _≤_}
 use lib.ListN.{length}
 use lib.Ieee.{Float, ofBits}
+use Rattle.simd.specs.Eight.{fours}
 use Rattle.simd.proofs.Left.{Left, left-start, left-four}
 use Rattle.simd.proofs.dot8_within.Statement.{statement}
 use Rattle.simd.proofs.dot8_within.Tie as tie
 
 abbrev Inv-loop : tie.InvT-loop
 Inv-loop q a b c d e f g h sum-a₀ sum-b₀ sum-c₀ sum-d₀ sum-e₀ sum-f₀ sum-g₀ sum-h₀ i₀ sum-a sum-b sum-c sum-d sum-e sum-f sum-g sum-h i =
-    (i ≤ length q) × Left q a sum-a i × Left q b sum-b i × Left q c sum-c i × Left q d sum-d i × Left q e sum-e i × Left q f sum-f i × Left q g sum-g i × Left q h sum-h i
+    (i ≤ length q) × Left q a sum-a i × Left q b sum-b i × Left q c sum-c i × Left q d sum-d i
+    × Left q e sum-e i × Left q f sum-f i × Left q g sum-g i × Left q h sum-h i × (i % 4 ≡ 0)
 
 abbrev μ-loop : tie.MeasureT-loop
 μ-loop q a b c d e f g h sum-a₀ sum-b₀ sum-c₀ sum-d₀ sum-e₀ sum-f₀ sum-g₀ sum-h₀ i₀ sum-a sum-b sum-c sum-d sum-e sum-f sum-g sum-h i =
@@ -25,7 +27,7 @@ loop-holds : tie.Need-loop-holds Inv-loop μ-loop
 unfolding ofBits
 loop-holds c =
     let x = c .before .before .before .before .before .before .before .before .before .args in
-    (omega arith, left-start (x .q .now) (x .a .now), left-start (x .q .now) (x .b .now), left-start (x .q .now) (x .c .now), left-start (x .q .now) (x .d .now), left-start (x .q .now) (x .e .now), left-start (x .q .now) (x .f .now), left-start (x .q .now) (x .g .now), left-start (x .q .now) (x .h .now))
+    (omega arith, left-start (x .q .now) (x .a .now), left-start (x .q .now) (x .b .now), left-start (x .q .now) (x .c .now), left-start (x .q .now) (x .d .now), left-start (x .q .now) (x .e .now), left-start (x .q .now) (x .f .now), left-start (x .q .now) (x .g .now), left-start (x .q .now) (x .h .now), refl)
 
 add-four-requires : tie.Need-add-four-requires Inv-loop μ-loop
 add-four-requires c κs = omega (arith, more (c .before .before .before .before), c .before .before .before .before .before .before .before .before .before .before .before .before .before .before .before .pre .0)
@@ -78,20 +80,23 @@ loop-again c =
       subst (λ (s : Float). Left (x .q .now) (x .f .now) s (l .i + 4)) (sym (at-add-four6 .add-four6 .ensures)) (left-four (x .q .now) (x .f .now) (l .sum-f) (l .i) h (start .pre .5) (l .inv .6)),
       subst (λ (s : Float). Left (x .q .now) (x .g .now) s (l .i + 4)) (sym (c .before .add-four7 .ensures)) (left-four (x .q .now) (x .g .now) (l .sum-g) (l .i) h (start .pre .6) (l .inv .7)),
       subst (λ (s : Float). Left (x .q .now) (x .h .now) s (l .i + 4)) (sym (c .add-four8 .ensures)) (left-four (x .q .now) (x .h .now) (l .sum-h) (l .i) h (start .pre .7) (l .inv .8)),
+      omega (arith, l .inv .9),
     )
 
 returns : tie.Need-returns Inv-loop μ-loop
 returns c =
     let l = c .before .before .loop in
+    let x = c .before .before .before .before .before .before .before .before .before .before .before .before .args in
+    let e : l .i ≡ fours (x .q .now) = omega (arith, c .before .loop-test .left, l .inv .0, l .inv .9) in
     c .dot8-rest .ensures ∙ (λ i. record {
-      a = l .inv .1 i;
-      b = l .inv .2 i;
-      c = l .inv .3 i;
-      d = l .inv .4 i;
-      e = l .inv .5 i;
-      f = l .inv .6 i;
-      g = l .inv .7 i;
-      h = l .inv .8 i;
+      a = subst (Left (x .q .now) (x .a .now) (l .sum-a)) e (l .inv .1) i;
+      b = subst (Left (x .q .now) (x .b .now) (l .sum-b)) e (l .inv .2) i;
+      c = subst (Left (x .q .now) (x .c .now) (l .sum-c)) e (l .inv .3) i;
+      d = subst (Left (x .q .now) (x .d .now) (l .sum-d)) e (l .inv .4) i;
+      e = subst (Left (x .q .now) (x .e .now) (l .sum-e)) e (l .inv .5) i;
+      f = subst (Left (x .q .now) (x .f .now) (l .sum-f)) e (l .inv .6) i;
+      g = subst (Left (x .q .now) (x .g .now) (l .sum-g)) e (l .inv .7) i;
+      h = subst (Left (x .q .now) (x .h .now) (l .sum-h)) e (l .inv .8) i;
     })
 
 pub dot8-within-spec : {M : Type 1} → statement M
