@@ -25,7 +25,8 @@ pub fn candidates_at(
     candidates: &mut [u32],
     far: &mut [f32],
 ) -> usize
-    ensures { λ r. ⌜ Candidates (now (leaf .entry)) (now (floats .entry)) lane i degree (length (now (candidates .entry))) (length (now (far .entry))) r (now (candidates .exit)) (now (far .exit)) ⌝ }
+    ensures { λ r. ⌜ Candidates (now (leaf .entry)) (now (floats .entry)) lane i degree
+        (length (now (candidates .entry))) (length (now (far .entry))) r (now (candidates .exit)) (now (far .exit)) ⌝ }
 {
     if leaf.len() <= i {
         return 0;
@@ -61,7 +62,8 @@ fn candidates_within(
     far: &mut [f32],
 ) -> usize
     requires { ⌜ LaneFits (now leaf) (now floats) lane i degree (length (now candidates)) (length (now far)) ⌝ }
-    ensures { λ r. ⌜ Candidates (now (leaf .entry)) (now (floats .entry)) lane i degree (length (now (candidates .entry))) (length (now (far .entry))) r (now (candidates .exit)) (now (far .exit)) ⌝ }
+    ensures { λ r. ⌜ Candidates (now (leaf .entry)) (now (floats .entry)) lane i degree
+        (length (now (candidates .entry))) (length (now (far .entry))) r (now (candidates .exit)) (now (far .exit)) ⌝ }
 {
     let mut keys = [0u32; 64];
     let mut places = [0u32; 64];
@@ -105,7 +107,8 @@ fn offer(
     held: usize,
 ) -> usize
     requires { ⌜ LanesSized lane to (now floats) × (from ≤ to) ⌝ }
-    ensures { λ r. ⌜ Offered (now (floats .entry)) lane from (to - from) (now (keys .entry)) (now (places .entry)) held (now (keys .exit)) (now (places .exit)) r ⌝ }
+    ensures { λ r. ⌜ Offered (now (floats .entry)) lane from (to - from) (now (keys .entry)) (now (places .entry)) held
+        (now (keys .exit)) (now (places .exit)) r ⌝ }
 {
     let mut kept = held;
     let mut j = from;
@@ -128,7 +131,8 @@ fn gather(
 )
     requires { ⌜ LanesSized lane (length (now leaf)) (now floats) × Below (length (now leaf)) (now places)
         × (length (now places) ≤ length (now candidates)) × (length (now places) ≤ length (now far)) ⌝ }
-    ensures { λ _. ⌜ NodesAt (now (leaf .entry)) (now (floats .entry)) lane (now (places .entry)) (now (candidates .entry)) (now (far .entry)) (now (candidates .exit)) (now (far .exit)) ⌝ }
+    ensures { λ _. ⌜ NodesAt (now (leaf .entry)) (now (floats .entry)) lane (now (places .entry))
+        (now (candidates .entry)) (now (far .entry)) (now (candidates .exit)) (now (far .exit)) ⌝ }
 {
     let mut c: usize = 0;
     while c < places.len() {

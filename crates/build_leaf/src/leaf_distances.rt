@@ -78,7 +78,8 @@ fn put_lane(block: &mut [f32], lane: usize, v: &[f32])
 // The distances of every place of the leaf to the rows of the block.
 fn distance_rows(vectors: &[f32], dimension: u32, leaf: &[u32], block: &[f32], floats: &mut [f32])
     requires { ⌜ 8 * length (now leaf) ≤ length (now floats) ⌝ }
-    ensures { λ _. ⌜ LanesFilled (vectorsIn dimension (now (vectors .entry))) (now (leaf .entry)) (now (block .entry)) (length (now (leaf .entry))) (now (floats .exit)) ⌝ }
+    ensures { λ _. ⌜ LanesFilled (vectorsIn dimension (now (vectors .entry))) (now (leaf .entry)) (now (block .entry))
+        (length (now (leaf .entry))) (now (floats .exit)) ⌝ }
 {
     let mut at: usize = 0;
     let mut j: usize = 0;

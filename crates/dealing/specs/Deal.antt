@@ -5,7 +5,9 @@ use Prim.Native.Nat.{ℕ, _*_, _≤_}
 use lib.ListN.{length}
 use lib.Ieee.{Float}
 use Rattle.def_graph.specs.Partition.{fanout, bucketsOf}
+use Rattle.distance.specs.Vectors.{vectorsIn}
 use Rattle.dealing.specs.Marks.{marksOf}
+use Rattle.dealing.specs.declared.DealParams.{DealParams}
 
 -- the level deals a segment of two nodes or more; there is room for each node as often as it goes to a leader, and for a card of each
 pub record Fitting (level : ℕ) (ids nodes marks : List ℕ) (room cards : ℕ) : Type 0 where
@@ -25,3 +27,7 @@ Holding buckets nodes marks = (nodes ≡ flatten buckets) × (marks ≡ marksOf 
 pub record Deals (minLeaf : ℕ) (fraction : Float) (vs : List (List Float)) (level : ℕ) (ids nodes marks : List ℕ) (room cards : ℕ) (nodes′ marks′ : List ℕ) : Type 0 where
   pub dealt : Fitting level ids nodes marks room cards → Holding (bucketsOf minLeaf fraction vs level ids) nodes′ marks′
   pub kept : (Fitting level ids nodes marks room cards → ⊥) → (nodes′ ≡ nodes) × (marks′ ≡ marks)
+
+-- the buckets of a segment of nodes whose vectors stand in a slice
+abbrev pub bucketsFor : DealParams → List Float → ℕ → List ℕ → List (List ℕ)
+bucketsFor p vectors level ids = bucketsOf (p .«min_leaf») (p .«leader_fraction») (vectorsIn (p .dimension) vectors) level ids

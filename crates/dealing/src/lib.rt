@@ -15,10 +15,10 @@ ghost use lib.ListN.{length, getD, take, drop, set};
 ghost use Rattle.basics.specs.Choice.{pick};
 ghost use Rattle.distance.specs.Vectors.{vectorsIn, rank};
 ghost use Rattle.random.specs.Leaders.{drawn, drawStart, upTo};
-ghost use Rattle.def_graph.specs.Partition.{fanout, nearestLeaders, gathered, gatherAll, bucketsOf};
+ghost use Rattle.def_graph.specs.Partition.{fanout, nearestLeaders, gathered, gatherAll};
 ghost use Rattle.dealing.specs.Marks.{run, marksOf};
 ghost use Rattle.dealing.specs.Cards.{cardOf, names, bucketAt, bucketsBy};
-ghost use Rattle.dealing.specs.Deal.{Fitting, Holding, Deals};
+ghost use Rattle.dealing.specs.Deal.{Fitting, Holding, Deals, bucketsFor};
 ghost use Rattle.dealing.specs.Steps.{Holds, Gathers, Roomy, Dealt, noneYet};
 use distance::order;
 use distance::vectors;
@@ -106,7 +106,7 @@ fn deal_all(
 )
     requires { ⌜ fan ≡ fanout level ⌝ }
     requires { ⌜ Fitting level (now ids) (now nodes) (now marks) (length (now room)) (length (now cards)) ⌝ }
-    ensures { λ _. ⌜ Holding (bucketsOf (p .«min_leaf») (p .«leader_fraction») (vectorsIn (p .dimension) (now (vectors .entry))) level (now (ids .entry))) (now (nodes .exit)) (now (marks .exit)) ⌝ }
+    ensures { λ _. ⌜ Holding (bucketsFor p (now (vectors .entry)) level (now (ids .entry))) (now (nodes .exit)) (now (marks .exit)) ⌝ }
 {
     let count = leaders::leader_count(ids.len() as u32, p.leader_fraction);
     let k = count as usize;
@@ -132,7 +132,8 @@ fn nodes_at(ids: &[u32], positions: &mut [u32])
 // draws.
 fn draw(level: u32, ids: &[u32], left: &mut [u32], leaders: &mut [u32])
     requires { ⌜ (length (now ids) ≤ 2048) × (length (now ids) ≤ length (now left)) × (length (now leaders) ≤ length (now ids)) ⌝ }
-    ensures { λ _. ⌜ now (leaders .exit) ≡ map (λ (p : ℕ). getD (now (ids .entry)) p 0) (drawn (length (now (leaders .entry))) (drawStart level) (upTo (length (now (ids .entry))))) ⌝ }
+    ensures { λ _. ⌜ now (leaders .exit)
+        ≡ map (λ (p : ℕ). getD (now (ids .entry)) p 0) (drawn (length (now (leaders .entry))) (drawStart level) (upTo (length (now (ids .entry))))) ⌝ }
 {
     let n = ids.len() as u32;
     leaders::draw_leaders(level, n, left, leaders);
@@ -198,7 +199,8 @@ fn assign(
     cards: &mut [u32],
 )
     requires { ⌜ (length (now leaders) ≤ 2048) × (1 ≤ fan) × (fan ≤ 2) × (fan ≤ length (now leaders)) × (length (now cards) ≡ length (now ids)) ⌝ }
-    ensures { λ _. ⌜ now (cards .exit) ≡ map (λ (id : ℕ). cardOf (nearestLeaders (vectorsIn dimension (now (vectors .entry))) fan (now (leaders .entry)) id)) (now (ids .entry)) ⌝ }
+    ensures { λ _. ⌜ now (cards .exit)
+        ≡ map (λ (id : ℕ). cardOf (nearestLeaders (vectorsIn dimension (now (vectors .entry))) fan (now (leaders .entry)) id)) (now (ids .entry)) ⌝ }
 {
     let mut i: usize = 0;
     while i < ids.len() {
@@ -256,8 +258,10 @@ pub fn mark(marks: &mut [u32], first: u32)
 // Puts a bucket behind the first `at` nodes.
 fn place(bucket: &[u32], nodes: &mut [u32], marks: &mut [u32], at: usize)
     requires { ⌜ (at + length (now bucket) ≤ length (now nodes)) × (length (now marks) ≡ length (now nodes)) ⌝ }
-    ensures { λ _. ⌜ (now (nodes .exit) ≡ take at (now (nodes .entry)) ++ (now (bucket .entry) ++ drop (at + length (now (bucket .entry))) (now (nodes .entry))))
-        × (now (marks .exit) ≡ take at (now (marks .entry)) ++ (run 1 (length (now (bucket .entry))) ++ drop (at + length (now (bucket .entry))) (now (marks .entry)))) ⌝ }
+    ensures { λ _. ⌜ (now (nodes .exit)
+        ≡ take at (now (nodes .entry)) ++ (now (bucket .entry) ++ drop (at + length (now (bucket .entry))) (now (nodes .entry))))
+        × (now (marks .exit)
+        ≡ take at (now (marks .entry)) ++ (run 1 (length (now (bucket .entry))) ++ drop (at + length (now (bucket .entry))) (now (marks .entry)))) ⌝ }
 {
     let end = at + bucket.len();
     slices::copy_words(&mut nodes[at..end], bucket);

@@ -32,7 +32,8 @@ pub fn cosine_distance_normalized8(
     g: &[f32],
     h: &[f32],
 ) -> Eight
-    ensures { λ r. ⌜ r ≡ distancesOf (now (q .entry)) (now (a .entry)) (now (b .entry)) (now (c .entry)) (now (d .entry)) (now (e .entry)) (now (f .entry)) (now (g .entry)) (now (h .entry)) ⌝ }
+    ensures { λ r. ⌜ r ≡ distancesOf (now (q .entry)) (now (a .entry)) (now (b .entry)) (now (c .entry)) (now (d .entry))
+        (now (e .entry)) (now (f .entry)) (now (g .entry)) (now (h .entry)) ⌝ }
 {
     let n = q.len();
     if (n == a.len())

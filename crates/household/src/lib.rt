@@ -43,7 +43,8 @@ fn day_of(second: u64) -> u64
 // are. Each is stored at the next free place, which moves on only past one of that day.
 fn gather(day: u64, seconds: &[u64], docs: &[u32], today: &mut [u32]) -> usize
     requires { ⌜ (length (now seconds) ≡ length (now docs)) × (length (now docs) ≤ length (now today)) ⌝ }
-    ensures { λ r. ⌜ (take r (now (today .exit)) ≡ docsOn day (now (seconds .entry)) (now (docs .entry))) × (r ≤ length (now (docs .entry))) × (length (now (today .exit)) ≡ length (now (today .entry))) ⌝ }
+    ensures { λ r. ⌜ (take r (now (today .exit)) ≡ docsOn day (now (seconds .entry)) (now (docs .entry)))
+        × (r ≤ length (now (docs .entry))) × (length (now (today .exit)) ≡ length (now (today .entry))) ⌝ }
 {
     let mut sighted: usize = 0;
     let mut i: usize = 0;

@@ -3,7 +3,7 @@
 // that they call.
 pub mod measured_stores;
 
-ghost use Prim.Native.Nat.{_+_, _≤_};
+ghost use Prim.Native.Nat.{_+_, _*_, _≤_};
 ghost use lib.ListN.{length};
 use norm::root;
 use simd::Eight;
@@ -45,7 +45,7 @@ pub extern "C" fn measured_eight(q: &[f32], rows: &[f32], out: &mut [f32]) -> us
 }
 
 fn put_eight(q: &[f32], rows: &[f32], at: usize, out: &mut [f32])
-    requires { ⌜ at + (length (now q) + length (now q) + length (now q) + length (now q) + length (now q) + length (now q) + length (now q) + length (now q)) ≤ length (now rows) ⌝ }
+    requires { ⌜ at + 8 * length (now q) ≤ length (now rows) ⌝ }
 {
     let d = q.len();
     let second = at + d;

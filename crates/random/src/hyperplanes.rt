@@ -1041,7 +1041,8 @@ const PLANES: [u32; 1024] = [
 
 // The first numbers of the stream at the front of `out`: as many as it has room for, 1,024 at most.
 pub fn planes_into(out: &mut [f32])
-    ensures { λ _. ⌜ now (out .exit) ≡ planeNumbers binary32 (min (length (now (out .entry))) 1024) ++ drop (min (length (now (out .entry))) 1024) (now (out .entry)) ⌝ }
+    ensures { λ _. ⌜ now (out .exit)
+        ≡ planeNumbers binary32 (min (length (now (out .entry))) 1024) ++ drop (min (length (now (out .entry))) 1024) (now (out .entry)) ⌝ }
 {
     let table = PLANES;
     let n = slices::lesser(out.len(), 1024);

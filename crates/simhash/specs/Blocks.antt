@@ -3,11 +3,19 @@ use mathlib.Core.Bool.{Bool, _&&_}
 use mathlib.Core.List.{List, [], _∷_, _++_}
 use Prim.Native.Nat.{ℕ, zero, suc, _+_, _*_, _/_, _%_, _^_}
 use lib.Dec.{ltb}
-use lib.ListN.{length, getD, drop}
+use lib.ListN.{length, getD, take, drop}
 use lib.Ieee.{Float, binary32, le}
 use Rattle.basics.specs.Choice.{pick}
 use Rattle.basics.specs.Sum.{+zero, sumOf, products}
 use Rattle.simd.specs.Eight.{rowIn}
+
+-- some floats at the front of a slice, as far as there is room; the rest of it stays
+abbrev pub putFront : List Float → List Float → List Float
+putFront xs out = take (length out) xs ++ drop (length xs) out
+
+-- the bit of a sum, at its weight: set where the sum is 0, −0 or above, and not where it is a NaN
+abbrev pub bitBy : Float → ℕ → ℕ
+bitBy sum weight = pick (le +zero sum) weight 0
 
 -- bits 0 to n − 1, each at its weight
 unfoldable pub bitsOf : (ℕ → Bool) → ℕ → ℕ

@@ -6,18 +6,15 @@
 // sums. The sums are the hash's own, and not those of distances: the order of either may change alone.
 // Every function is total and equal to its definition for slices of any length and floats of any kind.
 ghost use mathlib.Core.Path.{_≡_};
-ghost use mathlib.Core.List.{_++_};
 ghost use Prim.Native.Nat.{_+_, _*_, _/_, _%_, _^_, _≤_, min};
-ghost use lib.ListN.{length, take, drop};
-ghost use lib.Ieee.{binary32, le};
-ghost use Rattle.basics.specs.Choice.{pick};
-ghost use Rattle.basics.specs.Sum.{+zero};
+ghost use lib.ListN.{length};
+ghost use lib.Ieee.{binary32};
 ghost use Rattle.def_graph.specs.Simhash.{residual};
-ghost use Rattle.simhash.specs.Blocks.{blockHash, blocksHash, blockNumber, planeBlocks};
+ghost use Rattle.simhash.specs.Blocks.{putFront, bitBy, blockHash, blocksHash, blockNumber, planeBlocks};
 
 // The residual c − p at the front of `out`, as far as there is room.
 pub fn residual_into(c: &[f32], p: &[f32], out: &mut [f32])
-    ensures { λ _. ⌜ now (out .exit) ≡ take (length (now (out .entry))) (residual binary32 (now (c .entry)) (now (p .entry))) ++ drop (length (residual binary32 (now (c .entry)) (now (p .entry)))) (now (out .entry)) ⌝ }
+    ensures { λ _. ⌜ now (out .exit) ≡ putFront (residual binary32 (now (c .entry)) (now (p .entry))) (now (out .entry)) ⌝ }
 {
     let mut i: usize = 0;
     while (i < out.len()) & (i < c.len()) & (i < p.len()) {
@@ -28,7 +25,7 @@ pub fn residual_into(c: &[f32], p: &[f32], out: &mut [f32])
 
 // A bit at its weight, by the sum with its plane: 0 and −0 set it, a NaN does not.
 fn weighed(sum: f32, weight: u32) -> u32
-    ensures { λ r. ⌜ (r ≡ pick (le +zero sum) weight 0) × (r ≤ weight) ⌝ }
+    ensures { λ r. ⌜ (r ≡ bitBy sum weight) × (r ≤ weight) ⌝ }
 {
     if 0.0 <= sum { weight } else { 0 }
 }
@@ -75,7 +72,7 @@ fn hash_block_within(r: &[f32], block: &[f32]) -> u32
 }
 
 fn eight_bits(a: f32, b: f32, c: f32, d: f32, e: f32, f: f32, g: f32, h: f32) -> u32
-    ensures { λ r. ⌜ r ≡ pick (le +zero a) 1 0 + pick (le +zero b) 2 0 + pick (le +zero c) 4 0 + pick (le +zero d) 8 0 + pick (le +zero e) 16 0 + pick (le +zero f) 32 0 + pick (le +zero g) 64 0 + pick (le +zero h) 128 0 ⌝ }
+    ensures { λ r. ⌜ r ≡ bitBy a 1 + bitBy b 2 + bitBy c 4 + bitBy d 8 + bitBy e 16 + bitBy f 32 + bitBy g 64 + bitBy h 128 ⌝ }
 {
     weighed(a, 1)
         + weighed(b, 2)
