@@ -27,7 +27,7 @@ use Rattle.def_calls.specs.Graph.{settingsOf, graphOf, graphFor}
 use Rattle.def_calls.specs.Build.{laid, builtHeader, builtWords}
 use Rattle.def_calls.proofs.Laid.{laid-there}
 use Rattle.def_calls.proofs.Taken.{BuildTaken}
-use Rattle.build.specs.Fits.{RowsFit, RepairFits, RepairPut, withRepair}
+use Rattle.build.specs.Fits.{RowsFit, shapeOf, RepairFits, RepairPut, withRepair}
 use Rattle.build.proofs.Laid.{put-laid, set-laid}
 
 module _ (ws fs : ℕ) (w : List ℕ) (f : List Float) (taken : BuildTaken ws fs w f) where
@@ -75,7 +75,7 @@ module _ (ws fs : ℕ) (w : List ℕ) (f : List Float) (taken : BuildTaken ws fs
 
   module _ (p : PipnnParams) (p-is : p ≡ paramsOf w) (part w₁ w₂ : List ℕ)
       (blocks : Blocks (p .«max_degree») (rowsOf (settingsOf d p) (vectorsIn d (vectorPart w f (taken .stores .room)))) part) (put : w₁ ≡ laid (rowsAt C) part w)
-      (repair : RepairPut n C D d (vectorsIn d (vectorPart w f (taken .stores .room))) w₁ w₂) where
+      (repair : RepairPut (shapeOf n D d) C (vectorsIn d (vectorPart w f (taken .stores .room))) w₁ w₂) where
     vectors-are : vectorsIn d (vectorPart w f (taken .stores .room)) ≡ vs
     vectors-are = vectors-part w f (taken .stores .room) (taken .stores .header .dimension .least)
 
@@ -104,7 +104,7 @@ module _ (ws fs : ℕ) (w : List ℕ) (f : List Float) (taken : BuildTaken ws fs
     pub graph-built : w₂ ≡ builtWords (graphFor (view w f)) w
     graph-built =
         repaired-is w₁ w₂ (put ∙ ap (λ (l : List ℕ). laid (rowsAt C) l w) (these .words-are))
-        (subst (λ (l : List (List Float)). RepairPut n C D d l w₁ w₂) vectors-are repair rows many below found)
+        (subst (λ (l : List (List Float)). RepairPut (shapeOf n D d) C l w₁ w₂) vectors-are repair rows many below found)
 
 -- ---- what the steps ask, at the numbers that were read
 
@@ -143,7 +143,7 @@ module _ (ws fs : ℕ) (w : List ℕ) (f : List Float) (taken : BuildTaken ws fs
   }
 
   pub repair-fits : (w₁ : List ℕ) (bridges ws₁ fs₁ : ℕ) → length w₁ ≡ length w → 2048 ≤ bridges → ws₁ ≡ ws → fs₁ ≡ fs
-      → RepairFits (word w nodesAt) (word w capacityAt) (word w degreeAt) (word w dimensionAt) w₁ (vectorPart w f (taken .stores .room)) bridges ws₁ fs₁
+      → RepairFits (shapeOf (word w nodesAt) (word w degreeAt) (word w dimensionAt)) (word w capacityAt) w₁ (vectorPart w f (taken .stores .room)) bridges ws₁ fs₁
   unfolding paramsOf
   repair-fits w₁ bridges ws₁ fs₁ same room words floats = record {
     some = taken .some;
@@ -170,25 +170,25 @@ rows-fit-at n n′ d d′ p p′ rows rows′ vectors vectors′ ws fs a b c e g
     (subst (λ (l : List ℕ). RowsFit n d p l vectors′ ws fs) (sym e) (subst (λ (l : List Float). RowsFit n d p rows l ws fs) (sym g) x))))
 
 pub repair-fits-at : (n n′ C C′ D D′ d d′ : ℕ) (w : List ℕ) (vectors vectors′ : List Float) (bridges ws fs : ℕ) → n′ ≡ n → C′ ≡ C → D′ ≡ D → d′ ≡ d → vectors′ ≡ vectors
-    → RepairFits n C D d w vectors bridges ws fs → RepairFits n′ C′ D′ d′ w vectors′ bridges ws fs
+    → RepairFits (shapeOf n D d) C w vectors bridges ws fs → RepairFits (shapeOf n′ D′ d′) C′ w vectors′ bridges ws fs
 repair-fits-at n n′ C C′ D D′ d d′ w vectors vectors′ bridges ws fs a b c e g x =
-    subst (λ (k : ℕ). RepairFits k C′ D′ d′ w vectors′ bridges ws fs) (sym a)
-    (subst (λ (k : ℕ). RepairFits n k D′ d′ w vectors′ bridges ws fs) (sym b)
-    (subst (λ (k : ℕ). RepairFits n C k d′ w vectors′ bridges ws fs) (sym c)
-    (subst (λ (k : ℕ). RepairFits n C D k w vectors′ bridges ws fs) (sym e) (subst (λ (l : List Float). RepairFits n C D d w l bridges ws fs) (sym g) x))))
+    subst (λ (k : ℕ). RepairFits (shapeOf k D′ d′) C′ w vectors′ bridges ws fs) (sym a)
+    (subst (λ (k : ℕ). RepairFits (shapeOf n D′ d′) k w vectors′ bridges ws fs) (sym b)
+    (subst (λ (k : ℕ). RepairFits (shapeOf n k d′) C w vectors′ bridges ws fs) (sym c)
+    (subst (λ (k : ℕ). RepairFits (shapeOf n D k) C w vectors′ bridges ws fs) (sym e) (subst (λ (l : List Float). RepairFits (shapeOf n D d) C w l bridges ws fs) (sym g) x))))
 
 repair-put-at : (n n′ C C′ D D′ d d′ : ℕ) (vectors vectors′ : List Float) (w₁ w₂ : List ℕ) → n′ ≡ n → C′ ≡ C → D′ ≡ D → d′ ≡ d → vectors′ ≡ vectors
-    → RepairPut n′ C′ D′ d′ (vectorsIn d′ vectors′) w₁ w₂ → RepairPut n C D d (vectorsIn d vectors) w₁ w₂
+    → RepairPut (shapeOf n′ D′ d′) C′ (vectorsIn d′ vectors′) w₁ w₂ → RepairPut (shapeOf n D d) C (vectorsIn d vectors) w₁ w₂
 repair-put-at n n′ C C′ D D′ d d′ vectors vectors′ w₁ w₂ a b c e g x =
-    subst (λ (l : List Float). RepairPut n C D d (vectorsIn d l) w₁ w₂) g
-    (subst (λ (k : ℕ). RepairPut n C D k (vectorsIn k vectors′) w₁ w₂) e
-    (subst (λ (k : ℕ). RepairPut n C k d′ (vectorsIn d′ vectors′) w₁ w₂) c
-    (subst (λ (k : ℕ). RepairPut n k D′ d′ (vectorsIn d′ vectors′) w₁ w₂) b (subst (λ (k : ℕ). RepairPut k C′ D′ d′ (vectorsIn d′ vectors′) w₁ w₂) a x))))
+    subst (λ (l : List Float). RepairPut (shapeOf n D d) C (vectorsIn d l) w₁ w₂) g
+    (subst (λ (k : ℕ). RepairPut (shapeOf n D k) C (vectorsIn k vectors′) w₁ w₂) e
+    (subst (λ (k : ℕ). RepairPut (shapeOf n k d′) C (vectorsIn d′ vectors′) w₁ w₂) c
+    (subst (λ (k : ℕ). RepairPut (shapeOf n D′ d′) k (vectorsIn d′ vectors′) w₁ w₂) b (subst (λ (k : ℕ). RepairPut (shapeOf k D′ d′) C′ (vectorsIn d′ vectors′) w₁ w₂) a x))))
 
 pub graph-built-at : (ws fs : ℕ) (w : List ℕ) (f : List Float) (taken : BuildTaken ws fs w f) (n′ C′ D′ d′ : ℕ) (p : PipnnParams) (vectors : List Float) (from k : ℕ) (part w₂ : List ℕ)
     → n′ ≡ word w nodesAt → C′ ≡ word w capacityAt → D′ ≡ word w degreeAt → d′ ≡ word w dimensionAt → p ≡ paramsOf w → vectors ≡ vectorPart w f (taken .stores .room)
     → from ≡ rowsAt (word w capacityAt) → k ≡ length part → Blocks (p .«max_degree») (rowsOf (settingsOf d′ p) (vectorsIn d′ vectors)) part
-    → RepairPut n′ C′ D′ d′ (vectorsIn d′ vectors) (putMid from k w part) w₂ → w₂ ≡ builtWords (graphFor (view w f)) w
+    → RepairPut (shapeOf n′ D′ d′) C′ (vectorsIn d′ vectors) (putMid from k w part) w₂ → w₂ ≡ builtWords (graphFor (view w f)) w
 graph-built-at ws fs w f taken n′ C′ D′ d′ p vectors from k part w₂ n-is C-is D-is d-is p-is vectors-are from-is size blocks repair =
     graph-built ws fs w f taken p p-is part (putMid from k w part) w₂
     (subst (λ (l : List Float). Blocks (p .«max_degree») (rowsOf (settingsOf (word w dimensionAt) p) (vectorsIn (word w dimensionAt) l)) part) vectors-are

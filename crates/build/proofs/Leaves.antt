@@ -25,6 +25,7 @@ use Rattle.def_graph.specs.Refine.{addReverseEdges}
 use Rattle.carving.specs.Carving.{nonEmpty, Laid, Partitioned}
 use Rattle.carving.proofs.Leaves.{flatten-full, length-full}
 use Rattle.carving.proofs.Build.{build-full}
+use Rattle.build_leaf.specs.declared.LeafParams.{LeafParams}
 use Rattle.build_leaf.specs.Built.{Sizes, LeavesIn, Built}
 use Rattle.finish.specs.Reversed.{Reversed}
 use Rattle.def_graph.specs.Rows.{Settings, leafRows, reversedRows, rowsOf}
@@ -32,7 +33,7 @@ use Rattle.def_graph.proofs.graph_rows.Laws.{leaf-bounds, prune-changes-nothing
 use Rattle.lists.specs.Words.{Blocks}
 use Rattle.lists.proofs.Blocks.{cleared-blocks}
 use Rattle.def_calls.specs.Graph.{settingsOf}
-use Rattle.build.specs.Fits.{leafEntries, LeavesPut, RowsFit}
+use Rattle.build.specs.Fits.{leafEntries, leafOf, LeavesPut, RowsFit}
 use Rattle.build.proofs.Repairing.{vectors-many}
 
 pub entries-most : (n maxLeaf : ℕ) → leafEntries n maxLeaf ≤ 2 * n
@@ -101,11 +102,11 @@ leaves-in n maxLeaf count room leaves carved nodes sizes total laid below fits n
       room-is = fits;
     }
 
-pub built-from : (n maxLeaf d D bits count room : ℕ) (vectors : List Float) (carved nodes sizes rows rows′ : List ℕ) → nodes ≡ take (leafEntries n maxLeaf) carved
-    → sizes ≡ take count (drop (2 * n) carved) → Built vectors d D bits nodes sizes room rows rows′ → LeavesPut n maxLeaf d D bits vectors carved count room rows rows′
-built-from n maxLeaf d D bits count room vectors carved nodes sizes rows rows′ nodes-are sizes-are built =
+pub built-from : (n maxLeaf : ℕ) (leaf : LeafParams) (count room : ℕ) (vectors : List Float) (carved nodes sizes rows rows′ : List ℕ) → nodes ≡ take (leafEntries n maxLeaf) carved
+    → sizes ≡ take count (drop (2 * n) carved) → Built leaf vectors nodes sizes room rows rows′ → LeavesPut n maxLeaf leaf vectors carved count room rows rows′
+built-from n maxLeaf leaf count room vectors carved nodes sizes rows rows′ nodes-are sizes-are built =
     λ leaves rs fit many total laid below fits blocks.
-    built rs leaves (subst (λ (k : ℕ). Sizes k D bits d vectors) (sym many) fit)
+    built rs leaves (subst (λ (k : ℕ). Sizes k leaf vectors) (sym many) fit)
     (subst (λ (k : ℕ). LeavesIn k leaves nodes sizes room) (sym many) (leaves-in n maxLeaf count room leaves carved nodes sizes total laid below fits nodes-are sizes-are)) blocks
 
 -- ---- the steps of the rows
@@ -137,10 +138,10 @@ module _ (n d : ℕ) (p : PipnnParams) (vectors : List Float) (rows₀ : List �
       omega (arith, laid .counted, few, many)
 
   leaf-lists : (rows₁ rows₂ : List ℕ) → rows₁ ≡ replicate (length rows₀) 0
-      → LeavesPut n (p .«max_leaf_size») d D (p .«num_hash_bits») vectors words′ count room rows₁ rows₂ → Blocks D (leafRows s vs) rows₂
+      → LeavesPut n (p .«max_leaf_size») (leafOf d p) vectors words′ count room rows₁ rows₂ → Blocks D (leafRows s vs) rows₂
   unfolding leafRows
   leaf-lists rows₁ rows₂ cleared put =
-      let sizes : Sizes n D (p .«num_hash_bits») d vectors = record {
+      let sizes : Sizes n (leafOf d p) vectors = record {
         nodes-most = fit .most;
         degree-most = fit .degree-most;
         bits-most = fit .bits-most;
@@ -159,7 +160,7 @@ module _ (n d : ℕ) (p : PipnnParams) (vectors : List Float) (rows₀ : List �
       built
 
   pub rows-made : (rows₁ rows₂ rows₃ : List ℕ) → rows₁ ≡ replicate (length rows₀) 0
-      → LeavesPut n (p .«max_leaf_size») d D (p .«num_hash_bits») vectors words′ count room rows₁ rows₂ → Reversed D rows₂ rows₃ → Blocks D (rowsOf s vs) rows₃
+      → LeavesPut n (p .«max_leaf_size») (leafOf d p) vectors words′ count room rows₁ rows₂ → Reversed D rows₂ rows₃ → Blocks D (rowsOf s vs) rows₃
   unfolding reversedRows
   rows-made rows₁ rows₂ rows₃ cleared put reversed =
       let bounds : Rows (length vs) D (leafRows s vs) = leaf-bounds s vs in

@@ -12,12 +12,14 @@ use Rattle.distance.specs.Vectors.{vectorsIn}
 use Rattle.def_graph.specs.Leaf.{buildLeaves}
 use Rattle.carving.specs.Carving.{Laid}
 use Rattle.build_leaf.specs.Built.{Sizes}
+use Rattle.build_leaf.specs.declared.LeafParams.{LeafParams}
 use Rattle.params.specs.declared.PipnnParams.{PipnnParams}
 use Rattle.def_graph.specs.Medoid.{computeMedoid}
 use Rattle.def_walk.specs.Repair.{ensureConnectivity}
 use Rattle.store.specs.Layout.{builtState, stateAt, entryAt, bridgeCountAt, rowsAt, rowSize, bridgesAt}
 use Rattle.store.specs.View.{bridgeBlock}
 use Rattle.lists.specs.Words.{Blocks}
+use Rattle.lists.specs.declared.Shape.{Shape}
 use Rattle.def_calls.specs.Build.{laid}
 
 -- how many nodes all leaves have together
@@ -30,11 +32,18 @@ pub record LeavesFit (n count words : ℕ) : Type 0 where
   pub counted : count ≤ 2 * n
   pub words-room : 4 * n ≤ words
 
+-- what leaf lists take from the parameters of an index
+abbrev pub leafOf : ℕ → PipnnParams → LeafParams
+leafOf d p = record { dimension = d; degree = p .«max_degree»; bits = p .«num_hash_bits» }
+
 -- whatever leaves those are, and whatever the rows are
-abbrev pub LeavesPut : (n maxLeaf d D bits : ℕ) → List Float → List ℕ → ℕ → ℕ → List ℕ → List ℕ → Type 0
-LeavesPut n maxLeaf d D bits vectors carved count room rows rows′ =
-    (leaves rs : List (List ℕ)) → Sizes n D bits d vectors → length rs ≡ n → length (flatten leaves) ≡ leafEntries n maxLeaf → Laid leaves count (2 * n) carved
-    → Below n (flatten leaves) → 16 * n ≤ room → Blocks D rs rows → Blocks D (buildLeaves D bits d (vectorsIn d vectors) leaves rs) rows′
+abbrev pub LeavesPut : ℕ → ℕ → LeafParams → List Float → List ℕ → ℕ → ℕ → List ℕ → List ℕ → Type 0
+LeavesPut n maxLeaf leaf vectors carved count room rows rows′ =
+    let D : ℕ = leaf .degree in
+    let d : ℕ = leaf .dimension in
+    (leaves rs : List (List ℕ)) → Sizes n leaf vectors → length rs ≡ n → length (flatten leaves) ≡ leafEntries n maxLeaf
+    → Laid leaves count (2 * n) carved → Below n (flatten leaves) → 16 * n ≤ room
+    → Blocks D rs rows → Blocks D (buildLeaves D (leaf .bits) d (vectorsIn d vectors) leaves rs) rows′
 
 -- n vectors and n rows, parameters within their limits, and scratch for them
 pub record RowsFit (n dimension : ℕ) (p : PipnnParams) (rows : List ℕ) (vectors : List Float) (words floats : ℕ) : Type 0 where
@@ -49,19 +58,22 @@ pub record RowsFit (n dimension : ℕ) (p : PipnnParams) (rows : List ℕ) (vect
   pub words-room : 4 * n ≤ words
   pub floats-room : 16 * n ≤ floats
 
--- n vectors, at least one, in a store of a shape that has room for n rows and n bridges; and scratch
-pub record RepairFits (n C D dimension : ℕ) (w : List ℕ) (vectors : List Float) (bridges words floats : ℕ) : Type 0 where
-  pub some : 1 ≤ n
-  pub most : n ≤ 1024
-  pub dimension-some : 1 ≤ dimension
-  pub capacity : n ≤ C
+abbrev pub shapeOf : ℕ → ℕ → ℕ → Shape
+shapeOf n D d = record { n = n; degree = D; dimension = d }
+
+-- n vectors, at least one, in a store of capacity C that has room for n rows and n bridges; and scratch
+pub record RepairFits (s : Shape) (C : ℕ) (w : List ℕ) (vectors : List Float) (bridges words floats : ℕ) : Type 0 where
+  pub some : 1 ≤ s .n
+  pub most : s .n ≤ 1024
+  pub dimension-some : 1 ≤ s .dimension
+  pub capacity : s .n ≤ C
   pub capacity-most : C ≤ 1024
-  pub degree-most : D ≤ 32
-  pub store : bridgesAt C D + 2 * C ≤ length w
-  pub vectors-are : length vectors ≡ n * dimension
-  pub words-room : 4 * n ≤ words
-  pub bridges-room : 2 * n ≤ bridges
-  pub floats-room : dimension ≤ floats
+  pub degree-most : s .degree ≤ 32
+  pub store : bridgesAt C (s .degree) + 2 * C ≤ length w
+  pub vectors-are : length vectors ≡ s .n * s .dimension
+  pub words-room : 4 * s .n ≤ words
+  pub bridges-room : 2 * s .n ≤ bridges
+  pub floats-room : s .dimension ≤ floats
 
 -- words 0, 9 and 10, and the bridges, for rows that are not repaired yet
 abbrev pub withRepair : (C D dimension : ℕ) → List (List Float) → List (List ℕ) → List ℕ → List ℕ
@@ -71,7 +83,9 @@ withRepair C D dimension vs rows w =
     laid (bridgesAt C D) (flatten (map bridgeBlock bridges)) (set (set (set w stateAt builtState) entryAt entry) bridgeCountAt (length bridges))
 
 -- whatever rows stand in the store, with entries below n
-abbrev pub RepairPut : (n C D dimension : ℕ) → List (List Float) → List ℕ → List ℕ → Type 0
-RepairPut n C D dimension vs w w′ =
+abbrev pub RepairPut : Shape → ℕ → List (List Float) → List ℕ → List ℕ → Type 0
+RepairPut s C vs w w′ =
+    let n : ℕ = s .n in
+    let D : ℕ = s .degree in
     (rows : List (List ℕ)) → length rows ≡ n → ((u : ℕ) → Below n (getD rows u [])) → Blocks D rows (take (n * rowSize D) (drop (rowsAt C) w))
-    → w′ ≡ withRepair C D dimension vs rows w
+    → w′ ≡ withRepair C D (s .dimension) vs rows w

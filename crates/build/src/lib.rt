@@ -3,6 +3,14 @@
 //
 // It promises one equation for the number and both stores, whole: `buildSpec` of Rattle.calls. What
 // scratch held before never shows.
+//
+// Scratch, for n nodes; a later step writes over what an earlier one is done with:
+//
+//   carving         words    from 0          2·n  the nodes of all leaves, leaf after leaf
+//                            from 2·n        2·n  the leaves' sizes
+//   leaf lists      floats   from 0         16·n  eight distances for each place of a leaf
+//   entry node      floats   from 0    dimension  the centroid
+//   repair          words    from 0          4·n  links (crate chains): n heads, n tails, 2·n slots
 ghost use mathlib.Core.Path.{_≡_};
 ghost use Prim.Native.Nat.{_+_, _≤_};
 ghost use lib.ListN.{length, set};
@@ -15,8 +23,10 @@ ghost use Rattle.store.specs.View.{view};
 ghost use Rattle.def_calls.specs.Graph.{settingsOf, graphFor};
 ghost use Rattle.def_calls.specs.Build.{buildChecks, laid, builtWords, buildSpec};
 ghost use Rattle.build.specs.Fits.{leafEntries, LeavesFit, LeavesPut, RowsFit, RepairFits, RepairPut};
+use build_leaf::LeafParams;
 use finish::medoid;
 use finish::reverse_edges;
+use lists::Shape;
 use params::PipnnParams;
 use store::Lent;
 use words::ids::Node;
@@ -73,26 +83,23 @@ fn leaf_entries(n: u32, max_leaf_size: u32) -> usize
 fn put_leaves(
     rows: &mut [u32],
     vectors: &[f32],
-    dimension: u32,
     n: u32,
     max_leaf_size: u32,
-    degree: u16,
-    bits: u32,
+    leaf: LeafParams,
     carved: &[u32],
     count: u32,
     scratch_floats: &mut [f32],
 )
     requires { ⌜ LeavesFit n count (length (now carved)) ⌝ }
-    ensures { λ _. ⌜ LeavesPut n «max_leaf_size» dimension degree bits (now (vectors .entry)) (now (carved .entry)) count (length (now («scratch_floats» .entry))) (now (rows .entry)) (now (rows .exit)) ⌝ }
+    ensures { λ _. ⌜ LeavesPut n «max_leaf_size» leaf (now (vectors .entry)) (now (carved .entry)) count
+        (length (now («scratch_floats» .entry))) (now (rows .entry)) (now (rows .exit)) ⌝ }
 {
     let nodes_end = leaf_entries(n, max_leaf_size);
-    let sizes_at = 2 * n as usize;
+    let sizes_at = carving::SIZES_AT * n as usize;
     let sizes_end = sizes_at + count as usize;
     build_leaf::build_leaves(
         vectors,
-        dimension,
-        degree,
-        bits,
+        leaf,
         &carved[..nodes_end],
         &carved[sizes_at..sizes_end],
         rows,
@@ -126,14 +133,17 @@ fn put_rows(
         p.leader_fraction,
         scratch_words,
     );
+    let leaf = LeafParams {
+        dimension,
+        degree,
+        bits: p.num_hash_bits,
+    };
     put_leaves(
         rows,
         vectors,
-        dimension,
         n,
         p.max_leaf_size,
-        degree,
-        p.num_hash_bits,
+        leaf,
         scratch_words,
         count,
         scratch_floats,
@@ -146,17 +156,19 @@ fn put_rows(
 fn repair(
     words: &mut [u32],
     vectors: &[f32],
-    n: u32,
+    shape: Shape,
     capacity: u32,
-    degree: u16,
-    dimension: u32,
     bridges: &mut [u32],
     scratch_words: &mut [u32],
     scratch_floats: &mut [f32],
 )
-    requires { ⌜ RepairFits n capacity degree dimension (now words) (now vectors) (length (now bridges)) (length (now «scratch_words»)) (length (now «scratch_floats»)) ⌝ }
-    ensures { λ _. ⌜ RepairPut n capacity degree dimension (vectorsIn dimension (now (vectors .entry))) (now (words .entry)) (now (words .exit)) ⌝ }
+    requires { ⌜ RepairFits shape capacity (now words) (now vectors)
+        (length (now bridges)) (length (now «scratch_words»)) (length (now «scratch_floats»)) ⌝ }
+    ensures { λ _. ⌜ RepairPut shape capacity (vectorsIn (shape .dimension) (now (vectors .entry))) (now (words .entry)) (now (words .exit)) ⌝ }
 {
+    let n = shape.n;
+    let degree = shape.degree;
+    let dimension = shape.dimension;
     let components = dimension as usize;
     let entry = medoid::compute_medoid(vectors, n as u16, &mut scratch_floats[..components]);
     let from = store::rows_at(capacity);
@@ -205,14 +217,17 @@ fn build_graph(
         scratch_words,
         scratch_floats,
     );
+    let shape = Shape {
+        n,
+        degree,
+        dimension,
+    };
     let mut bridges = [0u32; 2048];
     repair(
         words,
         &floats[..end],
-        n,
+        shape,
         capacity,
-        degree,
-        dimension,
         &mut bridges[..],
         scratch_words,
         scratch_floats,
@@ -227,7 +242,8 @@ pub fn build(
     scratch_words: &mut [u32],
     scratch_floats: &mut [f32],
 ) -> u32
-    ensures { λ r. ⌜ (r, now (words .exit), now (floats .entry)) ≡ buildSpec (length (now («scratch_words» .entry))) (length (now («scratch_floats» .entry))) (now (words .entry)) (now (floats .entry)) ⌝ }
+    ensures { λ r. ⌜ (r, now (words .exit), now (floats .entry))
+        ≡ buildSpec (length (now («scratch_words» .entry))) (length (now («scratch_floats» .entry))) (now (words .entry)) (now (floats .entry)) ⌝ }
 {
     let refusal = build_refusal(words, floats, scratch_words.len(), scratch_floats.len());
     if refusal != 0 {

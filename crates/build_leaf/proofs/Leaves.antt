@@ -19,6 +19,7 @@ use Rattle.distance.specs.Vectors.{vectorsIn}
 use Rattle.def_graph.specs.Leaf.{buildLeaf, buildLeaves}
 use Rattle.def_graph.proofs.leaf.Laws.{build-append}
 use Rattle.lists.specs.Words.{Blocks}
+use Rattle.build_leaf.specs.declared.LeafParams.{LeafParams}
 use Rattle.build_leaf.specs.Built.{Setting, LeafHeld, LeafBuilt, LeavesIn, LeavesBuilt, PlanesMade}
 use Rattle.build_leaf.proofs.Rows.{places-length}
 
@@ -54,14 +55,14 @@ flatten-more leaves k h =
 
 -- ---- the first k leaves
 
-pub record After (vectors : List Float) (d D bits : ℕ) (rs leaves : List (List ℕ)) (k at : ℕ) (rows : List ℕ) : Type 0 where
+pub record After (p : LeafParams) (vectors : List Float) (rs leaves : List (List ℕ)) (k at : ℕ) (rows : List ℕ) : Type 0 where
   pub at-is : at ≡ length (flatten (take k leaves))
-  pub rows-are : Blocks D (buildLeaves D bits d (vectorsIn d vectors) (take k leaves) rs) rows
+  pub rows-are : Blocks (p .degree) (buildLeaves (p .degree) (p .bits) (p .dimension) (vectorsIn (p .dimension) vectors) (take k leaves) rs) rows
 
-abbrev pub LeavesTo : List Float → ℕ → ℕ → ℕ → List Float → List ℕ → List ℕ → ℕ → ℕ → ℕ → List ℕ → List ℕ → Type 0
-LeavesTo vectors d D bits planes nodes sizes room k at rows rows′ =
-    (n : ℕ) (rs leaves : List (List ℕ)) → Setting n D bits d vectors planes → length rs ≡ n → LeavesIn n leaves nodes sizes room
-    → Blocks D rs rows → After vectors d D bits rs leaves k at rows′
+abbrev pub LeavesTo : LeafParams → List Float → List Float → List ℕ → List ℕ → ℕ → ℕ → ℕ → List ℕ → List ℕ → Type 0
+LeavesTo p vectors planes nodes sizes room k at rows rows′ =
+    (n : ℕ) (rs leaves : List (List ℕ)) → Setting n p vectors planes → length rs ≡ n → LeavesIn n leaves nodes sizes room
+    → Blocks (p .degree) rs rows → After p vectors rs leaves k at rows′
 
 leaf-length : (D bits d : ℕ) (vs : List (List Float)) (leaf : List ℕ) (rs : List (List ℕ)) → length (buildLeaf D bits d vs leaf rs) ≡ length rs
 unfolding buildLeaf
@@ -80,8 +81,8 @@ one-more D bits d vs leaves k rs h =
     sym (build-append D bits d vs (take k leaves) (getD leaves k [] ∷ []) rs)
     ∙ ap (λ (l : List (List ℕ)). buildLeaves D bits d vs l rs) (sym (take-suc leaves k [] h))
 
-module _ (vectors : List Float) (d D bits : ℕ) (planes : List Float) (nodes sizes : List ℕ) (room : ℕ) (rows : List ℕ) where
-  pub leaves-none : LeavesTo vectors d D bits planes nodes sizes room 0 0 rows rows
+module _ (p : LeafParams) (vectors planes : List Float) (nodes sizes : List ℕ) (room : ℕ) (rows : List ℕ) where
+  pub leaves-none : LeavesTo p vectors planes nodes sizes room 0 0 rows rows
   unfolding buildLeaves flatten
   leaves-none n rs leaves s many held b = record { at-is = refl; rows-are = b }
 
@@ -118,35 +119,35 @@ module _ (vectors : List Float) (d D bits : ℕ) (planes : List Float) (nodes si
     }
 
   pub leaves-more : (k at end m : ℕ) (now next : List ℕ) → k < length sizes → end ≡ at + getD sizes k 0 → m ≡ getD sizes k 0
-      → LeavesTo vectors d D bits planes nodes sizes room k at rows now
-      → LeafBuilt vectors d D bits planes (take m (drop at nodes)) room now next
-      → LeavesTo vectors d D bits planes nodes sizes room (k + 1) end rows next
+      → LeavesTo p vectors planes nodes sizes room k at rows now
+      → LeafBuilt p vectors planes (take m (drop at nodes)) room now next
+      → LeavesTo p vectors planes nodes sizes room (k + 1) end rows next
   leaves-more k at end m now next h e q to built n rs leaves s many held b =
-      let vs : List (List Float) = vectorsIn d vectors in
-      let after : After vectors d D bits rs leaves k at now = to n rs leaves s many held b in
+      let vs : List (List Float) = vectorsIn (p .dimension) vectors in
+      let after : After p vectors rs leaves k at now = to n rs leaves s many held b in
       let inside : k < length leaves = here n k at end leaves held h (after .at-is) e in
       let leaf : List ℕ = getD leaves k [] in
       let is : take m (drop at nodes) ≡ leaf = leaf-is n k at end leaves held h (after .at-is) e m q in
-      let before : List (List ℕ) = buildLeaves D bits d vs (take k leaves) rs in
-      let done : Blocks D (buildLeaf D bits d vs leaf before) next =
-      subst (λ (l : List ℕ). LeafBuilt vectors d D bits planes l room now next) is built n before s (leaves-length D bits d vs (take k leaves) rs ∙ many)
+      let before : List (List ℕ) = buildLeaves (p .degree) (p .bits) (p .dimension) vs (take k leaves) rs in
+      let done : Blocks (p .degree) (buildLeaf (p .degree) (p .bits) (p .dimension) vs leaf before) next =
+      subst (λ (l : List ℕ). LeafBuilt p vectors planes l room now next) is built n before s (leaves-length (p .degree) (p .bits) (p .dimension) vs (take k leaves) rs ∙ many)
       (leaf-held n k at end leaves held h (after .at-is) e) (after .rows-are) in
       record {
         at-is = omega (arith, after .at-is, size-is n k at end leaves held h (after .at-is) e, flatten-more leaves k inside, ap (λ (i : ℕ). length (flatten (take i leaves))) (add-one k));
-        rows-are = subst (λ (l : List (List ℕ)). Blocks D l next) (one-more D bits d vs leaves k rs inside ∙ ap (λ (i : ℕ). buildLeaves D bits d vs (take i leaves) rs) (sym (add-one k))) done;
+        rows-are = subst (λ (l : List (List ℕ)). Blocks (p .degree) l next) (one-more (p .degree) (p .bits) (p .dimension) vs leaves k rs inside ∙ ap (λ (i : ℕ). buildLeaves (p .degree) (p .bits) (p .dimension) vs (take i leaves) rs) (sym (add-one k))) done;
       }
 
   -- sizes that run past the nodes are not those of leaves
   pub leaves-cut : (k at end : ℕ) (now : List ℕ) → k < length sizes → end ≡ at + getD sizes k 0 → length nodes < end
-      → LeavesTo vectors d D bits planes nodes sizes room k at rows now → LeavesBuilt vectors d D bits planes nodes sizes room rows now
+      → LeavesTo p vectors planes nodes sizes room k at rows now → LeavesBuilt p vectors planes nodes sizes room rows now
   leaves-cut k at end now h e past to n rs leaves s many held b =
       absurd (omega (arith, leaf-there n k at end leaves held h (to n rs leaves s many held b .at-is) e))
 
-  pub leaves-last : (k at : ℕ) (now : List ℕ) → length sizes ≤ k → LeavesTo vectors d D bits planes nodes sizes room k at rows now
-      → LeavesBuilt vectors d D bits planes nodes sizes room rows now
+  pub leaves-last : (k at : ℕ) (now : List ℕ) → length sizes ≤ k → LeavesTo p vectors planes nodes sizes room k at rows now
+      → LeavesBuilt p vectors planes nodes sizes room rows now
   leaves-last k at now h to n rs leaves s many held b =
       let all : take k leaves ≡ leaves = take-all k leaves (omega (arith, ap length (held .sizes-are), length-map leaves length)) in
-      subst (λ (l : List (List ℕ)). Blocks D (buildLeaves D bits d (vectorsIn d vectors) l rs) now) all (to n rs leaves s many held b .rows-are)
+      subst (λ (l : List (List ℕ)). Blocks (p .degree) (buildLeaves (p .degree) (p .bits) (p .dimension) (vectorsIn (p .dimension) vectors) l rs) now) all (to n rs leaves s many held b .rows-are)
 
 -- ---- the hyperplanes
 

@@ -23,6 +23,7 @@ use Rattle.lists.proofs.Blocks.{block-length, blocks-length, nth-block, put-blo
 use Rattle.hashprune.specs.Hashprune.{Inserted}
 use Rattle.build_leaf.specs.Lanes.{Distances}
 use Rattle.build_leaf.specs.Candidates.{LaneFits, LaneReady, CandidatesAre, Candidates}
+use Rattle.build_leaf.specs.declared.LeafParams.{LeafParams}
 use Rattle.build_leaf.specs.Built.{Sizes, Setting, RowPut, PlacePut, LeafHeld, PlacesPut, LeafBuilt}
 
 -- where a row starts is a number that a word of the machine holds
@@ -30,32 +31,32 @@ pub place-fits : (a b : ℕ) → a ≤ 4294967295 → b ≤ 65536 → a * b ≤ 
 place-fits a b h k = mul-le-mul h k
 
 -- there are as many vectors as nodes
-vectors-many : (n D bits d : ℕ) (vectors : List Float) → Sizes n D bits d vectors → length vectors / d ≡ n
-vectors-many n D bits d vectors s = ap (λ (k : ℕ). k / d) (s .vectors-are) ∙ mul-div-cancel n (s .dimension-some)
+vectors-many : (n : ℕ) (p : LeafParams) (vectors : List Float) → Sizes n p vectors → length vectors / (p .dimension) ≡ n
+vectors-many n p vectors s = ap (λ (k : ℕ). k / (p .dimension)) (s .vectors-are) ∙ mul-div-cancel n (s .dimension-some)
 
 -- ---- one row
 
-module _ (vectors : List Float) (d D bits : ℕ) (planes : List Float) (node : ℕ) (candidates : List ℕ) (far : List Float) (ws : List ℕ) where
+module _ (p : LeafParams) (vectors planes : List Float) (node : ℕ) (candidates : List ℕ) (far : List Float) (ws : List ℕ) where
   -- a row that does not stand in the words
-  pub row-none : length ws < node * rowSize D + rowSize D → RowPut vectors d D bits planes node candidates far ws ws
+  pub row-none : length ws < node * rowSize (p .degree) + rowSize (p .degree) → RowPut p vectors planes node candidates far ws ws
   row-none h n rs s many l below few is b =
-      let long : suc node * rowSize D ≤ n * rowSize D = mul-le-mul-right (rowSize D) l in
-      absurd (omega (arith, blocks-length D rs ws b, ap (λ (k : ℕ). k * rowSize D) many, suc-mul node (rowSize D)))
+      let long : suc node * rowSize (p .degree) ≤ n * rowSize (p .degree) = mul-le-mul-right (rowSize (p .degree)) l in
+      absurd (omega (arith, blocks-length (p .degree) rs ws b, ap (λ (k : ℕ). k * rowSize (p .degree)) many, suc-mul node (rowSize (p .degree))))
 
-  pub row-put : (at k : ℕ) (part : List ℕ) → at ≡ node * rowSize D → k ≡ rowSize D
-      → Inserted vectors d bits planes node candidates far (take k (drop at ws)) part → RowPut vectors d D bits planes node candidates far ws (putMid at k ws part)
+  pub row-put : (at k : ℕ) (part : List ℕ) → at ≡ node * rowSize (p .degree) → k ≡ rowSize (p .degree)
+      → Inserted (record { node = record { 0 = node }; dimension = p .dimension; bits = p .bits }) vectors planes candidates far (take k (drop at ws)) part → RowPut p vectors planes node candidates far ws (putMid at k ws part)
   unfolding hashpruneInsert
   row-put at k part e size inserted n rs s many l below few is b =
-      let vs : List (List Float) = vectorsIn d vectors in
+      let vs : List (List Float) = vectorsIn (p .dimension) vectors in
       let old : List ℕ = getD rs node [] in
-      let new : List ℕ = merged D vs node old (selected D bits d vs node candidates) in
+      let new : List ℕ = merged (p .degree) vs node old (selected (p .degree) (p .bits) (p .dimension) vs node candidates) in
       let row : List ℕ = take k (drop at ws) in
       let here : node < length rs = omega arith in
-      let vectors-n : length vectors / d ≡ n = vectors-many n D bits d vectors (s .sizes) in
-      let row-is : row ≡ rowBlock D old = ap₂ (λ (m : ℕ) (a : ℕ). take m (drop a ws)) size e ∙ nth-block D rs ws b node here in
-      let long : length row ≡ 1 + D = ap length row-is ∙ block-length D old (b .short node) in
-      let deg : length row - 1 ≡ D = omega arith in
-      let part-is : part ≡ rowBlock D new =
+      let vectors-n : length vectors / (p .dimension) ≡ n = vectors-many n p vectors (s .sizes) in
+      let row-is : row ≡ rowBlock (p .degree) old = ap₂ (λ (m : ℕ) (a : ℕ). take m (drop a ws)) size e ∙ nth-block (p .degree) rs ws b node here in
+      let long : length row ≡ 1 + (p .degree) = ap length row-is ∙ block-length (p .degree) old (b .short node) in
+      let deg : length row - 1 ≡ (p .degree) = omega arith in
+      let part-is : part ≡ rowBlock (p .degree) new =
       inserted old (record {
         dimension-some = s .sizes .dimension-some;
         dimension-most = s .sizes .dimension-most;
@@ -70,29 +71,29 @@ module _ (vectors : List Float) (d D bits : ℕ) (planes : List Float) (node : �
         old-most = omega (arith, b .short node);
         row-is = row-is ∙ ap (λ (m : ℕ). rowBlock m old) (sym deg);
       })
-      ∙ ap (λ (m : ℕ). rowBlock m (merged m vs node old (selected m bits d vs node candidates))) deg in
-      let past : at + k ≡ suc node * rowSize D = omega (arith, suc-mul node (rowSize D)) in
-      let put : Blocks D (set rs node new) (take (node * rowSize D) ws ++ (rowBlock D new ++ drop (suc node * rowSize D) ws)) =
-      put-block D rs ws b node new here (merged-short D vs node old (selected D bits d vs node candidates)) in
-      let words : take (node * rowSize D) ws ++ (rowBlock D new ++ drop (suc node * rowSize D) ws) ≡ putMid at k ws part =
-      ap₂ (λ (a : ℕ) (z : ℕ). take a ws ++ (rowBlock D new ++ drop z ws)) (sym e) (sym past)
-      ∙ ap₂ (λ (p : List ℕ) (z : List ℕ). take at ws ++ (p ++ z)) (sym part-is) (sym (drop-drop k at ws)) in
-      subst (Blocks D (set rs node new)) words put
+      ∙ ap (λ (m : ℕ). rowBlock m (merged m vs node old (selected m (p .bits) (p .dimension) vs node candidates))) deg in
+      let past : at + k ≡ suc node * rowSize (p .degree) = omega (arith, suc-mul node (rowSize (p .degree))) in
+      let put : Blocks (p .degree) (set rs node new) (take (node * rowSize (p .degree)) ws ++ (rowBlock (p .degree) new ++ drop (suc node * rowSize (p .degree)) ws)) =
+      put-block (p .degree) rs ws b node new here (merged-short (p .degree) vs node old (selected (p .degree) (p .bits) (p .dimension) vs node candidates)) in
+      let words : take (node * rowSize (p .degree)) ws ++ (rowBlock (p .degree) new ++ drop (suc node * rowSize (p .degree)) ws) ≡ putMid at k ws part =
+      ap₂ (λ (a : ℕ) (z : ℕ). take a ws ++ (rowBlock (p .degree) new ++ drop z ws)) (sym e) (sym past)
+      ∙ ap₂ (λ (x : List ℕ) (z : List ℕ). take at ws ++ (x ++ z)) (sym part-is) (sym (drop-drop k at ws)) in
+      subst (Blocks (p .degree) (set rs node new)) words put
 
 -- ---- one place
 
-pub place-put : (vectors : List Float) (d D bits : ℕ) (planes : List Float) (leaf : List ℕ) (i lane : ℕ) (floats : List Float) (rows rows′ : List ℕ)
-    (r : ℕ) (candidates : List ℕ) (far : List Float) → i < length leaf → Candidates leaf floats lane i D 64 64 r candidates far
-    → RowPut vectors d D bits planes (getD leaf i 0) (take r candidates) (take r far) rows rows′ → PlacePut vectors d D bits planes leaf i lane floats rows rows′
-place-put vectors d D bits planes leaf i lane floats rows rows′ r candidates far h c put n rs s many below ready b =
-    let vs : List (List Float) = vectorsIn d vectors in
-    let are : CandidatesAre leaf i D vs r candidates far = c .are vs ready in
-    let found : List ℕ = candidatesAt D vs leaf i in
+pub place-put : (p : LeafParams) (vectors planes : List Float) (leaf : List ℕ) (i lane : ℕ) (floats : List Float) (rows rows′ : List ℕ)
+    (r : ℕ) (candidates : List ℕ) (far : List Float) → i < length leaf → Candidates leaf floats lane i (p .degree) 64 64 r candidates far
+    → RowPut p vectors planes (getD leaf i 0) (take r candidates) (take r far) rows rows′ → PlacePut p vectors planes leaf i lane floats rows rows′
+place-put p vectors planes leaf i lane floats rows rows′ r candidates far h c put n rs s many below ready b =
+    let vs : List (List Float) = vectorsIn (p .dimension) vectors in
+    let are : CandidatesAre leaf i (p .degree) vs r candidates far = c .are vs ready in
+    let found : List ℕ = candidatesAt (p .degree) vs leaf i in
     let node : ℕ = getD leaf i 0 in
-    subst (λ (l : List ℕ). Blocks D (hashpruneInsert D bits d vs node l rs) rows′) (are .nodes)
+    subst (λ (l : List ℕ). Blocks (p .degree) (hashpruneInsert (p .degree) (p .bits) (p .dimension) vs node l rs) rows′) (are .nodes)
     (put n rs s many (below node (in-getD leaf i 0 h))
-    (subst (Below n) (sym (are .nodes)) (λ x m. below x (candidates-in D vs leaf i m)))
-    (omega (arith, ap length (are .nodes), candidates-few D vs leaf i, s .sizes .degree-most))
+    (subst (Below n) (sym (are .nodes)) (λ x m. below x (candidates-in (p .degree) vs leaf i m)))
+    (omega (arith, ap length (are .nodes), candidates-few (p .degree) vs leaf i, s .sizes .degree-most))
     (are .fars ∙ ap (map (between vs node)) (sym (are .nodes)))
     b)
 
@@ -108,18 +109,18 @@ next-place : (D bits d : ℕ) (vs : List (List Float)) (leaf : List ℕ) (rs : L
 unfolding placesTo
 next-place D bits d vs leaf rs i = ap (placesTo D bits d vs leaf rs) (sym (add-one i))
 
-module _ (vectors : List Float) (d D bits : ℕ) (planes : List Float) (leaf : List ℕ) (first : ℕ) (floats : List Float) (rows : List ℕ) where
-  pub places-none : PlacesPut vectors d D bits planes leaf first first floats rows rows
+module _ (p : LeafParams) (vectors planes : List Float) (leaf : List ℕ) (first : ℕ) (floats : List Float) (rows : List ℕ) where
+  pub places-none : PlacesPut p vectors planes leaf first first floats rows rows
   places-none n rs s many held lanes b = b
 
   pub places-more : (i lane : ℕ) (now next : List ℕ) → first ≤ i → i < first + 8 → i < length leaf → lane ≡ i - first
-      → PlacesPut vectors d D bits planes leaf first i floats rows now → PlacePut vectors d D bits planes leaf i lane floats now next
-      → PlacesPut vectors d D bits planes leaf first (i + 1) floats rows next
+      → PlacesPut p vectors planes leaf first i floats rows now → PlacePut p vectors planes leaf i lane floats now next
+      → PlacesPut p vectors planes leaf first (i + 1) floats rows next
   places-more i lane now next a l h e placed put n rs s many held lanes b =
-      let vs : List (List Float) = vectorsIn d vectors in
-      let before : List (List ℕ) = placesTo D bits d vs leaf rs i in
+      let vs : List (List Float) = vectorsIn (p .dimension) vectors in
+      let before : List (List ℕ) = placesTo (p .degree) (p .bits) (p .dimension) vs leaf rs i in
       let place : min (first + lane) (length leaf - 1) ≡ i = omega arith in
-      let sizes : LaneFits leaf floats lane i D 64 64 = record {
+      let sizes : LaneFits leaf floats lane i (p .degree) 64 64 = record {
         place-is = h;
         lane-is = omega arith;
         degree-most = s .sizes .degree-most;
@@ -128,42 +129,42 @@ module _ (vectors : List Float) (d D bits : ℕ) (planes : List Float) (leaf : L
         room-is = omega arith;
         room′-is = omega arith;
       } in
-      let ready : LaneReady leaf floats lane i D 64 64 vs = record {
+      let ready : LaneReady leaf floats lane i (p .degree) 64 64 vs = record {
         sizes = sizes;
-        distances = lanes lane (omega arith) ∙ ap (λ (p : ℕ). map (between vs (getD leaf p 0)) leaf) place;
+        distances = lanes lane (omega arith) ∙ ap (λ (x : ℕ). map (between vs (getD leaf x 0)) leaf) place;
       } in
-      subst (λ (rows : List (List ℕ)). Blocks D rows next) (next-place D bits d vs leaf rs i)
-      (put n before s (places-length D bits d vs leaf rs i ∙ many) (held .below) ready (placed n rs s many held lanes b))
+      subst (λ (rows : List (List ℕ)). Blocks (p .degree) rows next) (next-place (p .degree) (p .bits) (p .dimension) vs leaf rs i)
+      (put n before s (places-length (p .degree) (p .bits) (p .dimension) vs leaf rs i ∙ many) (held .below) ready (placed n rs s many held lanes b))
 
 -- ---- a leaf
 
 -- the places before `first`
-abbrev pub LeafTo : List Float → ℕ → ℕ → ℕ → List Float → List ℕ → ℕ → ℕ → List ℕ → List ℕ → Type 0
-LeafTo vectors d D bits planes leaf room first rows rows′ =
-    (n : ℕ) (rs : List (List ℕ)) → Setting n D bits d vectors planes → length rs ≡ n → LeafHeld n leaf room
-    → Blocks D rs rows → Blocks D (placesTo D bits d (vectorsIn d vectors) leaf rs first) rows′
+abbrev pub LeafTo : LeafParams → List Float → List Float → List ℕ → ℕ → ℕ → List ℕ → List ℕ → Type 0
+LeafTo p vectors planes leaf room first rows rows′ =
+    (n : ℕ) (rs : List (List ℕ)) → Setting n p vectors planes → length rs ≡ n → LeafHeld n leaf room
+    → Blocks (p .degree) rs rows → Blocks (p .degree) (placesTo (p .degree) (p .bits) (p .dimension) (vectorsIn (p .dimension) vectors) leaf rs first) rows′
 
-module _ (vectors : List Float) (d D bits : ℕ) (planes : List Float) (leaf : List ℕ) (room : ℕ) (rows : List ℕ) where
-  pub leaf-single : length leaf ≤ 1 → LeafBuilt vectors d D bits planes leaf room rows rows
+module _ (p : LeafParams) (vectors planes : List Float) (leaf : List ℕ) (room : ℕ) (rows : List ℕ) where
+  pub leaf-single : length leaf ≤ 1 → LeafBuilt p vectors planes leaf room rows rows
   unfolding buildLeaf
-  leaf-single h n rs s many held b = subst (λ (l : List (List ℕ)). Blocks D l rows) (sym (pick-true rs _ (le-leb (length leaf) 1 h))) b
+  leaf-single h n rs s many held b = subst (λ (l : List (List ℕ)). Blocks (p .degree) l rows) (sym (pick-true rs _ (le-leb (length leaf) 1 h))) b
 
-  pub leaf-first : LeafTo vectors d D bits planes leaf room 0 rows rows
+  pub leaf-first : LeafTo p vectors planes leaf room 0 rows rows
   unfolding placesTo
   leaf-first n rs s many held b = b
 
   pub leaf-more : (first end : ℕ) (floats : List Float) (now next : List ℕ) → first < length leaf → length floats ≡ room
-      → LeafTo vectors d D bits planes leaf room first rows now → Distances vectors d leaf first room floats
-      → PlacesPut vectors d D bits planes leaf first end floats now next → LeafTo vectors d D bits planes leaf room end rows next
+      → LeafTo p vectors planes leaf room first rows now → Distances vectors (p .dimension) leaf first room floats
+      → PlacesPut p vectors planes leaf first end floats now next → LeafTo p vectors planes leaf room end rows next
   leaf-more first end floats now next h e to far put n rs s many held b =
       put n rs s many (record { below = held .below; fits = omega (arith, held .fits); few = held .few })
-      (far (s .sizes .dimension-most) h (held .fits) (λ x m. omega (arith, held .below x m, vectors-many n D bits d vectors (s .sizes))))
+      (far (s .sizes .dimension-most) h (held .fits) (λ x m. omega (arith, held .below x m, vectors-many n p vectors (s .sizes))))
       (to n rs s many held b)
 
-  pub leaf-last : (first : ℕ) (now : List ℕ) → 1 < length leaf → first ≡ length leaf → LeafTo vectors d D bits planes leaf room first rows now
-      → LeafBuilt vectors d D bits planes leaf room rows now
+  pub leaf-last : (first : ℕ) (now : List ℕ) → 1 < length leaf → first ≡ length leaf → LeafTo p vectors planes leaf room first rows now
+      → LeafBuilt p vectors planes leaf room rows now
   unfolding buildLeaf
   leaf-last first now h e to n rs s many held b =
-      subst (λ (l : List (List ℕ)). Blocks D l now)
-      (ap (placesTo D bits d (vectorsIn d vectors) leaf rs) e ∙ sym (pick-false rs _ (lt-leb (length leaf) 1 h)))
+      subst (λ (l : List (List ℕ)). Blocks (p .degree) l now)
+      (ap (placesTo (p .degree) (p .bits) (p .dimension) (vectorsIn (p .dimension) vectors) leaf rs) e ∙ sym (pick-false rs _ (lt-leb (length leaf) 1 h)))
       (to n rs s many held b)

@@ -14,55 +14,30 @@ use Rattle.lists.specs.Words.{Blocks}
 use Rattle.hashprune.specs.Hashprune.{PlanesFor}
 use Rattle.build_leaf.specs.Lanes.{nodeAt}
 use Rattle.build_leaf.specs.Candidates.{LaneReady}
+use Rattle.build_leaf.specs.declared.LeafParams.{LeafParams}
 
--- sizes that fit: n nodes, rows of degree D, hashes of so many bits, vectors of d components
-pub record Sizes (n D bits d : ℕ) (vectors : List Float) : Type 0 where
+-- sizes that fit, for an index of n nodes
+pub record Sizes (n : ℕ) (p : LeafParams) (vectors : List Float) : Type 0 where
   pub nodes-most : n ≤ 1024
-  pub degree-most : D ≤ 32
-  pub bits-most : bits ≤ 16
-  pub dimension-some : 1 ≤ d
-  pub dimension-most : d ≤ 64
-  pub vectors-are : length vectors ≡ n * d
+  pub degree-most : p .degree ≤ 32
+  pub bits-most : p .bits ≤ 16
+  pub dimension-some : 1 ≤ p .dimension
+  pub dimension-most : p .dimension ≤ 64
+  pub vectors-are : length vectors ≡ n * p .dimension
 
-pub record Setting (n D bits d : ℕ) (vectors planes : List Float) : Type 0 where
-  pub sizes : Sizes n D bits d vectors
-  pub planes-are : PlanesFor d bits planes
+pub record Setting (n : ℕ) (p : LeafParams) (vectors planes : List Float) : Type 0 where
+  pub sizes : Sizes n p vectors
+  pub planes-are : PlanesFor (p .dimension) (p .bits) planes
 
 -- the blocks of hyperplanes
 abbrev pub PlanesMade : ℕ → ℕ → ℕ → List Float → Type 0
 PlanesMade d bits room planes = room ≡ 1024 → d ≤ 64 → bits ≤ 16 → PlanesFor d bits planes
-
--- a node's candidates are in its row
-abbrev pub RowPut : List Float → ℕ → ℕ → ℕ → List Float → ℕ → List ℕ → List Float → List ℕ → List ℕ → Type 0
-RowPut vectors d D bits planes node candidates far rows rows′ =
-    (n : ℕ) (rs : List (List ℕ)) → Setting n D bits d vectors planes → length rs ≡ n → node < n → Below n candidates → length candidates ≤ 64
-    → far ≡ map (between (vectorsIn d vectors) node) candidates
-    → Blocks D rs rows → Blocks D (hashpruneInsert D bits d (vectorsIn d vectors) node candidates rs) rows′
-
--- one place of a leaf, whose distances stand in a lane
-abbrev pub PlacePut : List Float → ℕ → ℕ → ℕ → List Float → List ℕ → ℕ → ℕ → List Float → List ℕ → List ℕ → Type 0
-PlacePut vectors d D bits planes leaf i lane floats rows rows′ =
-    (n : ℕ) (rs : List (List ℕ)) → Setting n D bits d vectors planes → length rs ≡ n → Below n leaf → LaneReady leaf floats lane i D 64 64 (vectorsIn d vectors)
-    → Blocks D rs rows → Blocks D (hashpruneInsert D bits d (vectorsIn d vectors) (getD leaf i 0) (candidatesAt D (vectorsIn d vectors) leaf i) rs) rows′
 
 -- a leaf that the floats have room for
 pub record LeafHeld (n : ℕ) (leaf : List ℕ) (room : ℕ) : Type 0 where
   pub below : Below n leaf
   pub fits : 8 * length leaf ≤ room
   pub few : length leaf ≤ 2 * n
-
--- its places from `first` on and before `end`, if those before `first` had their turns; the distances of place first + g stand in lane g
-abbrev pub PlacesPut : List Float → ℕ → ℕ → ℕ → List Float → List ℕ → ℕ → ℕ → List Float → List ℕ → List ℕ → Type 0
-PlacesPut vectors d D bits planes leaf first end floats rows rows′ =
-    (n : ℕ) (rs : List (List ℕ)) → Setting n D bits d vectors planes → length rs ≡ n → LeafHeld n leaf (length floats)
-    → ((g : ℕ) → g < 8 → laneOf floats g (length leaf) ≡ map (between (vectorsIn d vectors) (nodeAt leaf (first + g))) leaf)
-    → Blocks D (placesTo D bits d (vectorsIn d vectors) leaf rs first) rows → Blocks D (placesTo D bits d (vectorsIn d vectors) leaf rs end) rows′
-
--- a leaf
-abbrev pub LeafBuilt : List Float → ℕ → ℕ → ℕ → List Float → List ℕ → ℕ → List ℕ → List ℕ → Type 0
-LeafBuilt vectors d D bits planes leaf room rows rows′ =
-    (n : ℕ) (rs : List (List ℕ)) → Setting n D bits d vectors planes → length rs ≡ n → LeafHeld n leaf room
-    → Blocks D rs rows → Blocks D (buildLeaf D bits d (vectorsIn d vectors) leaf rs) rows′
 
 -- leaves whose nodes stand one after the other, each of at most 2·n places
 pub record LeavesIn (n : ℕ) (leaves : List (List ℕ)) (nodes sizes : List ℕ) (room : ℕ) : Type 0 where
@@ -73,13 +48,54 @@ pub record LeavesIn (n : ℕ) (leaves : List (List ℕ)) (nodes sizes : List ℕ
   pub leaf-most : (leaf : List ℕ) → In leaf leaves → length leaf ≤ 2 * n
   pub room-is : 16 * n ≤ room
 
-abbrev pub LeavesBuilt : List Float → ℕ → ℕ → ℕ → List Float → List ℕ → List ℕ → ℕ → List ℕ → List ℕ → Type 0
-LeavesBuilt vectors d D bits planes nodes sizes room rows rows′ =
-    (n : ℕ) (rs leaves : List (List ℕ)) → Setting n D bits d vectors planes → length rs ≡ n → LeavesIn n leaves nodes sizes room
-    → Blocks D rs rows → Blocks D (buildLeaves D bits d (vectorsIn d vectors) leaves rs) rows′
+-- ---- what the functions leave of the rows of an index, by its parameters and the slice of its vectors
 
--- all leaves, where the sizes fit
-abbrev pub Built : List Float → ℕ → ℕ → ℕ → List ℕ → List ℕ → ℕ → List ℕ → List ℕ → Type 0
-Built vectors d D bits nodes sizes room rows rows′ =
-    (rs leaves : List (List ℕ)) → Sizes (length rs) D bits d vectors → LeavesIn (length rs) leaves nodes sizes room
-    → Blocks D rs rows → Blocks D (buildLeaves D bits d (vectorsIn d vectors) leaves rs) rows′
+module _ (p : LeafParams) (vectors : List Float) where
+  abbrev D : ℕ
+  D = p .degree
+
+  abbrev bits : ℕ
+  bits = p .bits
+
+  abbrev d : ℕ
+  d = p .dimension
+
+  abbrev vs : List (List Float)
+  vs = vectorsIn d vectors
+
+  -- a node's candidates are in its row
+  abbrev pub RowPut : List Float → ℕ → List ℕ → List Float → List ℕ → List ℕ → Type 0
+  RowPut planes node candidates far rows rows′ =
+      (n : ℕ) (rs : List (List ℕ)) → Setting n p vectors planes → length rs ≡ n → node < n → Below n candidates → length candidates ≤ 64
+      → far ≡ map (between vs node) candidates
+      → Blocks D rs rows → Blocks D (hashpruneInsert D bits d vs node candidates rs) rows′
+
+  -- one place of a leaf, whose distances stand in a lane
+  abbrev pub PlacePut : List Float → List ℕ → ℕ → ℕ → List Float → List ℕ → List ℕ → Type 0
+  PlacePut planes leaf i lane floats rows rows′ =
+      (n : ℕ) (rs : List (List ℕ)) → Setting n p vectors planes → length rs ≡ n → Below n leaf → LaneReady leaf floats lane i D 64 64 vs
+      → Blocks D rs rows → Blocks D (hashpruneInsert D bits d vs (getD leaf i 0) (candidatesAt D vs leaf i) rs) rows′
+
+  -- the places of a leaf from `first` on and before `end`, if those before `first` had their turns; the distances of place first + g stand in lane g
+  abbrev pub PlacesPut : List Float → List ℕ → ℕ → ℕ → List Float → List ℕ → List ℕ → Type 0
+  PlacesPut planes leaf first end floats rows rows′ =
+      (n : ℕ) (rs : List (List ℕ)) → Setting n p vectors planes → length rs ≡ n → LeafHeld n leaf (length floats)
+      → ((g : ℕ) → g < 8 → laneOf floats g (length leaf) ≡ map (between vs (nodeAt leaf (first + g))) leaf)
+      → Blocks D (placesTo D bits d vs leaf rs first) rows → Blocks D (placesTo D bits d vs leaf rs end) rows′
+
+  -- a leaf
+  abbrev pub LeafBuilt : List Float → List ℕ → ℕ → List ℕ → List ℕ → Type 0
+  LeafBuilt planes leaf room rows rows′ =
+      (n : ℕ) (rs : List (List ℕ)) → Setting n p vectors planes → length rs ≡ n → LeafHeld n leaf room
+      → Blocks D rs rows → Blocks D (buildLeaf D bits d vs leaf rs) rows′
+
+  abbrev pub LeavesBuilt : List Float → List ℕ → List ℕ → ℕ → List ℕ → List ℕ → Type 0
+  LeavesBuilt planes nodes sizes room rows rows′ =
+      (n : ℕ) (rs leaves : List (List ℕ)) → Setting n p vectors planes → length rs ≡ n → LeavesIn n leaves nodes sizes room
+      → Blocks D rs rows → Blocks D (buildLeaves D bits d vs leaves rs) rows′
+
+  -- all leaves, where the sizes fit
+  abbrev pub Built : List ℕ → List ℕ → ℕ → List ℕ → List ℕ → Type 0
+  Built nodes sizes room rows rows′ =
+      (rs leaves : List (List ℕ)) → Sizes (length rs) p vectors → LeavesIn (length rs) leaves nodes sizes room
+      → Blocks D rs rows → Blocks D (buildLeaves D bits d vs leaves rs) rows′

@@ -15,37 +15,34 @@ pub mod leaf_distances;
 ghost use Prim.Native.Nat.{_+_, _≤_, _<_};
 ghost use lib.ListN.{length};
 ghost use Rattle.build_leaf.specs.Built.{RowPut, PlacePut, PlacesPut, LeafBuilt, LeavesBuilt, PlanesMade, Built};
+use hashprune::Point;
 use random::hyperplanes;
 use words::ids::Node;
 use words::slices;
+
+// What leaf lists take from an index and its parameters.
+pub struct LeafParams {
+    pub dimension: u32,
+    pub degree: u16,
+    pub bits: u32,
+}
 
 // All leaves: `nodes` are their nodes, leaf after leaf, `sizes` how many each has, `rows` the rows of
 // all nodes, `floats` scratch.
 pub fn build_leaves(
     vectors: &[f32],
-    dimension: u32,
-    degree: u16,
-    bits: u32,
+    p: LeafParams,
     nodes: &[u32],
     sizes: &[u32],
     rows: &mut [u32],
     floats: &mut [f32],
 )
-    ensures { λ _. ⌜ Built (now (vectors .entry)) dimension degree bits (now (nodes .entry)) (now (sizes .entry)) (length (now (floats .entry))) (now (rows .entry)) (now (rows .exit)) ⌝ }
+    ensures { λ _. ⌜ Built p (now (vectors .entry)) (now (nodes .entry)) (now (sizes .entry)) (length (now (floats .entry)))
+        (now (rows .entry)) (now (rows .exit)) ⌝ }
 {
     let mut planes = [0.0f32; 1024];
-    planes_into(dimension, bits, &mut planes[..]);
-    build_each(
-        vectors,
-        dimension,
-        degree,
-        bits,
-        &planes[..],
-        nodes,
-        sizes,
-        rows,
-        floats,
-    );
+    planes_into(p.dimension, p.bits, &mut planes[..]);
+    build_each(vectors, p, &planes[..], nodes, sizes, rows, floats);
 }
 
 // The hyperplanes, in blocks of eight.
@@ -60,16 +57,15 @@ fn planes_into(dimension: u32, bits: u32, out: &mut [f32])
 // Leaf after leaf. A size that runs past the nodes ends it.
 fn build_each(
     vectors: &[f32],
-    dimension: u32,
-    degree: u16,
-    bits: u32,
+    p: LeafParams,
     planes: &[f32],
     nodes: &[u32],
     sizes: &[u32],
     rows: &mut [u32],
     floats: &mut [f32],
 )
-    ensures { λ _. ⌜ LeavesBuilt (now (vectors .entry)) dimension degree bits (now (planes .entry)) (now (nodes .entry)) (now (sizes .entry)) (length (now (floats .entry))) (now (rows .entry)) (now (rows .exit)) ⌝ }
+    ensures { λ _. ⌜ LeavesBuilt p (now (vectors .entry)) (now (planes .entry)) (now (nodes .entry)) (now (sizes .entry))
+        (length (now (floats .entry))) (now (rows .entry)) (now (rows .exit)) ⌝ }
 {
     let mut at: usize = 0;
     let mut k: usize = 0;
@@ -78,16 +74,7 @@ fn build_each(
         if nodes.len() < end {
             return;
         }
-        build_leaf(
-            vectors,
-            dimension,
-            degree,
-            bits,
-            planes,
-            &nodes[at..end],
-            rows,
-            floats,
-        );
+        build_leaf(vectors, p, planes, &nodes[at..end], rows, floats);
         at = end;
         k += 1;
     }
@@ -96,35 +83,23 @@ fn build_each(
 // One leaf, eight places at a time. A leaf of one node or none changes nothing.
 fn build_leaf(
     vectors: &[f32],
-    dimension: u32,
-    degree: u16,
-    bits: u32,
+    p: LeafParams,
     planes: &[f32],
     leaf: &[u32],
     rows: &mut [u32],
     floats: &mut [f32],
 )
-    ensures { λ _. ⌜ LeafBuilt (now (vectors .entry)) dimension degree bits (now (planes .entry)) (now (leaf .entry)) (length (now (floats .entry))) (now (rows .entry)) (now (rows .exit)) ⌝ }
+    ensures { λ _. ⌜ LeafBuilt p (now (vectors .entry)) (now (planes .entry)) (now (leaf .entry)) (length (now (floats .entry)))
+        (now (rows .entry)) (now (rows .exit)) ⌝ }
 {
     if leaf.len() <= 1 {
         return;
     }
     let mut first: usize = 0;
     while first < leaf.len() {
-        leaf_distances::distances_into(vectors, dimension, leaf, first, floats);
+        leaf_distances::distances_into(vectors, p.dimension, leaf, first, floats);
         let end = slices::lesser(first + 8, leaf.len());
-        each_place(
-            vectors,
-            dimension,
-            degree,
-            bits,
-            planes,
-            leaf,
-            first,
-            end,
-            floats,
-            rows,
-        );
+        each_place(vectors, p, planes, leaf, first, end, floats, rows);
         first = end;
     }
 }
@@ -132,9 +107,7 @@ fn build_leaf(
 // The places from `first` on and before `end`, whose distances stand in the lanes of the floats.
 fn each_place(
     vectors: &[f32],
-    dimension: u32,
-    degree: u16,
-    bits: u32,
+    p: LeafParams,
     planes: &[f32],
     leaf: &[u32],
     first: usize,
@@ -143,22 +116,12 @@ fn each_place(
     rows: &mut [u32],
 )
     requires { ⌜ (first ≤ end) × (end ≤ first + 8) × (end ≤ length (now leaf)) ⌝ }
-    ensures { λ _. ⌜ PlacesPut (now (vectors .entry)) dimension degree bits (now (planes .entry)) (now (leaf .entry)) first end (now (floats .entry)) (now (rows .entry)) (now (rows .exit)) ⌝ }
+    ensures { λ _. ⌜ PlacesPut p (now (vectors .entry)) (now (planes .entry)) (now (leaf .entry)) first end (now (floats .entry))
+        (now (rows .entry)) (now (rows .exit)) ⌝ }
 {
     let mut i = first;
     while i < end {
-        one_place(
-            vectors,
-            dimension,
-            degree,
-            bits,
-            planes,
-            leaf,
-            i,
-            i - first,
-            floats,
-            rows,
-        );
+        one_place(vectors, p, planes, leaf, i, i - first, floats, rows);
         i += 1;
     }
 }
@@ -166,9 +129,7 @@ fn each_place(
 // One place: its candidates go to the row of its node.
 fn one_place(
     vectors: &[f32],
-    dimension: u32,
-    degree: u16,
-    bits: u32,
+    p: LeafParams,
     planes: &[f32],
     leaf: &[u32],
     i: usize,
@@ -177,7 +138,8 @@ fn one_place(
     rows: &mut [u32],
 )
     requires { ⌜ i < length (now leaf) ⌝ }
-    ensures { λ _. ⌜ PlacePut (now (vectors .entry)) dimension degree bits (now (planes .entry)) (now (leaf .entry)) i lane (now (floats .entry)) (now (rows .entry)) (now (rows .exit)) ⌝ }
+    ensures { λ _. ⌜ PlacePut p (now (vectors .entry)) (now (planes .entry)) (now (leaf .entry)) i lane (now (floats .entry))
+        (now (rows .entry)) (now (rows .exit)) ⌝ }
 {
     let mut candidates = [0u32; 64];
     let mut far = [0.0f32; 64];
@@ -186,16 +148,14 @@ fn one_place(
         floats,
         lane,
         i,
-        degree,
+        p.degree,
         &mut candidates[..],
         &mut far[..],
     );
     let node = Node(leaf[i]);
     put_row(
         vectors,
-        dimension,
-        degree,
-        bits,
+        p,
         planes,
         node,
         &candidates[..held],
@@ -207,31 +167,26 @@ fn one_place(
 // The candidates of a node go to its row, if that is there.
 fn put_row(
     vectors: &[f32],
-    dimension: u32,
-    degree: u16,
-    bits: u32,
+    p: LeafParams,
     planes: &[f32],
     node: Node,
     candidates: &[u32],
     far: &[f32],
     rows: &mut [u32],
 )
-    ensures { λ _. ⌜ RowPut (now (vectors .entry)) dimension degree bits (now (planes .entry)) (node .0) (now (candidates .entry)) (now (far .entry)) (now (rows .entry)) (now (rows .exit)) ⌝ }
+    ensures { λ _. ⌜ RowPut p (now (vectors .entry)) (now (planes .entry)) (node .0) (now (candidates .entry)) (now (far .entry))
+        (now (rows .entry)) (now (rows .exit)) ⌝ }
 {
-    let size = 1 + degree as usize;
+    let size = 1 + p.degree as usize;
     let at = node.0 as usize * size;
     let end = at + size;
     if rows.len() < end {
         return;
     }
-    hashprune::hashprune_insert(
-        vectors,
-        dimension,
-        bits,
-        planes,
+    let point = Point {
         node,
-        candidates,
-        far,
-        &mut rows[at..end],
-    );
+        dimension: p.dimension,
+        bits: p.bits,
+    };
+    hashprune::hashprune_insert(vectors, point, planes, candidates, far, &mut rows[at..end]);
 }

@@ -12,13 +12,18 @@ ghost use mathlib.Core.Path.{_≡_};
 ghost use Prim.Native.Nat.{_*_, _≤_};
 ghost use lib.ListN.{length};
 ghost use Rattle.distance.specs.Vectors.{vectorsIn};
-ghost use Rattle.def_graph.specs.Partition.{bucketsOf};
-ghost use Rattle.dealing.specs.Deal.{Holding};
+ghost use Rattle.dealing.specs.Deal.{Holding, bucketsFor};
 ghost use Rattle.carving.specs.Carving.{Partitioned};
 ghost use Rattle.carving.specs.Steps.{firstSize, Segment, Dealing, CarvesSegment, CarvesBuckets, Carved, MarkedSizes};
 use dealing::DealParams;
 use random::leaders;
 use words::slices;
+
+// The words of a partition, for n nodes: from 0 on the nodes of all leaves, leaf after leaf, and from
+// SIZES_AT · n on the leaves' sizes; WORDS · n in all.
+pub const SIZES_AT: usize = 2;
+
+pub const WORDS: usize = 4;
 
 // The leaves of an index of n nodes, whose vectors of `dimension` floats stand in `vectors`. Returns how
 // many leaves hold a node. From word 0 on stand their nodes, n or 2·n, leaf after leaf; from word 2·n on
@@ -33,7 +38,8 @@ pub fn partition(
     leader_fraction: f64,
     words: &mut [u32],
 ) -> u32
-    ensures { λ r. ⌜ Partitioned «max_leaf_size» «min_leaf_size» «leader_fraction» (vectorsIn dimension (now (vectors .entry))) n (now (words .entry)) (now (words .exit)) r ⌝ }
+    ensures { λ r. ⌜ Partitioned «max_leaf_size» «min_leaf_size» «leader_fraction» (vectorsIn dimension (now (vectors .entry))) n
+        (now (words .entry)) (now (words .exit)) r ⌝ }
 {
     let size = n as usize;
     if n > 1024 {
@@ -42,10 +48,10 @@ pub fn partition(
     if max_leaf_size == 0 {
         return 0;
     }
-    if words.len() < 4 * size {
+    if words.len() < WORDS * size {
         return 0;
     }
-    let room = 2 * size;
+    let room = SIZES_AT * size;
     let p = DealParams {
         dimension,
         min_leaf: min_leaf_size,
@@ -75,7 +81,8 @@ fn carve_all(
     marks: &mut [u32],
 ) -> usize
     requires { ⌜ (n ≤ 1024) × (1 ≤ «max_leaf») × (length (now nodes) ≡ 2 * n) × (length (now marks) ≡ 2 * n) ⌝ }
-    ensures { λ r. ⌜ Carved «max_leaf» (p .«min_leaf») (p .«leader_fraction») (vectorsIn (p .dimension) (now (vectors .entry))) n r (now (nodes .exit)) (now (marks .exit)) ⌝ }
+    ensures { λ r. ⌜ Carved «max_leaf» (p .«min_leaf») (p .«leader_fraction») (vectorsIn (p .dimension) (now (vectors .entry))) n r
+        (now (nodes .exit)) (now (marks .exit)) ⌝ }
 {
     let size = n as usize;
     if n <= max_leaf {
@@ -193,7 +200,7 @@ fn deal_over(
     cards: &mut [u32],
 )
     requires { ⌜ Dealing level (now nodes) (now marks) (length (now ids)) (length (now room)) (length (now cards)) ⌝ }
-    ensures { λ _. ⌜ Holding (bucketsOf (p .«min_leaf») (p .«leader_fraction») (vectorsIn (p .dimension) (now (vectors .entry))) level (now (nodes .entry))) (now (nodes .exit)) (now (marks .exit)) ⌝ }
+    ensures { λ _. ⌜ Holding (bucketsFor p (now (vectors .entry)) level (now (nodes .entry))) (now (nodes .exit)) (now (marks .exit)) ⌝ }
 {
     let size = nodes.len();
     slices::copy_words(&mut ids[..size], nodes);

@@ -27,6 +27,7 @@ use Rattle.simhash.specs.Blocks.{blocksHash}
 use Rattle.simhash.proofs.Residual.{length-residual}
 use Rattle.simhash.proofs.Laws.{hash-is-simhash}
 use Rattle.store.specs.View.{entriesIn, rowBlock}
+use Rattle.hashprune.specs.declared.Point.{Point}
 use Rattle.hashprune.specs.Steps.{farAt, hashAt, firstPlaces, cellsOf, rankedPlace, rankedNode, selectedPairs, oldPairs, mergedPairs, rowAfter}
 use Rattle.hashprune.specs.Hashprune.{Turn}
 use Rattle.hashprune.proofs.Cells.{cells-below, places-below}
@@ -152,6 +153,9 @@ module _ (vectors : List Float) (dimension bits : ℕ) (planes : List Float) (p 
   abbrev vs : List (List Float)
   vs = vectorsIn dimension vectors
 
+  abbrev point : Point
+  point = record { node = record { 0 = p }; dimension = dimension; bits = bits }
+
   abbrev node-at : ℕ → ℕ
   node-at i = getD candidates i 0
 
@@ -169,7 +173,7 @@ module _ (vectors : List Float) (dimension bits : ℕ) (planes : List Float) (p 
       default (x ∷ l) zero h = refl
       default (x ∷ l) (suc i) h = default l i (omega arith)
 
-  hash-same : (i : ℕ) → i < n → hashAt vectors dimension bits planes (vectorOf vs p) candidates i ≡ hashOf bits dimension vs p (node-at i)
+  hash-same : (i : ℕ) → i < n → hashAt point vectors planes candidates i ≡ hashOf bits dimension vs p (node-at i)
   unfolding hashOf
   hash-same i h =
       let pv : List Float = vectorOf vs p in
@@ -194,16 +198,16 @@ module _ (vectors : List Float) (dimension bits : ℕ) (planes : List Float) (p 
   unfolding rank
   place-ranked i h = ap (λ (x : Float). (keyOf binary32 x, node-at i)) (far-same i h)
 
-  cells-are : map (rankedPlace candidates far) (nodesIn (cellsOf vectors dimension bits planes (vectorOf vs p) candidates far))
+  cells-are : map (rankedPlace candidates far) (nodesIn (cellsOf point vectors planes candidates far))
       ≡ map (ranked (rank vs p)) (nodesIn (cellsFrom (between vs p) (hashOf bits dimension vs p) [] candidates))
   cells-are =
-      let places : List Cell = cellsOf vectors dimension bits planes (vectorOf vs p) candidates far in
+      let places : List Cell = cellsOf point vectors planes candidates far in
       let by-node : places ≡ cellsFrom (λ i. between vs p (node-at i)) (λ i. hashOf bits dimension vs p (node-at i)) [] (firstPlaces n)
-      = cells-same n (farAt far) (λ i. between vs p (node-at i)) far-same (hashAt vectors dimension bits planes (vectorOf vs p) candidates)
+      = cells-same n (farAt far) (λ i. between vs p (node-at i)) far-same (hashAt point vectors planes candidates)
       (λ i. hashOf bits dimension vs p (node-at i)) hash-same [] (firstPlaces n) (λ x m. absurd (in-nil m)) (λ x m. places-below n x m) in
       let all : map node-at (firstPlaces n) ≡ candidates = places-all candidates n (omega arith) ∙ lib.Seq.take-length candidates in
       map-same (rankedPlace candidates far) (λ i. ranked (rank vs p) (node-at i)) n (nodesIn places)
-      (cells-below (farAt far) (hashAt vectors dimension bits planes (vectorOf vs p) candidates) n) place-ranked
+      (cells-below (farAt far) (hashAt point vectors planes candidates) n) place-ranked
       ∙ sym (map-twice (ranked (rank vs p)) node-at (nodesIn places))
       ∙ ap (map (ranked (rank vs p)))
       (ap (λ (l : List Cell). map node-at (nodesIn l)) by-node
@@ -211,7 +215,7 @@ module _ (vectors : List Float) (dimension bits : ℕ) (planes : List Float) (p 
       ∙ ap nodesIn (sym (cells-map node-at (between vs p) (hashOf bits dimension vs p) [] (firstPlaces n)))
       ∙ ap (λ (l : List ℕ). nodesIn (cellsFrom (between vs p) (hashOf bits dimension vs p) [] l)) all)
 
-  selected-are : take (length row - 1) (selectedPairs vectors dimension bits planes (vectorOf vs p) candidates far)
+  selected-are : take (length row - 1) (selectedPairs point vectors planes candidates far)
       ≡ map (ranked (rank vs p)) (selected (length row - 1) bits dimension vs p candidates)
   unfolding selected
   selected-are =
@@ -220,7 +224,7 @@ module _ (vectors : List Float) (dimension bits : ℕ) (planes : List Float) (p 
       ∙ ap (take (length row - 1)) (sort-ranked (rank vs p) nodes)
       ∙ take-map (ranked (rank vs p)) (length row - 1) (sortBy (rank vs p) nodes)
 
-  pub turn-is : rowAfter vectors dimension bits planes (vectorOf vs p) candidates far row
+  pub turn-is : rowAfter point vectors planes candidates far row
       ≡ rowBlock (length row - 1) (merged (length row - 1) vs p old (selected (length row - 1) bits dimension vs p candidates))
   unfolding merged
   turn-is =

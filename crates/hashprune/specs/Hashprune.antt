@@ -10,6 +10,7 @@ use Rattle.distance.specs.Vectors.{vectorsIn, between}
 use Rattle.simhash.specs.Blocks.{planeBlocks}
 use Rattle.def_graph.specs.Leaf.{selected, merged}
 use Rattle.store.specs.View.{rowBlock}
+use Rattle.hashprune.specs.declared.Point.{Point}
 
 -- `planes` are the blocks that `simhash::plane_blocks_into` makes of a table of the stream's first numbers, whatever follows them, with room for
 -- `bits` planes in both
@@ -36,9 +37,10 @@ pub record Turn (vectors : List Float) (dimension bits : ℕ) (planes : List Flo
   pub row-is : row ≡ rowBlock (length row - 1) old
 
 -- the row afterwards, where all of that is so
-abbrev pub Inserted : List Float → ℕ → ℕ → List Float → ℕ → List ℕ → List Float → List ℕ → List ℕ → Type 0
-Inserted vectors dimension bits planes p candidates far row row′ =
-    (old : List ℕ) → Turn vectors dimension bits planes p candidates far row old
-    → row′
-    ≡ rowBlock (length row - 1)
-    (merged (length row - 1) (vectorsIn dimension vectors) p old (selected (length row - 1) bits dimension (vectorsIn dimension vectors) p candidates))
+abbrev pub Inserted : Point → List Float → List Float → List ℕ → List Float → List ℕ → List ℕ → Type 0
+Inserted p vectors planes candidates far row row′ =
+    let d : ℕ = p .dimension in
+    let D : ℕ = length row - 1 in
+    let vs : List (List Float) = vectorsIn d vectors in
+    (old : List ℕ) → Turn vectors d (p .bits) planes (p .node .0) candidates far row old
+    → row′ ≡ rowBlock D (merged D vs (p .node .0) old (selected D (p .bits) d vs (p .node .0) candidates))

@@ -4,7 +4,8 @@ use mathlib.Core.Path.{_≡_}
 use mathlib.Core.List.{List, [], _∷_, _++_, map}
 use Prim.Native.Nat.{ℕ, zero, suc, _-_, _≤_, _<_, min}
 use lib.ListN.{length, getD, take, drop}
-use lib.Ieee.{Float, binary32, nan}
+use lib.Ieee.{Float, binary32, nan, lt}
+use Rattle.basics.specs.Choice.{pick}
 use Rattle.basics.specs.Nodes.{Below}
 use Rattle.distance.specs.Order.{keyOf}
 use Rattle.distance.specs.Distance.{distanceOf}
@@ -14,6 +15,7 @@ use Rattle.def_graph.specs.Simhash.{residual}
 use Rattle.def_graph.specs.Leaf.{Cell, nodesIn, cellsFrom, dedup}
 use Rattle.simhash.specs.Blocks.{blocksHash}
 use Rattle.store.specs.View.{entriesIn, rowBlock}
+use Rattle.hashprune.specs.declared.Point.{Point}
 
 -- ---- hash cells, each held by a place among the candidates
 
@@ -43,6 +45,10 @@ insertedAt j v l = take j l ++ (v ∷ drop j l)
 abbrev pub farAt : List Float → ℕ → Float
 farAt far i = getD far i nan
 
+-- of two candidates that come to a cell, the one that is there stays unless the other is nearer
+abbrev pub winner : List Float → ℕ → ℕ → ℕ
+winner far place holder = pick (lt (farAt far place) (farAt far holder)) place holder
+
 -- room for one cell more, whose candidate has a distance, as all that hold cells have
 pub record ContestRoom (held place : ℕ) (hashes places : List ℕ) (far : List Float) : Type 0 where
   pub hashes-room : held < length hashes
@@ -54,9 +60,13 @@ pub record ContestRoom (held place : ℕ) (hashes places : List ℕ) (far : List
 abbrev pub hashBy : List Float → ℕ → List Float → List Float → ℕ
 hashBy planes bits p c = blocksHash (take 64 (residual binary32 c p)) planes (min bits 16)
 
--- that of the candidate at a place
-abbrev pub hashAt : List Float → ℕ → ℕ → List Float → List Float → List ℕ → ℕ → ℕ
-hashAt vectors dimension bits planes p candidates i = hashBy planes bits p (vectorOf (vectorsIn dimension vectors) (getD candidates i 0))
+-- the vector of the node whose turn it is
+abbrev pub vectorAt : Point → List Float → List Float
+vectorAt p vectors = vectorOf (vectorsIn (p .dimension) vectors) (p .node .0)
+
+-- the hash of the candidate at a place
+abbrev pub hashAt : Point → List Float → List Float → List ℕ → ℕ → ℕ
+hashAt p vectors planes candidates i = hashBy planes (p .bits) (vectorAt p vectors) (vectorOf (vectorsIn (p .dimension) vectors) (getD candidates i 0))
 
 -- 0 to n − 1
 unfoldable pub firstPlaces : ℕ → List ℕ
@@ -64,9 +74,8 @@ firstPlaces zero = []
 firstPlaces (suc n) = firstPlaces n ++ (n ∷ [])
 
 -- the cells after all candidates have come
-abbrev pub cellsOf : List Float → ℕ → ℕ → List Float → List Float → List ℕ → List Float → List Cell
-cellsOf vectors dimension bits planes p candidates far =
-    cellsFrom (farAt far) (hashAt vectors dimension bits planes p candidates) [] (firstPlaces (length candidates))
+abbrev pub cellsOf : Point → List Float → List Float → List ℕ → List Float → List Cell
+cellsOf p vectors planes candidates far = cellsFrom (farAt far) (hashAt p vectors planes candidates) [] (firstPlaces (length candidates))
 
 -- ---- nodes with the keys that they are sorted by
 
@@ -77,9 +86,8 @@ abbrev pub rankedNode : List Float → ℕ → List Float → ℕ → ℕ × ℕ
 rankedNode vectors dimension p x = (keyOf binary32 (distanceOf binary32 p (vectorOf (vectorsIn dimension vectors) x)), x)
 
 -- the nodes that hold cells, the nearest first
-abbrev pub selectedPairs : List Float → ℕ → ℕ → List Float → List Float → List ℕ → List Float → List (ℕ × ℕ)
-selectedPairs vectors dimension bits planes p candidates far =
-    sortBy keyIn (map (rankedPlace candidates far) (nodesIn (cellsOf vectors dimension bits planes p candidates far)))
+abbrev pub selectedPairs : Point → List Float → List Float → List ℕ → List Float → List (ℕ × ℕ)
+selectedPairs p vectors planes candidates far = sortBy keyIn (map (rankedPlace candidates far) (nodesIn (cellsOf p vectors planes candidates far)))
 
 -- the entries that a row has
 abbrev pub oldPairs : List Float → ℕ → List Float → List ℕ → List (ℕ × ℕ)
@@ -155,7 +163,8 @@ pub record TurnScratch (keys ids hashes places : List ℕ) : Type 0 where
   pub places-room : 64 ≤ length places
 
 -- the row after a turn, by what the steps say
-abbrev pub rowAfter : List Float → ℕ → ℕ → List Float → List Float → List ℕ → List Float → List ℕ → List ℕ
-rowAfter vectors dimension bits planes p candidates far row =
-    rowBlock (length row - 1)
-    (mergedPairs (length row - 1) (oldPairs vectors dimension p row ++ take (length row - 1) (selectedPairs vectors dimension bits planes p candidates far)))
+abbrev pub rowAfter : Point → List Float → List Float → List ℕ → List Float → List ℕ → List ℕ
+rowAfter p vectors planes candidates far row =
+    let D : ℕ = length row - 1 in
+    let old : List (ℕ × ℕ) = oldPairs vectors (p .dimension) (vectorAt p vectors) row in
+    rowBlock D (mergedPairs D (old ++ take D (selectedPairs p vectors planes candidates far)))

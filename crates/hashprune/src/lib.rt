@@ -15,16 +15,15 @@ ghost use mathlib.Core.List.{map};
 ghost use Prim.Native.Nat.{_+_, _-_, _≤_, _<_};
 ghost use mathlib.Core.Bool.{_&&_};
 ghost use lib.Dec.{ltb, eqb};
-ghost use lib.Ieee.{binary32, lt};
+ghost use lib.Ieee.{binary32};
 ghost use lib.ListN.{length, getD, set, take, drop};
-ghost use Rattle.basics.specs.Choice.{pick};
 ghost use Rattle.distance.specs.Order.{keyOf};
 ghost use Rattle.distance.specs.Distance.{distanceOf};
 ghost use Rattle.distance.specs.Vectors.{vectorsIn, vectorOf};
 ghost use Rattle.sorting.specs.Sorting.{pairs, keysOf, idsOf, sortedKeys, sortedIds};
 ghost use Rattle.def_graph.specs.Leaf.{putCell, dedup};
 ghost use Rattle.store.specs.View.{rowBlock};
-ghost use Rattle.hashprune.specs.Steps.{cellIn, cellsIn, Placed, insertedAt, farAt, ContestRoom, hashBy, cellsOf};
+ghost use Rattle.hashprune.specs.Steps.{cellIn, cellsIn, Placed, insertedAt, farAt, winner, ContestRoom, hashBy, cellsOf};
 ghost use Rattle.hashprune.specs.Steps.{CellRoom, PlaceRoom, RowRoom, SortRoom, SelectRoom, Selected, MergeRoom, TurnRoom, TurnScratch, rowAfter};
 ghost use Rattle.hashprune.specs.Steps.{rankedPlace, selectedPairs, oldPairs, mergedPairs};
 ghost use Rattle.hashprune.specs.Hashprune.{Inserted};
@@ -32,6 +31,14 @@ use distance::order;
 use distance::vectors;
 use words::ids::Node;
 use words::slices;
+
+// The node whose turn it is, and what the index has for it: how long its vectors and how many its hash bits
+// are.
+pub struct Point {
+    pub node: Node,
+    pub dimension: u32,
+    pub bits: u32,
+}
 
 // The hash of a candidate's residual, seen from p.
 fn hash_of(p: &[f32], c: &[f32], planes: &[f32], bits: u32) -> u32
@@ -86,7 +93,7 @@ fn stands_at(list: &[u32], at: usize, x: u32) -> bool
 // distance.
 fn contest(places: &mut [u32], at: usize, place: u32, far: &[f32])
     requires { ⌜ (at < length (now places)) × (place < length (now far)) × (getD (now places) at 0 < length (now far)) ⌝ }
-    ensures { λ _. ⌜ now (places .exit) ≡ set (now (places .entry)) at (pick (lt (farAt (now (far .entry)) place) (farAt (now (far .entry)) (getD (now (places .entry)) at 0))) place (getD (now (places .entry)) at 0)) ⌝ }
+    ensures { λ _. ⌜ now (places .exit) ≡ set (now (places .entry)) at (winner (now (far .entry)) place (getD (now (places .entry)) at 0)) ⌝ }
 {
     let holder = places[at];
     if far[place as usize] < far[holder as usize] {
@@ -105,7 +112,8 @@ fn put_cell(
 ) -> usize
     requires { ⌜ ContestRoom held place (now hashes) (now places) (now far) ⌝ }
     ensures { λ r. ⌜ (r ≤ held + 1)
-        × (cellsIn r (now (hashes .exit)) (now (places .exit)) ≡ putCell (farAt (now (far .entry))) (cellIn (hash, place)) (cellsIn held (now (hashes .entry)) (now (places .entry)))) ⌝ }
+        × (cellsIn r (now (hashes .exit)) (now (places .exit))
+        ≡ putCell (farAt (now (far .entry))) (cellIn (hash, place)) (cellsIn held (now (hashes .entry)) (now (places .entry)))) ⌝ }
 {
     let at = place_of(&hashes[..held], hash);
     if stands_at(&hashes[..held], at, hash) {
@@ -136,23 +144,29 @@ fn hash_of_node(
 // there are.
 fn fill_cells(
     vectors: &[f32],
-    dimension: u32,
-    bits: u32,
+    point: Point,
     planes: &[f32],
-    p: &[f32],
     candidates: &[u32],
     far: &[f32],
     hashes: &mut [u32],
     places: &mut [u32],
 ) -> usize
     requires { ⌜ CellRoom (length (now candidates)) (now far) (now hashes) (now places) ⌝ }
-    ensures { λ r. ⌜ (r ≤ length (now (candidates .entry)))
-        × (cellsIn r (now (hashes .exit)) (now (places .exit)) ≡ cellsOf (now (vectors .entry)) dimension bits (now (planes .entry)) (now (p .entry)) (now (candidates .entry)) (now (far .entry))) ⌝ }
+    ensures { λ r. ⌜ (r ≤ length (now (candidates .entry))) × (cellsIn r (now (hashes .exit)) (now (places .exit))
+        ≡ cellsOf point (now (vectors .entry)) (now (planes .entry)) (now (candidates .entry)) (now (far .entry))) ⌝ }
 {
+    let p = vectors::get_vector(vectors, point.dimension, point.node);
     let mut held: usize = 0;
     let mut i: usize = 0;
     while i < candidates.len() {
-        let hash = hash_of_node(vectors, dimension, p, Node(candidates[i]), planes, bits);
+        let hash = hash_of_node(
+            vectors,
+            point.dimension,
+            p,
+            Node(candidates[i]),
+            planes,
+            point.bits,
+        );
         held = put_cell(hashes, places, held, hash, i as u32, far);
         i += 1;
     }
@@ -259,10 +273,8 @@ fn sort_first(
 // front of two slices. Returns how many there are. Cells and sorting share the scratch.
 fn select(
     vectors: &[f32],
-    dimension: u32,
-    bits: u32,
+    point: Point,
     planes: &[f32],
-    p: &[f32],
     candidates: &[u32],
     far: &[f32],
     hashes: &mut [u32],
@@ -271,19 +283,10 @@ fn select(
     ids: &mut [u32],
 ) -> usize
     requires { ⌜ SelectRoom (length (now candidates)) (now far) (now hashes) (now places) (now keys) (now ids) ⌝ }
-    ensures { λ r. ⌜ Selected (selectedPairs (now (vectors .entry)) dimension bits (now (planes .entry)) (now (p .entry)) (now (candidates .entry)) (now (far .entry))) (length (now (candidates .entry))) r (now (keys .entry)) (now (ids .entry)) (now (keys .exit)) (now (ids .exit)) ⌝ }
+    ensures { λ r. ⌜ Selected (selectedPairs point (now (vectors .entry)) (now (planes .entry)) (now (candidates .entry)) (now (far .entry)))
+        (length (now (candidates .entry))) r (now (keys .entry)) (now (ids .entry)) (now (keys .exit)) (now (ids .exit)) ⌝ }
 {
-    let held = fill_cells(
-        vectors,
-        dimension,
-        bits,
-        planes,
-        p,
-        candidates,
-        far,
-        hashes,
-        places,
-    );
+    let held = fill_cells(vectors, point, planes, candidates, far, hashes, places);
     rank_places(candidates, far, &places[..held], keys, ids);
     sort_first(keys, ids, held, hashes, places);
     held
@@ -298,21 +301,20 @@ fn merge_row(
     row: &mut [u32],
 )
     requires { ⌜ MergeRoom (now keys) (now ids) (now «spare_keys») (now «spare_ids») (now row) ⌝ }
-    ensures { λ _. ⌜ now (row .exit) ≡ rowBlock (length (now (row .entry)) - 1) (mergedPairs (length (now (row .entry)) - 1) (pairs (now (keys .entry)) (now (ids .entry)))) ⌝ }
+    ensures { λ _. ⌜ now (row .exit)
+        ≡ rowBlock (length (now (row .entry)) - 1) (mergedPairs (length (now (row .entry)) - 1) (pairs (now (keys .entry)) (now (ids .entry)))) ⌝ }
 {
     sorting::sort_pairs(keys, ids, spare_keys, spare_ids);
     let from = dedup(ids);
     write_row(row, &ids[from..]);
 }
 
-// The turn of a node with vector p, where sizes fit and there is scratch: the row's entries come first,
-// then what is selected.
+// The turn of a node, where sizes fit and there is scratch: the row's entries come first, then what is
+// selected.
 fn insert_with(
     vectors: &[f32],
-    dimension: u32,
-    bits: u32,
+    point: Point,
     planes: &[f32],
-    p: &[f32],
     candidates: &[u32],
     far: &[f32],
     row: &mut [u32],
@@ -323,15 +325,15 @@ fn insert_with(
 )
     requires { ⌜ TurnRoom (now candidates) (now far) (now row) ⌝ }
     requires { ⌜ TurnScratch (now keys) (now ids) (now hashes) (now places) ⌝ }
-    ensures { λ _. ⌜ now (row .exit) ≡ rowAfter (now (vectors .entry)) dimension bits (now (planes .entry)) (now (p .entry)) (now (candidates .entry)) (now (far .entry)) (now (row .entry)) ⌝ }
+    ensures { λ _. ⌜ now (row .exit)
+        ≡ rowAfter point (now (vectors .entry)) (now (planes .entry)) (now (candidates .entry)) (now (far .entry)) (now (row .entry)) ⌝ }
 {
-    let old = rank_row(vectors, dimension, p, row, keys, ids);
+    let p = vectors::get_vector(vectors, point.dimension, point.node);
+    let old = rank_row(vectors, point.dimension, p, row, keys, ids);
     let new = select(
         vectors,
-        dimension,
-        bits,
+        point,
         planes,
-        p,
         candidates,
         far,
         hashes,
@@ -346,16 +348,15 @@ fn insert_with(
 // The same with scratch of its own.
 fn insert_fitting(
     vectors: &[f32],
-    dimension: u32,
-    bits: u32,
+    point: Point,
     planes: &[f32],
-    p: &[f32],
     candidates: &[u32],
     far: &[f32],
     row: &mut [u32],
 )
     requires { ⌜ TurnRoom (now candidates) (now far) (now row) ⌝ }
-    ensures { λ _. ⌜ now (row .exit) ≡ rowAfter (now (vectors .entry)) dimension bits (now (planes .entry)) (now (p .entry)) (now (candidates .entry)) (now (far .entry)) (now (row .entry)) ⌝ }
+    ensures { λ _. ⌜ now (row .exit)
+        ≡ rowAfter point (now (vectors .entry)) (now (planes .entry)) (now (candidates .entry)) (now (far .entry)) (now (row .entry)) ⌝ }
 {
     let mut keys = [0u32; 96];
     let mut ids = [0u32; 96];
@@ -363,10 +364,8 @@ fn insert_fitting(
     let mut places = [0u32; 64];
     insert_with(
         vectors,
-        dimension,
-        bits,
+        point,
         planes,
-        p,
         candidates,
         far,
         row,
@@ -377,20 +376,19 @@ fn insert_fitting(
     );
 }
 
-// The turn of node p: `row` is its row, a count and D entries with D at most 32, `candidates` are at most
-// 64 nodes in their order with their distances from p in `far`, and `planes` the blocks of hyperplanes.
+// The turn of a node: `row` is its row, a count and D entries with D at most 32, `candidates` are at most
+// 64 nodes in their order with their distances from it in `far`, and `planes` the blocks of hyperplanes.
 // It is promised for sizes that fit (`Turn` of specs/Hashprune); for others it is safe, and no more is said.
 pub fn hashprune_insert(
     vectors: &[f32],
-    dimension: u32,
-    bits: u32,
+    point: Point,
     planes: &[f32],
-    p: Node,
     candidates: &[u32],
     far: &[f32],
     row: &mut [u32],
 )
-    ensures { λ _. ⌜ Inserted (now (vectors .entry)) dimension bits (now (planes .entry)) (p .0) (now (candidates .entry)) (now (far .entry)) (now (row .entry)) (now (row .exit)) ⌝ }
+    ensures { λ _. ⌜ Inserted point (now (vectors .entry)) (now (planes .entry)) (now (candidates .entry)) (now (far .entry))
+        (now (row .entry)) (now (row .exit)) ⌝ }
 {
     if candidates.len() > 64 {
         return;
@@ -404,15 +402,5 @@ pub fn hashprune_insert(
     if row.len() > 33 {
         return;
     }
-    let point = vectors::get_vector(vectors, dimension, p);
-    insert_fitting(
-        vectors,
-        dimension,
-        bits,
-        planes,
-        point,
-        candidates,
-        far,
-        row,
-    );
+    insert_fitting(vectors, point, planes, candidates, far, row);
 }

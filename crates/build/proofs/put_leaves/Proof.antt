@@ -28,7 +28,7 @@ returns c =
     let build = c .before .before .before .before .build-leaves in
     let end = c .before .before .before .before .before .before .before .before .before .leaf-entries in
     let size : 2 * a .n + a .count - 2 * a .n ≡ a .count = omega arith in
-    built-from (a .n) (a .max-leaf-size) (a .dimension) (a .degree) (a .bits) (a .count) _ (a .vectors .now) (a .carved .now) _ _ _ _
+    built-from (a .n) (a .max-leaf-size) (a .leaf) (a .count) _ (a .vectors .now) (a .carved .now) _ _ _ _
     (ap (λ (k : ℕ). take k (a .carved .now)) (end .ensures)) (ap (λ (k : ℕ). take k (drop (2 * a .n) (a .carved .now))) size) (build .ensures)
 
 pub put-leaves-spec : {M : Type 1} → statement M

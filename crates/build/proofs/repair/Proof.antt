@@ -21,7 +21,7 @@ part-ensure-connectivity-end : tie.Need-part-ensure-connectivity-end
 part-ensure-connectivity-end c =
     let s = c .before .before .before .before .before .before .before .before .before .before .before .before in
     let a = s .args in
-    omega (arith, c .before .row-at .ensures, product-le (a .n) (rowSize (a .degree)) (a .capacity) (rowSize (a .degree)) (s .pre .capacity) (omega arith), s .pre .store)
+    omega (arith, c .before .row-at .ensures, product-le (a .shape .n) (rowSize (a .shape .degree)) (a .capacity) (rowSize (a .shape .degree)) (s .pre .capacity) (omega arith), s .pre .store)
 
 slice-aggregate-put-bridges : tie.Need-slice-aggregate-put-bridges
 slice-aggregate-put-bridges c =
@@ -51,22 +51,22 @@ returns c =
     let at = c .before .before .before .before .before .before .before .before .before .bridges-at in
     let header = c .before .before .before .before .before .before .before .put-header in
     let put = c .before .before .put-bridges in
-    let size : to .result - from .result ≡ a .n * rowSize (a .degree) = omega (arith, from .ensures, to .ensures) in
-    let part : take (to .result - from .result) (drop (from .result) (a .words .now)) ≡ take (a .n * rowSize (a .degree)) (drop (rowsAt (a .capacity)) (a .words .now)) =
+    let size : to .result - from .result ≡ a .shape .n * rowSize (a .shape .degree) = omega (arith, from .ensures, to .ensures) in
+    let part : take (to .result - from .result) (drop (from .result) (a .words .now)) ≡ take (a .shape .n * rowSize (a .shape .degree)) (drop (rowsAt (a .capacity)) (a .words .now)) =
     ap₂ (λ (k : ℕ) (j : ℕ). take k (drop j (a .words .now))) size (from .ensures) in
     λ rows many below blocks.
-    repaired (a .n) (a .capacity) (a .degree) (a .dimension) (a .words .now) (a .vectors .now) _ (a .bridges .now) _ (a .scratch-words .now) (medoid .result .0) (repair .result) (count .result) _ _
+    repaired (a .shape .n) (a .capacity) (a .shape .degree) (a .shape .dimension) (a .words .now) (a .vectors .now) _ (a .bridges .now) _ (a .scratch-words .now) (medoid .result .0) (repair .result) (count .result) _ _
     (p .some) (p .most) (p .dimension-some) (p .vectors-are) (p .bridges-room) (p .words-room)
-    (entry-is (a .n) (a .dimension) _ (a .vectors .now) (medoid .result .0) (p .dimension-some) (p .vectors-are) (length-take-le _ _ (p .floats-room)) (medoid .ensures))
+    (entry-is (a .shape .n) (a .shape .dimension) _ (a .vectors .now) (medoid .result .0) (p .dimension-some) (p .vectors-are) (length-take-le _ _ (p .floats-room)) (medoid .ensures))
     (repair .ensures) (count .ensures) (header .ensures) (put .ensures ∙ ap (λ (k : ℕ). laid k (take (2 * count .result) (repair .last .1 .1 .1 .1 .1 .0)) (header .last .0)) (at .ensures))
-    rows many below (subst (Blocks (a .degree) rows) (sym part) blocks)
+    rows many below (subst (Blocks (a .shape .degree) rows) (sym part) blocks)
 
 pub repair-spec : {M : Type 1} → statement M
 repair-spec =
     tie.close
     (tie.spec
-    -- compute_medoid, slice-relend-prefix-compute-medoid
-    (λ c. search needs) (λ c. search needs)
+    -- components, compute_medoid, slice-relend-prefix-compute-medoid
+    (λ c. search needs) (λ c. search needs) (λ c. search needs)
     slice-aggregate-compute-medoid
     -- compute_medoid, rows_at, row_at, ensure_connectivity, part-ensure-connectivity-start
     (λ c κs. search needs) (λ c κs. search needs) (λ c κs. search needs) (λ c. search needs) (λ c. search needs) (λ c. search needs)

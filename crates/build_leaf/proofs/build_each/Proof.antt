@@ -10,13 +10,13 @@ use Rattle.build_leaf.proofs.build_each.Statement.{statement}
 use Rattle.build_leaf.proofs.build_each.Tie as tie
 
 abbrev Inv-loop : tie.InvT-loop
-Inv-loop vectors dimension degree bits planes nodes sizes rows₀ floats₀ at₀ k₀ rows floats at k = (k ≤ length sizes) × (at ≤ length nodes) × (length rows ≡ length rows₀) × (length floats ≡ length floats₀) × LeavesTo vectors dimension degree bits planes nodes sizes (length floats₀) k at rows₀ rows
+Inv-loop vectors p planes nodes sizes rows₀ floats₀ at₀ k₀ rows floats at k = (k ≤ length sizes) × (at ≤ length nodes) × (length rows ≡ length rows₀) × (length floats ≡ length floats₀) × LeavesTo p vectors planes nodes sizes (length floats₀) k at rows₀ rows
 
 abbrev μ-loop : tie.MeasureT-loop
-μ-loop vectors dimension degree bits planes nodes sizes rows₀ floats₀ at₀ k₀ rows floats at k = length sizes - k
+μ-loop vectors p planes nodes sizes rows₀ floats₀ at₀ k₀ rows floats at k = length sizes - k
 
 loop-holds : tie.Need-loop-holds Inv-loop μ-loop
-loop-holds c = let x = c .before .before .before .before .before .before .args in (omega arith, omega arith, refl, refl, leaves-none (x .vectors .now) (x .dimension) (x .degree) (x .bits) (x .planes .now) (x .nodes .now) (x .sizes .now) (length (x .floats .now)) (x .rows .now))
+loop-holds c = let x = c .before .before .before .before .before .before .args in (omega arith, omega arith, refl, refl, leaves-none (x .p) (x .vectors .now) (x .planes .now) (x .nodes .now) (x .sizes .now) (length (x .floats .now)) (x .rows .now))
 
 cast-end : tie.Need-cast-end Inv-loop μ-loop
 cast-end c = omega (arith, c .shared-slice-known5 .given (c .before .before .loop .k))
@@ -37,7 +37,7 @@ returns c =
     let start = at-loop .before .before .before .before .before .before .before in
     let l = at-loop .loop in
     let x = start .args in
-    leaves-cut (x .vectors .now) (x .dimension) (x .degree) (x .bits) (x .planes .now) (x .nodes .now) (x .sizes .now) (length (x .floats .now)) (x .rows .now) (l .k) (l .at) _ (l .rows) (at-loop-test .loop-test .taken) refl (c .if1 .taken) (l .inv .4)
+    leaves-cut (x .p) (x .vectors .now) (x .planes .now) (x .nodes .now) (x .sizes .now) (length (x .floats .now)) (x .rows .now) (l .k) (l .at) _ (l .rows) (at-loop-test .loop-test .taken) refl (c .if1 .taken) (l .inv .4)
 
 loop-again : tie.Need-loop-again Inv-loop μ-loop
 loop-again c =
@@ -48,10 +48,10 @@ loop-again c =
     let m : ℕ = (l .at + size) - l .at in (
       omega arith,
       omega arith,
-      b .kept .1 .1 .1 .1 .1 .1 .0 ∙ l .inv .2,
-      b .kept .1 .1 .1 .1 .1 .1 .1 .0 ∙ l .inv .3,
-      leaves-more (x .vectors .now) (x .dimension) (x .degree) (x .bits) (x .planes .now) (x .nodes .now) (x .sizes .now) (length (x .floats .now)) (x .rows .now) (l .k) (l .at) (l .at + size) m (l .rows) _ (c .before .before .before .before .before .before .before .before .before .before .loop-test .taken) refl (omega arith) (l .inv .4)
-          (subst (λ (k : ℕ). LeafBuilt (x .vectors .now) (x .dimension) (x .degree) (x .bits) (x .planes .now) (take m (drop (l .at) (x .nodes .now))) k (l .rows) (b .last .1 .1 .1 .1 .1 .1 .0)) (l .inv .3) (b .ensures)),
+      b .kept .1 .1 .1 .1 .0 ∙ l .inv .2,
+      b .kept .1 .1 .1 .1 .1 .0 ∙ l .inv .3,
+      leaves-more (x .p) (x .vectors .now) (x .planes .now) (x .nodes .now) (x .sizes .now) (length (x .floats .now)) (x .rows .now) (l .k) (l .at) (l .at + size) m (l .rows) _ (c .before .before .before .before .before .before .before .before .before .before .loop-test .taken) refl (omega arith) (l .inv .4)
+          (subst (λ (k : ℕ). LeafBuilt (x .p) (x .vectors .now) (x .planes .now) (take m (drop (l .at) (x .nodes .now))) k (l .rows) (b .last .1 .1 .1 .1 .0)) (l .inv .3) (b .ensures)),
     )
 
 same-length-3 : tie.Need-same-length-3 Inv-loop μ-loop
@@ -64,7 +64,7 @@ returns-2 : tie.Need-returns-2 Inv-loop μ-loop
 returns-2 c =
     let l = c .before .loop in
     let x = c .before .before .before .before .before .before .before .before .args in
-    leaves-last (x .vectors .now) (x .dimension) (x .degree) (x .bits) (x .planes .now) (x .nodes .now) (x .sizes .now) (length (x .floats .now)) (x .rows .now) (l .k) (l .at) (l .rows) (c .loop-test .left) (l .inv .4)
+    leaves-last (x .p) (x .vectors .now) (x .planes .now) (x .nodes .now) (x .sizes .now) (length (x .floats .now)) (x .rows .now) (l .k) (l .at) (l .rows) (c .loop-test .left) (l .inv .4)
 
 pub build-each-spec : {M : Type 1} → statement M
 build-each-spec =

@@ -10,16 +10,16 @@ use Rattle.build_leaf.proofs.build_leaf.Statement.{statement}
 use Rattle.build_leaf.proofs.build_leaf.Tie as tie
 
 abbrev Inv-loop : tie.InvT-loop
-Inv-loop vectors dimension degree bits planes leaf rows₀ floats₀ first₀ rows floats first = (first ≤ length leaf) × (length rows ≡ length rows₀) × (length floats ≡ length floats₀) × LeafTo vectors dimension degree bits planes leaf (length floats₀) first rows₀ rows
+Inv-loop vectors p planes leaf rows₀ floats₀ first₀ rows floats first = (first ≤ length leaf) × (length rows ≡ length rows₀) × (length floats ≡ length floats₀) × LeafTo p vectors planes leaf (length floats₀) first rows₀ rows
 
 abbrev μ-loop : tie.MeasureT-loop
-μ-loop vectors dimension degree bits planes leaf rows₀ floats₀ first₀ rows floats first = length leaf - first
+μ-loop vectors p planes leaf rows₀ floats₀ first₀ rows floats first = length leaf - first
 
 returns : tie.Need-returns Inv-loop μ-loop
-returns c = let x = c .before .before .before .before .before .before .args in leaf-single (x .vectors .now) (x .dimension) (x .degree) (x .bits) (x .planes .now) (x .leaf .now) (length (x .floats .now)) (x .rows .now) (c .if1 .taken)
+returns c = let x = c .before .before .before .before .before .before .args in leaf-single (x .p) (x .vectors .now) (x .planes .now) (x .leaf .now) (length (x .floats .now)) (x .rows .now) (c .if1 .taken)
 
 loop-holds : tie.Need-loop-holds Inv-loop μ-loop
-loop-holds c = let x = c .before .before .before .before .before .before .args in (omega arith, refl, refl, leaf-first (x .vectors .now) (x .dimension) (x .degree) (x .bits) (x .planes .now) (x .leaf .now) (length (x .floats .now)) (x .rows .now))
+loop-holds c = let x = c .before .before .before .before .before .before .args in (omega arith, refl, refl, leaf-first (x .p) (x .vectors .now) (x .planes .now) (x .leaf .now) (length (x .floats .now)) (x .rows .now))
 
 loop-again : tie.Need-loop-again Inv-loop μ-loop
 loop-again c =
@@ -28,10 +28,10 @@ loop-again c =
     let far = c .before .before .before .before .before .before .before .before .distances-into in
     let put = c .before .before .each-place in (
       omega arith,
-      put .kept .1 .1 .1 .1 .1 .1 .1 .1 .1 .0 ∙ l .inv .1,
+      put .kept .1 .1 .1 .1 .1 .1 .1 .0 ∙ l .inv .1,
       far .kept .1 .1 .1 .1 .0 ∙ l .inv .2,
-      leaf-more (x .vectors .now) (x .dimension) (x .degree) (x .bits) (x .planes .now) (x .leaf .now) (length (x .floats .now)) (x .rows .now) (l .first) _ (far .last .1 .1 .1 .1 .0) (l .rows) _ (c .before .before .before .before .before .before .before .before .before .before .loop-test .taken) (far .kept .1 .1 .1 .1 .0 ∙ l .inv .2) (l .inv .3)
-          (subst (λ (k : ℕ). Distances (x .vectors .now) (x .dimension) (x .leaf .now) (l .first) k (far .last .1 .1 .1 .1 .0)) (l .inv .2) (far .ensures)) (put .ensures),
+      leaf-more (x .p) (x .vectors .now) (x .planes .now) (x .leaf .now) (length (x .floats .now)) (x .rows .now) (l .first) _ (far .last .1 .1 .1 .1 .0) (l .rows) _ (c .before .before .before .before .before .before .before .before .before .before .loop-test .taken) (far .kept .1 .1 .1 .1 .0 ∙ l .inv .2) (l .inv .3)
+          (subst (λ (k : ℕ). Distances (x .vectors .now) (x .p .dimension) (x .leaf .now) (l .first) k (far .last .1 .1 .1 .1 .0)) (l .inv .2) (far .ensures)) (put .ensures),
     )
 
 same-length : tie.Need-same-length Inv-loop μ-loop
@@ -44,7 +44,7 @@ returns-2 : tie.Need-returns-2 Inv-loop μ-loop
 returns-2 c =
     let l = c .before .loop in
     let x = c .before .before .before .before .before .before .before .before .args in
-    leaf-last (x .vectors .now) (x .dimension) (x .degree) (x .bits) (x .planes .now) (x .leaf .now) (length (x .floats .now)) (x .rows .now) (l .first) (l .rows) (c .before .before .if1 .left) (omega arith) (l .inv .3)
+    leaf-last (x .p) (x .vectors .now) (x .planes .now) (x .leaf .now) (length (x .floats .now)) (x .rows .now) (l .first) (l .rows) (c .before .before .if1 .left) (omega arith) (l .inv .3)
 
 pub build-leaf-spec : {M : Type 1} → statement M
 build-leaf-spec =

@@ -25,7 +25,7 @@ returns c =
     let start = at-candidates-at .before .before .before .before .before .before .before .before in
     let x = start .args in
     let k = at-candidates-at .candidates-at in
-    place-put (x .vectors .now) (x .dimension) (x .degree) (x .bits) (x .planes .now) (x .leaf .now) (x .i) (x .lane) (x .floats .now) (x .rows .now) _ (k .result) _ _ (start .pre) (k .ensures) (at-put-row .put-row .ensures)
+    place-put (x .p) (x .vectors .now) (x .planes .now) (x .leaf .now) (x .i) (x .lane) (x .floats .now) (x .rows .now) _ (k .result) _ _ (start .pre) (k .ensures) (at-put-row .put-row .ensures)
 
 pub one-place-spec : {M : Type 1} → statement M
 one-place-spec =

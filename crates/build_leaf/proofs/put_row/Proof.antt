@@ -8,27 +8,27 @@ use Rattle.build_leaf.proofs.put_row.Statement.{statement}
 use Rattle.build_leaf.proofs.put_row.Tie as tie
 
 mul-at : tie.Need-mul-at
-mul-at c = omega (arith, place-fits (c .before .before .before .before .before .before .args .node .0) (1 + c .before .before .before .before .before .before .args .degree) (omega arith) (omega arith))
+mul-at c = let x = c .before .before .before .before .before .before .before .args in omega (arith, place-fits (x .node .0) (1 + x .p .degree) (omega arith) (omega arith))
 
 add-end : tie.Need-add-end
-add-end c = omega (arith, place-fits (c .before .before .before .before .before .before .args .node .0) (1 + c .before .before .before .before .before .before .args .degree) (omega arith) (omega arith))
+add-end c = let x = c .before .before .before .before .before .before .before .args in omega (arith, place-fits (x .node .0) (1 + x .p .degree) (omega arith) (omega arith))
 
 returns : tie.Need-returns
-returns c = let x = c .before .before .before .before .before .before .before .args in row-none (x .vectors .now) (x .dimension) (x .degree) (x .bits) (x .planes .now) (x .node .0) (x .candidates .now) (x .far .now) (x .rows .now) (c .if1 .taken)
+returns c = let x = c .before .before .before .before .before .before .before .before .args in row-none (x .p) (x .vectors .now) (x .planes .now) (x .node .0) (x .candidates .now) (x .far .now) (x .rows .now) (c .if1 .taken)
 
 returns-2 : tie.Need-returns-2
 returns-2 c =
-    let x = c .before .before .before .before .before .before .before .before .before .before .before .args in
-    let at : ℕ = x .node .0 * (1 + x .degree) in
-    let size : ℕ = (at + (1 + x .degree)) - at in
-    row-put (x .vectors .now) (x .dimension) (x .degree) (x .bits) (x .planes .now) (x .node .0) (x .candidates .now) (x .far .now) (x .rows .now) at size _ refl (omega arith) (c .before .before .hashprune-insert .ensures)
+    let x = c .before .before .before .before .before .before .before .before .before .before .before .before .args in
+    let at : ℕ = x .node .0 * (1 + x .p .degree) in
+    let size : ℕ = (at + (1 + x .p .degree)) - at in
+    row-put (x .p) (x .vectors .now) (x .planes .now) (x .node .0) (x .candidates .now) (x .far .now) (x .rows .now) at size _ refl (omega arith) (c .before .before .hashprune-insert .ensures)
 
 pub put-row-spec : {M : Type 1} → statement M
 put-row-spec =
     tie.close
     (tie.spec
     -- size, at
-    (λ c. search needs) (λ c. search needs)
+    (λ c. search needs) (λ c. search needs) (λ c. search needs)
     mul-at
     add-end
     returns

@@ -1,10 +1,12 @@
 -- The invariant: the cells are those of the first i candidates. The measure is how many are left. Assumes nothing.
 use mathlib.Core.Path.{_≡_, refl, ap, _∙_}
-use mathlib.Core.List.{[]}
+use mathlib.Core.List.{List, []}
 use Prim.Native.Nat.{ℕ, _-_, _≤_}
-use lib.ListN.{length}
+use lib.ListN.{length, getD}
+use lib.Ieee.{Float}
+use Rattle.distance.specs.Vectors.{vectorsIn, vectorOf}
 use Rattle.def_graph.specs.Leaf.{cellsFrom}
-use Rattle.hashprune.specs.Steps.{farAt, hashAt, firstPlaces}
+use Rattle.hashprune.specs.Steps.{farAt, hashBy, hashAt, firstPlaces}
 use Rattle.hashprune.proofs.Cells.{Came, came-none, came-below, came-more}
 use borrow.Author.Needs.{needs}
 use native.Mathlib.Omega.{arith}
@@ -12,24 +14,24 @@ use Rattle.hashprune.proofs.fill_cells.Statement.{statement}
 use Rattle.hashprune.proofs.fill_cells.Tie as tie
 
 abbrev Inv-loop : tie.InvT-loop
-Inv-loop vectors dimension bits planes p candidates far hashes₀ places₀ held₀ i₀ hashes places held i =
+Inv-loop vectors point planes candidates far hashes₀ places₀ p held₀ i₀ hashes places held i =
     (i ≤ length candidates) × (length hashes ≡ length hashes₀) × (length places ≡ length places₀)
-    × Came (farAt far) (hashAt vectors dimension bits planes p candidates) i held hashes places
+    × Came (farAt far) (hashAt point vectors planes candidates) i held hashes places
 
 abbrev μ-loop : tie.MeasureT-loop
-μ-loop vectors dimension bits planes p candidates far hashes₀ places₀ held₀ i₀ hashes places held i = length candidates - i
+μ-loop vectors point planes candidates far hashes₀ places₀ p held₀ i₀ hashes places held i = length candidates - i
 
 loop-holds : tie.Need-loop-holds Inv-loop μ-loop
 loop-holds c =
     let a = c .before .before .before .before .before .before .before .args in
-    (omega arith, refl, refl, came-none (farAt (a .far .now)) (hashAt (a .vectors .now) (a .dimension) (a .bits) (a .planes .now) (a .p .now) (a .candidates .now)) (a .hashes .now) (a .places .now))
+    (omega arith, refl, refl, came-none (farAt (a .far .now)) (hashAt (a .point) (a .vectors .now) (a .planes .now) (a .candidates .now)) (a .hashes .now) (a .places .now))
 
 put-cell-requires : tie.Need-put-cell-requires Inv-loop μ-loop
 put-cell-requires c κs =
     let s = c .before .before .before .before .before .before .before .before .before .before .before .before .before in
     let a = s .args in
     let l = c .before .before .before .before .before .loop in
-    let inside = came-below (farAt (a .far .now)) (hashAt (a .vectors .now) (a .dimension) (a .bits) (a .planes .now) (a .p .now) (a .candidates .now)) (l .i) (l .held) (l .hashes) (l .places) (omega (arith, l .inv .1, l .inv .3 .few, s .pre .hashes-room)) (omega (arith, l .inv .2, l .inv .3 .few, s .pre .places-room)) (l .inv .3) in
+    let inside = came-below (farAt (a .far .now)) (hashAt (a .point) (a .vectors .now) (a .planes .now) (a .candidates .now)) (l .i) (l .held) (l .hashes) (l .places) (omega (arith, l .inv .1, l .inv .3 .few, s .pre .hashes-room)) (omega (arith, l .inv .2, l .inv .3 .few, s .pre .places-room)) (l .inv .3) in
     record {
       hashes-room = omega (arith, l .inv .1, l .inv .3 .few, s .pre .hashes-room);
       places-room = omega (arith, l .inv .2, l .inv .3 .few, s .pre .places-room);
@@ -43,11 +45,14 @@ loop-again c =
     let a = s .args in
     let l = c .before .before .before .before .before .before .before .before .before .before .loop in
     let put = c .before .before .before .before .put-cell in
-    let hash = c .before .before .before .before .before .before .before .hash-of-node in (
+    let hash = c .before .before .before .before .before .before .before .hash-of-node in
+    let v = c .before .before .before .before .before .before .before .before .before .before .before .get-vector in
+    let node : ℕ = getD (a .candidates .now) (l .i) 0 in
+    let same = ap (λ (x : List Float). hashBy (a .planes .now) (a .point .bits) x (vectorOf (vectorsIn (a .point .dimension) (a .vectors .now)) node)) (v .ensures) in (
       omega (arith, c .before .before .before .before .before .before .before .before .before .loop-test .taken),
       put .kept .0 ∙ l .inv .1,
       put .kept .1 .0 ∙ l .inv .2,
-      came-more (farAt (a .far .now)) (hashAt (a .vectors .now) (a .dimension) (a .bits) (a .planes .now) (a .p .now) (a .candidates .now)) (l .i) (l .held) (put .result) (hash .result) (l .hashes) (l .places) _ _ (l .inv .3) (hash .ensures) (put .ensures .0) (put .ensures .1),
+      came-more (farAt (a .far .now)) (hashAt (a .point) (a .vectors .now) (a .planes .now) (a .candidates .now)) (l .i) (l .held) (put .result) (hash .result) (l .hashes) (l .places) _ _ (l .inv .3) (hash .ensures ∙ same) (put .ensures .0) (put .ensures .1),
     )
 
 same-length : tie.Need-same-length Inv-loop μ-loop
@@ -61,7 +66,7 @@ returns c =
     let a = c .before .before .before .before .before .before .before .before .before .args in
     let l = c .before .loop in
     let e : l .i ≡ length (a .candidates .now) = omega arith in
-    (omega (arith, l .inv .3 .few), l .inv .3 .cells-are ∙ ap (λ (k : ℕ). cellsFrom (farAt (a .far .now)) (hashAt (a .vectors .now) (a .dimension) (a .bits) (a .planes .now) (a .p .now) (a .candidates .now)) [] (firstPlaces k)) e)
+    (omega (arith, l .inv .3 .few), l .inv .3 .cells-are ∙ ap (λ (k : ℕ). cellsFrom (farAt (a .far .now)) (hashAt (a .point) (a .vectors .now) (a .planes .now) (a .candidates .now)) [] (firstPlaces k)) e)
 
 pub fill-cells-spec : {M : Type 1} → statement M
 fill-cells-spec =
@@ -69,6 +74,8 @@ fill-cells-spec =
     (tie.spec
     Inv-loop
     μ-loop
+    -- get_vector
+    (λ c κs. search needs)
     loop-holds
     -- hash_of_node, put_cell
     (λ c. search needs) (λ c. search needs) (λ c κs. search needs) (λ c. search needs)

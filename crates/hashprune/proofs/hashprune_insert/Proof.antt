@@ -1,10 +1,7 @@
 -- What the sizes turn back no `Turn` has; else the steps' row is the definition's. Assumes nothing.
 use mathlib.Core.Path.{ap, _∙_}
-use mathlib.Core.List.{List}
 use lib.ListN.{length, length-map}
-use lib.Ieee.{Float}
 use Rattle.distance.specs.Vectors.{vectorsIn, between}
-use Rattle.hashprune.specs.Steps.{rowAfter}
 use Rattle.hashprune.proofs.Meaning.{turn-is}
 use native.Mathlib.Omega.{arith}
 use borrow.Author.Needs.{needs}
@@ -15,7 +12,7 @@ returns : tie.Need-returns
 returns c = λ old t. absurd (omega (arith, c .if1 .taken, t .candidates-most))
 
 returns-2 : tie.Need-returns-2
-returns-2 c = λ old t. let a = c .before .before .before .before .before .before .before .args in absurd (omega (arith, c .if2 .taken, ap length (t .far-is) ∙ length-map (a .candidates .now) (between (vectorsIn (a .dimension) (a .vectors .now)) (a .p .0))))
+returns-2 c = λ old t. let a = c .before .before .before .before .before .before .before .args in absurd (omega (arith, c .if2 .taken, ap length (t .far-is) ∙ length-map (a .candidates .now) (between (vectorsIn (a .point .dimension) (a .vectors .now)) (a .point .node .0))))
 
 returns-3 : tie.Need-returns-3
 returns-3 c = λ old t. absurd (omega (arith, c .if3 .taken, t .row-some))
@@ -26,13 +23,11 @@ returns-4 c = λ old t. absurd (omega (arith, c .if4 .taken, t .row-most))
 returns-5 : tie.Need-returns-5
 returns-5 c =
     let at-insert-fitting = c .before .before in
-    let at-get-vector = at-insert-fitting .before .before in
-    let start = at-get-vector .before .before .before .before .before .before .before .before .before .before in
+    let start = at-insert-fitting .before .before .before .before .before .before .before .before .before .before .before in
     λ old t.
     let a = start .args in
     at-insert-fitting .insert-fitting .ensures
-    ∙ ap (λ (v : List Float). rowAfter (a .vectors .now) (a .dimension) (a .bits) (a .planes .now) v (a .candidates .now) (a .far .now) (a .row .now)) (at-get-vector .get-vector .ensures)
-    ∙ turn-is (a .vectors .now) (a .dimension) (a .bits) (a .planes .now) (a .p .0) (a .candidates .now) (a .far .now) (a .row .now) old t
+    ∙ turn-is (a .vectors .now) (a .point .dimension) (a .point .bits) (a .planes .now) (a .point .node .0) (a .candidates .now) (a .far .now) (a .row .now) old t
 
 pub hashprune-insert-spec : {M : Type 1} → statement M
 hashprune-insert-spec =
@@ -42,6 +37,6 @@ hashprune-insert-spec =
     returns-2
     returns-3
     returns-4
-    -- get_vector, insert_fitting, lengths stay
-    (λ c κs. search needs) (λ c κs. search needs) (λ c. search needs)
+    -- insert_fitting, lengths stay
+    (λ c κs. search needs) (λ c. search needs)
     returns-5)

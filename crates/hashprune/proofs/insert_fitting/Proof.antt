@@ -5,7 +5,8 @@ use Rattle.hashprune.proofs.insert_fitting.Statement.{statement}
 use Rattle.hashprune.proofs.insert_fitting.Tie as tie
 
 insert-with-requires : tie.Need-insert-with-requires
-insert-with-requires c κs = (c .before .before .before .before .before .before .before .before .before .before .before .pre, record { keys-room = omega arith; ids-room = omega arith; hashes-room = omega arith; places-room = omega arith })
+insert-with-requires c κs =
+    (c .before .before .before .before .before .before .before .before .before .before .pre, record { keys-room = omega arith; ids-room = omega arith; hashes-room = omega arith; places-room = omega arith })
 
 returns : tie.Need-returns
 returns c = c .before .before .before .before .before .before .insert-with .ensures

@@ -1,11 +1,12 @@
 -- The row's pairs stand at the front of the scratch, the selected ones are put right behind them, and all of the former with the first of the latter
 -- are merged. Assumes nothing.
 use mathlib.Core.Path.{ap, _∙_}
-use mathlib.Core.List.{List}
+use mathlib.Core.List.{List, _++_}
 use Prim.Native.Nat.{ℕ, _+_, _-_, _≤_, min}
 use native.Mathlib.Omega.{arith}
 use borrow.Author.Needs.{needs}
-use lib.ListN.{length, length-take, length-drop}
+use lib.ListN.{length, take, length-take, length-drop}
+use lib.Ieee.{Float}
 use Rattle.store.specs.View.{rowBlock}
 use Rattle.hashprune.specs.Steps.{oldPairs, selectedPairs, mergedPairs}
 use Rattle.hashprune.proofs.Rows.{old-few}
@@ -17,7 +18,7 @@ few : (c : tie.After-rank-row) → c .rank-row .result ≤ 32
 few c =
     let s = c .before .before .before .before .before .before .before .before .before .before .before .before .before .before in
     let a = s .args in
-    omega (arith, c .rank-row .ensures .0, old-few (a .vectors .now) (a .dimension) (a .p .now) (a .row .now), s .pre .0 .short)
+    omega (arith, c .rank-row .ensures .0, old-few (a .vectors .now) (a .point .dimension) (c .before .before .before .before .get-vector .result .now) (a .row .now), s .pre .0 .short)
 
 key-room : (c : tie.After-rank-row) → c .rank-row .result + 64 ≤ length (c .rank-row .last .1 .1 .1 .1 .0)
 key-room c = omega (arith, few c, c .rank-row .kept .1 .1 .1 .1 .0, c .before .before .before .before .before .before .before .before .before .before .before .before .before .before .pre .1 .keys-room)
@@ -51,7 +52,7 @@ part-select-end : tie.Need-part-select-end
 part-select-end c = omega arith
 
 mul-select-2 : tie.Need-mul-select-2
-mul-select-2 c = omega (arith, id-room (c .before .before .before .before .before .before .before))
+mul-select-2 c = let r = c .before .before .before .before .before .before .before in omega (arith, few r, id-room r)
 
 sub-select-2 : tie.Need-sub-select-2
 sub-select-2 c = omega (arith, id-room (c .before .before .before .before .before .before .before))
@@ -109,8 +110,8 @@ merge-row-requires c κs =
     record {
       few = simp length-take (omega arith);
       same = simp length-take (omega arith);
-      spare-keys-room = simp length-take (omega (arith, scratch .1 .1 .1 .1 .1 .1 .1 .0, s .pre .1 .hashes-room));
-      spare-ids-room = simp length-take (omega (arith, scratch .1 .1 .1 .1 .1 .1 .1 .1 .0, s .pre .1 .places-room));
+      spare-keys-room = simp length-take (omega (arith, scratch .1 .1 .1 .1 .1 .0, s .pre .1 .hashes-room));
+      spare-ids-room = simp length-take (omega (arith, scratch .1 .1 .1 .1 .1 .1 .0, s .pre .1 .places-room));
       counted = s .pre .0 .counted;
     }
 
@@ -125,14 +126,14 @@ same-length-4 c =
     let at-merge-row = c .before .before .before .before .before .before .before .before .before .before in
     let back-1 = at-merge-row .before .before .before .before .before .before .before .before .before .before .before .before in
     let at-select = back-1 .before .before .before in
-    at-merge-row .merge-row .kept .1 .1 .0 ∙ at-select .select .kept .1 .1 .1 .1 .1 .1 .1 .0
+    at-merge-row .merge-row .kept .1 .1 .0 ∙ at-select .select .kept .1 .1 .1 .1 .1 .0
 
 same-length-5 : tie.Need-same-length-5
 same-length-5 c =
     let at-merge-row = c .before .before .before .before .before .before .before .before .before .before in
     let back-1 = at-merge-row .before .before .before .before .before .before .before .before .before .before .before .before in
     let at-select = back-1 .before .before .before in
-    at-merge-row .merge-row .kept .1 .1 .1 .0 ∙ at-select .select .kept .1 .1 .1 .1 .1 .1 .1 .1 .0
+    at-merge-row .merge-row .kept .1 .1 .1 .0 ∙ at-select .select .kept .1 .1 .1 .1 .1 .1 .0
 
 returns : tie.Need-returns
 returns c =
@@ -146,18 +147,22 @@ returns c =
     let r = at-rank-row .rank-row in
     let t = at-select .select in
     let m = at-lesser .lesser in
+    let v = at-rank-row .before .before .before .before .get-vector in
     let D : ℕ = length (a .row .now) - 1 in
+    let new : List (ℕ × ℕ) = selectedPairs (a .point) (a .vectors .now) (a .planes .now) (a .candidates .now) (a .far .now) in
     at-merge-row .merge-row .ensures
     ∙ ap (λ (ps : List (ℕ × ℕ)). rowBlock D (mergedPairs D ps))
-    (joined D (oldPairs (a .vectors .now) (a .dimension) (a .p .now) (a .row .now))
-    (selectedPairs (a .vectors .now) (a .dimension) (a .bits) (a .planes .now) (a .p .now) (a .candidates .now) (a .far .now)) (r .result) (m .result)
-    (a .keys .now) (a .ids .now) (r .last .1 .1 .1 .1 .0) (r .last .1 .1 .1 .1 .1 .0) _ _ (t .last .1 .1 .1 .1 .1 .1 .1 .1 .1 .0) (t .last .1 .1 .1 .1 .1 .1 .1 .1 .1 .1 .0) _ _
+    (joined D (oldPairs (a .vectors .now) (a .point .dimension) (v .result .now) (a .row .now)) new (r .result) (m .result)
+    (a .keys .now) (a .ids .now) (r .last .1 .1 .1 .1 .0) (r .last .1 .1 .1 .1 .1 .0) _ _ (t .last .1 .1 .1 .1 .1 .1 .1 .0) (t .last .1 .1 .1 .1 .1 .1 .1 .1 .0) _ _
     (r .ensures .0) (m .ensures ∙ ap (min D) (t .ensures .many)) (r .ensures .1) (r .ensures .2) (t .ensures .keys-are) (t .ensures .ids-are))
+    ∙ ap (λ (x : List Float). rowBlock D (mergedPairs D (oldPairs (a .vectors .now) (a .point .dimension) x (a .row .now) ++ take D new))) (v .ensures)
 
 pub insert-with-spec : {M : Type 1} → statement M
 insert-with-spec =
     tie.close
     (tie.spec
+    -- get_vector
+    (λ c κs. search needs)
     rank-row-requires
     mul-select
     sub-select

@@ -13,25 +13,25 @@ use Rattle.hashprune.proofs.select.Tie as tie
 
 slice-aggregate-rank-places : tie.Need-slice-aggregate-rank-places
 slice-aggregate-rank-places c =
-    let s = c .before .before .before .before .before .before .before .before .before .before .before .before .before .before .before .before .before in
+    let s = c .before .before .before .before .before .before .before .before .before .before .before .before .before .before .before .before in
     let a = s .args in
     let f = c .before .before .before .before .before .fill-cells in
     let cells = s .pre .cells in
-    let hk : f .result ≤ length (f .last .1 .1 .1 .1 .1 .1 .1 .0) = omega (arith, f .kept .1 .1 .1 .1 .1 .1 .1 .0, f .ensures .0, cells .hashes-room) in
-    let ik : f .result ≤ length (f .last .1 .1 .1 .1 .1 .1 .1 .1 .0) = omega (arith, f .kept .1 .1 .1 .1 .1 .1 .1 .1 .0, f .ensures .0, cells .places-room) in
+    let hk : f .result ≤ length (f .last .1 .1 .1 .1 .1 .0) = omega (arith, f .kept .1 .1 .1 .1 .1 .0, f .ensures .0, cells .hashes-room) in
+    let ik : f .result ≤ length (f .last .1 .1 .1 .1 .1 .1 .0) = omega (arith, f .kept .1 .1 .1 .1 .1 .1 .0, f .ensures .0, cells .places-room) in
     simp length-take (omega arith)
 
 rank-places-requires : tie.Need-rank-places-requires
 rank-places-requires c κs =
-    let s = c .before .before .before .before .before .before .before .before .before .before .before .before .before .before .before .before .before .before .before in
+    let s = c .before .before .before .before .before .before .before .before .before .before .before .before .before .before .before .before .before .before in
     let a = s .args in
     let f = c .before .before .before .before .before .before .before .fill-cells in
     let cells = s .pre .cells in
-    let hk : f .result ≤ length (f .last .1 .1 .1 .1 .1 .1 .1 .0) = omega (arith, f .kept .1 .1 .1 .1 .1 .1 .1 .0, f .ensures .0, cells .hashes-room) in
-    let ik : f .result ≤ length (f .last .1 .1 .1 .1 .1 .1 .1 .1 .0) = omega (arith, f .kept .1 .1 .1 .1 .1 .1 .1 .1 .0, f .ensures .0, cells .places-room) in
-    let are = places-are (f .result) (f .last .1 .1 .1 .1 .1 .1 .1 .0) (f .last .1 .1 .1 .1 .1 .1 .1 .1 .0) _ hk ik (f .ensures .1) in
-    let below = cells-below (farAt (a .far .now)) (hashAt (a .vectors .now) (a .dimension) (a .bits) (a .planes .now) (a .p .now) (a .candidates .now)) (length (a .candidates .now)) in
-    let size : length (take (f .result) (f .last .1 .1 .1 .1 .1 .1 .1 .1 .0)) ≡ f .result = simp length-take (omega arith) in
+    let hk : f .result ≤ length (f .last .1 .1 .1 .1 .1 .0) = omega (arith, f .kept .1 .1 .1 .1 .1 .0, f .ensures .0, cells .hashes-room) in
+    let ik : f .result ≤ length (f .last .1 .1 .1 .1 .1 .1 .0) = omega (arith, f .kept .1 .1 .1 .1 .1 .1 .0, f .ensures .0, cells .places-room) in
+    let are = places-are (f .result) (f .last .1 .1 .1 .1 .1 .0) (f .last .1 .1 .1 .1 .1 .1 .0) _ hk ik (f .ensures .1) in
+    let below = cells-below (farAt (a .far .now)) (hashAt (a .point) (a .vectors .now) (a .planes .now) (a .candidates .now)) (length (a .candidates .now)) in
+    let size : length (take (f .result) (f .last .1 .1 .1 .1 .1 .1 .0)) ≡ f .result = simp length-take (omega arith) in
     record {
       nodes = λ x m. below x (subst (In x) are m);
       fars = λ x m. let k = below x (subst (In x) are m) in omega (arith, cells .fars);
@@ -41,14 +41,14 @@ rank-places-requires c κs =
 
 returns : tie.Need-returns
 returns c =
-    let s = c .before .before .before .before .before .before .before .before .before .before .before .before .before .before .before .before .before .before .before .before .before .before .before .before .before .before .before .before .before .before .before .before .before .before .before .before .before in
+    let s = c .before .before .before .before .before .before .before .before .before .before .before .before .before .before .before .before .before .before .before .before .before .before .before .before .before .before .before .before .before .before .before .before .before .before .before .before in
     let a = s .args in
     let f = c .before .before .before .before .before .before .before .before .before .before .before .before .before .before .before .before .before .before .before .before .before .before .before .before .before .fill-cells in
     let cells = s .pre .cells in
-    let hk : f .result ≤ length (f .last .1 .1 .1 .1 .1 .1 .1 .0) = omega (arith, f .kept .1 .1 .1 .1 .1 .1 .1 .0, f .ensures .0, cells .hashes-room) in
-    let ik : f .result ≤ length (f .last .1 .1 .1 .1 .1 .1 .1 .1 .0) = omega (arith, f .kept .1 .1 .1 .1 .1 .1 .1 .1 .0, f .ensures .0, cells .places-room) in
-    let are = places-are (f .result) (f .last .1 .1 .1 .1 .1 .1 .1 .0) (f .last .1 .1 .1 .1 .1 .1 .1 .1 .0) _ hk ik (f .ensures .1) in
-    let size : length (take (f .result) (f .last .1 .1 .1 .1 .1 .1 .1 .1 .0)) ≡ f .result = simp length-take (omega arith) in
+    let hk : f .result ≤ length (f .last .1 .1 .1 .1 .1 .0) = omega (arith, f .kept .1 .1 .1 .1 .1 .0, f .ensures .0, cells .hashes-room) in
+    let ik : f .result ≤ length (f .last .1 .1 .1 .1 .1 .1 .0) = omega (arith, f .kept .1 .1 .1 .1 .1 .1 .0, f .ensures .0, cells .places-room) in
+    let are = places-are (f .result) (f .last .1 .1 .1 .1 .1 .0) (f .last .1 .1 .1 .1 .1 .1 .0) _ hk ik (f .ensures .1) in
+    let size : length (take (f .result) (f .last .1 .1 .1 .1 .1 .1 .0)) ≡ f .result = simp length-take (omega arith) in
     let r = c .before .before .before .before .before .before .before .before .before .before .before .before .before .before .before .before .before .rank-places in
     let t = c .before .before .before .before .before .before .before .before .sort-first in
     put-sorted (rankedPlace (a .candidates .now) (a .far .now)) _ _ (length (a .candidates .now)) (f .result) (a .keys .now) (a .ids .now) _ _ _ _ are size (f .ensures .0) (r .ensures) (t .ensures)
