@@ -1,4 +1,4 @@
--- The refusal numbers by name (01, "Turned back"): what each stands for is said in src/lib.rt.
+-- The refusal numbers by name (docs/SCOPE.md, "Refusals"): those of src/lib.rt, for the definitions.
 use Prim.Native.Nat.{ℕ}
 
 -- the dimension is not 1 to 64

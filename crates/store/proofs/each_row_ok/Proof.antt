@@ -22,8 +22,8 @@ abbrev μ-loop : tie.MeasureT-loop
 μ-loop words from degree n size ok₀ at₀ i₀ ok at i = n - i
 
 -- the row that starts at `at` lies within
-fits : (c : tie.In-loop Inv-loop μ-loop) → c .before .loop .at + c .before .before .row-size .result ≤ length (c .before .before .before .before .args .words .now)
-fits c =
+part-row-ok-end : tie.Need-part-row-ok-end Inv-loop μ-loop
+part-row-ok-end c =
     let s = c .before .before .before .before in
     let l = c .before .loop in
     row-within (s .args .from) (s .args .n) (s .args .degree) (l .i) (l .at) _ _ (c .loop-test .taken) (l .inv .1) (c .before .before .row-size .ensures) (s .pre)
@@ -34,16 +34,13 @@ loop-holds c =
     (omega arith, omega arith, gather-first (rowOk (s .args .degree) (s .args .n)) (s .args .words .now) (rowSize (s .args .degree)) (s .args .n) (s .args .from))
 
 add-end : tie.Need-add-end Inv-loop μ-loop
-add-end c = omega (arith, fits c)
+add-end c = omega (arith, part-row-ok-end c)
 
 mul-row-ok : tie.Need-mul-row-ok Inv-loop μ-loop
-mul-row-ok c = omega (arith, fits c)
-
-part-row-ok-end : tie.Need-part-row-ok-end Inv-loop μ-loop
-part-row-ok-end c = fits c
+mul-row-ok c = omega (arith, part-row-ok-end c)
 
 row-ok-requires : tie.Need-row-ok-requires Inv-loop μ-loop
-row-ok-requires c κs = simp (length-take, length-drop) (omega (arith, fits (c .before)))
+row-ok-requires c κs = simp (length-take, length-drop) (omega (arith, part-row-ok-end (c .before)))
 
 loop-again : tie.Need-loop-again Inv-loop μ-loop
 loop-again c =
