@@ -3,7 +3,7 @@ use mathlib.Core.Path.{_≡_, refl, sym, ap, _∙_, subst}
 use mathlib.Core.Logic.{_⊎_, inl, inr}
 use mathlib.Core.Bool.{false}
 use mathlib.Core.List.{List, [], _∷_}
-use mathlib.Core.List.{List·Memᴰ as In, List·Memᴰ·head as here, List·Memᴰ·tail as there, List·Memᴰ·not-nil as in-nil, List·Memᴰ·cases-cons as in-cons}
+use mathlib.Core.List.{List·Memᴰ as In, List·Memᴰ·head as here, List·Memᴰ·tail as there, List·Memᴰ·cases-cons as in-cons}
 use Prim.Native.Nat.{ℕ, suc, _+_, _-_, _*_, _≤_, _<_, min}
 use native.Mathlib.Nat.{le-of-eq}
 use native.Mathlib.Omega.{arith}
@@ -17,13 +17,13 @@ use Rattle.basics.proofs.Counting.{at-most}
 use Rattle.distance.specs.Order.{keyOf}
 use Rattle.sorting.specs.Sorting.{keptPairs, keptKeys, keptIds}
 use Rattle.def_walk.specs.Walk.{State}
-use Rattle.def_walk.specs.KeepClosest.{sooner, replaceWorst, keepClosest, heldOf, cutoffOf}
+use Rattle.def_walk.specs.KeepClosest.{keyAt, sooner, replaceWorst, keepClosest, heldOf, cutoffOf}
 use Rattle.def_walk.specs.Beam.{toFrontier}
 use Rattle.beam_state.specs.Queues.{frontRank, Queue, Held, Known, Entering, Keeping}
 use Rattle.beam_state.specs.declared.queues.Closest.{Closest}
 use Rattle.beam_state.proofs.queues.Laws.{in-insert}
 use Rattle.beam_state.proofs.queues.Holding.{hold-length}
-use Rattle.beam_state.specs.State.{part, heldEnd, Standing, Pushing, PushingAll, pushed}
+use Rattle.beam_state.specs.State.{part, frontierAt, heldAt, keysAt, wordsFor, heldEnd, frontierPart, keysPart, Standing, Pushing, PushingAll, pushed}
 use Rattle.beam_state.specs.declared.Walk.{Walk}
 use Rattle.beam_state.proofs.Parts.{lay, lay-length, part-here, part-before, part-after, take-before}
 use Rattle.beam_state.proofs.Pushed.{pushed-append, pushed-keeps, pushed-once}
@@ -52,85 +52,85 @@ held-few far b (v ∷ seen) = let k = keep-few far b v (heldOf far b seen) in le
 
 -- ---- one node
 
-module _ (n b v : ℕ) (floats : List Float) (walk : Walk) (words nodes : List ℕ) (long : 11 * n ≤ length words) (x y z nodes′ : List ℕ)
-    (lx : length x ≡ length (part (2 * n) (6 * n) words)) (e : ℕ) (e-is : e ≡ heldEnd n b) where
-  from : 6 * n ≤ e
+module _ (n b v : ℕ) (floats : List Float) (walk : Walk) (words nodes : List ℕ) (long : wordsFor n ≤ length words) (x y z nodes′ : List ℕ)
+    (lx : length x ≡ length (frontierPart n words)) (e : ℕ) (e-is : e ≡ heldEnd n b) where
+  from : heldAt n ≤ e
   from = omega arith
 
-  upto : e ≤ 10 * n
+  upto : e ≤ keysAt n
   upto = omega arith
 
   abbrev w₁ : List ℕ
-  w₁ = lay (2 * n) (6 * n) x words
+  w₁ = lay (frontierAt n) (heldAt n) x words
 
-  size-x : length x ≡ 6 * n - 2 * n
-  size-x = lx ∙ length-take-le (6 * n - 2 * n) (drop (2 * n) words) (omega (arith, length-drop (2 * n) words))
+  size-x : length x ≡ heldAt n - frontierAt n
+  size-x = lx ∙ length-take-le (heldAt n - frontierAt n) (drop (frontierAt n) words) (omega (arith, length-drop (frontierAt n) words))
 
   l₁ : length w₁ ≡ length words
-  l₁ = lay-length (2 * n) (6 * n) x words (omega arith) (omega arith) size-x
+  l₁ = lay-length (frontierAt n) (heldAt n) x words (omega arith) (omega arith) size-x
 
-  module _ (ly : length y ≡ length (part (6 * n) e w₁)) where
+  module _ (ly : length y ≡ length (part (heldAt n) e w₁)) where
     abbrev w₂ : List ℕ
-    w₂ = lay (6 * n) e y w₁
+    w₂ = lay (heldAt n) e y w₁
 
-    size-y : length y ≡ e - 6 * n
-    size-y = ly ∙ length-take-le (e - 6 * n) (drop (6 * n) w₁) (omega (arith, length-drop (6 * n) w₁, l₁, upto))
+    size-y : length y ≡ e - heldAt n
+    size-y = ly ∙ length-take-le (e - heldAt n) (drop (heldAt n) w₁) (omega (arith, length-drop (heldAt n) w₁, l₁, upto))
 
     l₂ : length w₂ ≡ length words
-    l₂ = lay-length (6 * n) e y w₁ from (omega (arith, l₁, upto)) size-y ∙ l₁
+    l₂ = lay-length (heldAt n) e y w₁ from (omega (arith, l₁, upto)) size-y ∙ l₁
 
-    module _ (lz : length z ≡ length (part (10 * n) (11 * n) w₂)) where
+    module _ (lz : length z ≡ length (keysPart n w₂)) where
       abbrev w₃ : List ℕ
-      w₃ = lay (10 * n) (11 * n) z w₂
+      w₃ = lay (keysAt n) (wordsFor n) z w₂
 
-      size-z : length z ≡ 11 * n - 10 * n
-      size-z = lz ∙ length-take-le (11 * n - 10 * n) (drop (10 * n) w₂) (omega (arith, length-drop (10 * n) w₂, l₂))
+      size-z : length z ≡ wordsFor n - keysAt n
+      size-z = lz ∙ length-take-le (wordsFor n - keysAt n) (drop (keysAt n) w₂) (omega (arith, length-drop (keysAt n) w₂, l₂))
 
-      pub push-frame : take (2 * n) w₃ ≡ take (2 * n) words
+      pub push-frame : take (frontierAt n) w₃ ≡ take (frontierAt n) words
       push-frame =
-          take-before (10 * n) (11 * n) z w₂ (omega arith) (omega (arith, l₂)) size-z (2 * n) (omega arith)
-          ∙ take-before (6 * n) e y w₁ from (omega (arith, l₁, upto)) size-y (2 * n) (omega arith)
-          ∙ take-before (2 * n) (6 * n) x words (omega arith) (omega arith) size-x (2 * n) (omega arith)
+          take-before (keysAt n) (wordsFor n) z w₂ (omega arith) (omega (arith, l₂)) size-z (frontierAt n) (omega arith)
+          ∙ take-before (heldAt n) e y w₁ from (omega (arith, l₁, upto)) size-y (frontierAt n) (omega arith)
+          ∙ take-before (frontierAt n) (heldAt n) x words (omega arith) (omega arith) size-x (frontierAt n) (omega arith)
 
       pub push-length : length w₃ ≡ length words
-      push-length = lay-length (10 * n) (11 * n) z w₂ (omega arith) (omega (arith, l₂)) size-z ∙ l₂
+      push-length = lay-length (keysAt n) (wordsFor n) z w₂ (omega arith) (omega (arith, l₂)) size-z ∙ l₂
 
-      front-is : part (2 * n) (6 * n) w₃ ≡ x
+      front-is : frontierPart n w₃ ≡ x
       front-is =
-          part-before (10 * n) (11 * n) z w₂ (omega arith) (omega (arith, l₂)) size-z (2 * n) (6 * n) (omega arith) (omega arith)
-          ∙ part-before (6 * n) e y w₁ from (omega (arith, l₁, upto)) size-y (2 * n) (6 * n) (omega arith) (omega arith)
-          ∙ part-here (2 * n) (6 * n) x words (omega arith) (omega arith) size-x
+          part-before (keysAt n) (wordsFor n) z w₂ (omega arith) (omega (arith, l₂)) size-z (frontierAt n) (heldAt n) (omega arith) (omega arith)
+          ∙ part-before (heldAt n) e y w₁ from (omega (arith, l₁, upto)) size-y (frontierAt n) (heldAt n) (omega arith) (omega arith)
+          ∙ part-here (frontierAt n) (heldAt n) x words (omega arith) (omega arith) size-x
 
-      held-is : part (6 * n) e w₃ ≡ y
+      held-is : part (heldAt n) e w₃ ≡ y
       held-is =
-          part-before (10 * n) (11 * n) z w₂ (omega arith) (omega (arith, l₂)) size-z (6 * n) e from upto
-          ∙ part-here (6 * n) e y w₁ from (omega (arith, l₁, upto)) size-y
+          part-before (keysAt n) (wordsFor n) z w₂ (omega arith) (omega (arith, l₂)) size-z (heldAt n) e from upto
+          ∙ part-here (heldAt n) e y w₁ from (omega (arith, l₁, upto)) size-y
 
-      held-was : part (6 * n) e w₁ ≡ part (6 * n) e words
-      held-was = part-after (2 * n) (6 * n) x words (omega arith) (omega arith) size-x (6 * n) e (omega arith)
+      held-was : part (heldAt n) e w₁ ≡ part (heldAt n) e words
+      held-was = part-after (frontierAt n) (heldAt n) x words (omega arith) (omega arith) size-x (heldAt n) e (omega arith)
 
-      keys-is : part (10 * n) (11 * n) w₃ ≡ z
-      keys-is = part-here (10 * n) (11 * n) z w₂ (omega arith) (omega (arith, l₂)) size-z
+      keys-is : keysPart n w₃ ≡ z
+      keys-is = part-here (keysAt n) (wordsFor n) z w₂ (omega arith) (omega (arith, l₂)) size-z
 
-      keys-was : part (10 * n) (11 * n) w₂ ≡ part (10 * n) (11 * n) words
+      keys-was : keysPart n w₂ ≡ keysPart n words
       keys-was =
-          part-after (6 * n) e y w₁ from (omega (arith, l₁, upto)) size-y (10 * n) (11 * n) upto
-          ∙ part-after (2 * n) (6 * n) x words (omega arith) (omega arith) size-x (10 * n) (11 * n) (omega arith)
+          part-after (heldAt n) e y w₁ from (omega (arith, l₁, upto)) size-y (keysAt n) (wordsFor n) upto
+          ∙ part-after (frontierAt n) (heldAt n) x words (omega arith) (omega arith) size-x (keysAt n) (wordsFor n) (omega arith)
 
-      pub push-is : (closest : Closest) (d : Float) (key r scored : ℕ) → Entering v floats (part (2 * n) (6 * n) words) x
-          → Keeping b (walk .held) v floats (part (6 * n) e w₁) y closest → d ≡ getD floats v (inf false) → key ≡ keyOf binary32 d
-          → (r ≡ length (keptPairs (walk .kept) key v (part (10 * n) (11 * n) w₂) nodes)) × (z ≡ keptKeys (walk .kept) key v (part (10 * n) (11 * n) w₂) nodes) × (nodes′ ≡ keptIds (walk .kept) key v (part (10 * n) (11 * n) w₂) nodes)
+      pub push-is : (closest : Closest) (d : Float) (key r scored : ℕ) → Entering v key (frontierPart n words) x
+          → Keeping b (walk .held) d key (part (heldAt n) e w₁) y closest → d ≡ getD floats v (inf false) → key ≡ keyOf binary32 d
+          → (r ≡ length (keptPairs (walk .kept) key v (keysPart n w₂) nodes)) × (z ≡ keptKeys (walk .kept) key v (keysPart n w₂) nodes) × (nodes′ ≡ keptIds (walk .kept) key v (keysPart n w₂) nodes)
           → length nodes′ ≡ length nodes → scored ≡ min (walk .scored + 1) 4294967295
           → Pushing n b v floats words w₃ nodes nodes′ walk (record { scored = scored; held = closest .held; cutoff = closest .cutoff; kept = r })
       unfolding heldOf cutoffOf
       push-is closest d key r scored enter keep di ki first ln sc far nodes₀ seen front known low out s = record {
-        frontier = subst (Queue (frontRank far) n (toFrontier far v front)) (sym front-is) (enter far n front (just known) low (λ m. out (s .sub v m)) (s .frontier));
-        held = subst (λ (i : ℕ). Held far (min b n) (keepClosest far b v (heldOf far b seen)) (part (6 * n) i w₃)) e-is
+        frontier = subst (Queue (frontRank far) n (toFrontier far v front)) (sym front-is) (enter far n front (known .few) (known .f32s) same-key low (λ m. out (s .sub v m)) (s .frontier));
+        held = subst (λ (i : ℕ). Held far (min b n) (keepClosest far b v (heldOf far b seen)) (part (heldAt n) i w₃)) e-is
             (subst (Held far (min b n) (keepClosest far b v (heldOf far b seen))) (sym held-is) (kept .stands));
         held-count = kept .count;
         cutoff-is = kept .cutoff;
         answer = subst (λ (k : List ℕ). Rattle.beam_state.specs.State.AnswerHeld far nodes₀ k nodes′ r (v ∷ seen)) (sym keys-is)
-            (answer-more far nodes₀ (part (10 * n) (11 * n) w₂) nodes (walk .kept) v key r seen z nodes′ (ki ∙ ap (keyOf binary32) (di ∙ known .there v (here refl))) first lz ln
+            (answer-more far nodes₀ (keysPart n w₂) nodes (walk .kept) v key r seen z nodes′ same-key first lz ln
             (subst (λ (k : List ℕ). Rattle.beam_state.specs.State.AnswerHeld far nodes₀ k nodes (walk .kept) seen) (sym keys-was) (s .answer)));
         scored-is = let few = known .few in let all = at-most n seen (s .once) (s .inside) in omega (arith, sc, s .scored-is);
         once = (out, s .once);
@@ -138,24 +138,23 @@ module _ (n b v : ℕ) (floats : List Float) (walk : Walk) (words nodes : List �
         sub = λ u m. sub′ u (in-front u m);
       }
         where
-          just : Known far n (v ∷ seen) floats → Known far n (v ∷ []) floats
-          just k = record { few = k .few; f32s = k .f32s; there = λ u m. k .there u (only u (in-cons m)) }
-            where
-              only : (u : ℕ) → (u ≡ v) ⊎ In u [] → In u (v ∷ seen)
-              only u (inl e) = here e
-              only u (inr m) = absurd (in-nil m)
+          same-distance : d ≡ far v
+          same-distance = di ∙ known .there v (here refl)
+
+          same-key : key ≡ keyAt far v
+          same-key = ki ∙ ap (keyOf binary32) same-distance
 
           below : (u : ℕ) → (u ≡ v) ⊎ In u seen → u < n
           below u (inl e) = omega arith
           below u (inr m) = s .inside u m
 
-          -- the held are among the nodes scored, so that there is a place while they are fewer than b
-          place : length (heldOf far b seen) < b → length (heldOf far b seen) < min b n
-          place h = let f = held-few far b seen in let all = at-most n (v ∷ seen) (out, s .once) (λ u m. below u (in-cons m)) in omega arith
+          -- the held are among the nodes scored, so that there is a free slot while they are fewer than b
+          slot : length (heldOf far b seen) < b → length (heldOf far b seen) < min b n
+          slot h = let f = held-few far b seen in let all = at-most n (v ∷ seen) (out, s .once) (λ u m. below u (in-cons m)) in omega arith
 
           kept : Rattle.beam_state.specs.Queues.Kept far (min b n) b v (heldOf far b seen) y closest
-          kept = keep far n (min b n) (heldOf far b seen) (just known) (s .held-count) place
-              (subst (Held far (min b n) (heldOf far b seen)) (sym held-was) (subst (λ (i : ℕ). Held far (min b n) (heldOf far b seen) (part (6 * n) i words)) (sym e-is) (s .held)))
+          kept = keep far v (min b n) (heldOf far b seen) (known .f32s) same-distance same-key (s .held-count) slot
+              (subst (Held far (min b n) (heldOf far b seen)) (sym held-was) (subst (λ (i : ℕ). Held far (min b n) (heldOf far b seen) (part (heldAt n) i words)) (sym e-is) (s .held)))
 
           in-front : (u : ℕ) → In u (toFrontier far v front) → (u ≡ v) ⊎ In u front
           in-front u m = frontier-in far v front u m
@@ -170,7 +169,7 @@ pub record Going (n b count many : ℕ) (floats : List Float) (words₀ nodes₀
   pub within : i ≤ many
   pub words-kept : length words ≡ length words₀
   pub nodes-kept : length nodes ≡ length nodes₀
-  pub frame : take (2 * n) words ≡ take (2 * n) words₀
+  pub frame : take (frontierAt n) words ≡ take (frontierAt n) words₀
   pub so-far : (far : ℕ → Float) (old fresh : List ℕ) (s : State) → fresh ≡ take count (drop n words₀) → count ≡ length fresh → count ≤ n → NoDup (pushed far fresh s .seen)
       → Below n (pushed far fresh s .seen) → Known far n (pushed far fresh s .seen) floats → Standing far n b old words₀ nodes₀ walk (s .seen) (s .front)
       → Standing far n b old words nodes now (pushed far (take i fresh) s .seen) (pushed far (take i fresh) s .front)
@@ -180,8 +179,8 @@ unfolding pushed
 going-none n b count many floats words nodes walk = record { within = omega arith; words-kept = refl; nodes-kept = refl; frame = refl; so-far = λ far old fresh s f c l d w k t. t }
 
 module _ {n b count many i : ℕ} {floats : List Float} {words₀ nodes₀ words nodes : List ℕ} {walk now : Walk} where
-  pub going-more : {words′ nodes′ : List ℕ} {r : Walk} → Going n b count many floats words₀ nodes₀ walk words nodes now i → many ≡ min count n → i < many → 2 * n ≤ length words₀
-      → length words′ ≡ length words → length nodes′ ≡ length nodes → take (2 * n) words′ ≡ take (2 * n) words
+  pub going-more : {words′ nodes′ : List ℕ} {r : Walk} → Going n b count many floats words₀ nodes₀ walk words nodes now i → many ≡ min count n → i < many → frontierAt n ≤ length words₀
+      → length words′ ≡ length words → length nodes′ ≡ length nodes → take (frontierAt n) words′ ≡ take (frontierAt n) words
       → Pushing n b (getD words (n + i) 0) floats words words′ nodes nodes′ now r → Going n b count many floats words₀ nodes₀ walk words′ nodes′ r (i + 1)
   unfolding pushed
   going-more {words′} {nodes′} {r} g m h long lw ln f push = record {
@@ -230,9 +229,9 @@ module _ {n b count many i : ℕ} {floats : List Float} {words₀ nodes₀ words
 
           node : getD words (n + i) 0 ≡ v
           node =
-              sym (getD-take (2 * n) words (n + i) 0 (omega (arith, m)))
+              sym (getD-take (frontierAt n) words (n + i) 0 (omega (arith, m)))
               ∙ ap (λ (l : List ℕ). getD l (n + i) 0) (g .frame)
-              ∙ getD-take (2 * n) words₀ (n + i) 0 (omega (arith, m))
+              ∙ getD-take (frontierAt n) words₀ (n + i) 0 (omega (arith, m))
               ∙ sym (getD-drop n words₀ i 0)
               ∙ sym (getD-take count (drop n words₀) i 0 (omega (arith, m)))
               ∙ ap (λ (l : List ℕ). getD l i 0) (sym fi)

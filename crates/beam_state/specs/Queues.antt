@@ -44,11 +44,13 @@ pub record Queue (rank : ℕ → ℕ) (n : ℕ) (nodes tree : List ℕ) : Type 0
   pub ordered : Ordered rank nodes
   pub inside : Below n nodes
 
--- a new node goes into the frontier
-abbrev pub Entering : ℕ → List Float → List ℕ → List ℕ → Type 0
-Entering v floats tree tree′ =
+-- a new node goes into the frontier by its key, among nodes that are not too many and whose distances are f32
+abbrev pub Entering : ℕ → ℕ → List ℕ → List ℕ → Type 0
+Entering v key tree tree′ =
     (far : ℕ → Float) (n : ℕ) (front : List ℕ)
-    → Known far n (v ∷ []) floats
+    → n ≤ 1024
+    → ((w : ℕ) → T (fits binary32 (far w)))
+    → key ≡ keyAt far v
     → v < n
     → (In v front → ⊥)
     → Queue (frontRank far) n front tree
@@ -110,11 +112,13 @@ pub record Kept (far : ℕ → Float) (size b v : ℕ) (held tree′ : List ℕ)
   pub count : r .held ≡ length (keepClosest far b v held)
   pub cutoff : r .cutoff ≡ pick (ltb (length held) b) (inf false) (worstOf far (keepClosest far b v held))
 
--- There is a place where the held are fewer than b.
-abbrev pub Keeping : ℕ → ℕ → ℕ → List Float → List ℕ → List ℕ → Closest → Type 0
-Keeping b count v floats tree tree′ r =
-    (far : ℕ → Float) (n size : ℕ) (held : List ℕ)
-    → Known far n (v ∷ []) floats
+-- A node is offered by its distance and its key. There is a free slot where the held are fewer than b.
+abbrev pub Keeping : ℕ → ℕ → Float → ℕ → List ℕ → List ℕ → Closest → Type 0
+Keeping b count d key tree tree′ r =
+    (far : ℕ → Float) (v size : ℕ) (held : List ℕ)
+    → ((w : ℕ) → T (fits binary32 (far w)))
+    → d ≡ far v
+    → key ≡ keyAt far v
     → count ≡ length held
     → (length held < b → length held < size)
     → Held far size held tree

@@ -17,9 +17,33 @@ use Rattle.beam_state.specs.declared.Walk.{Walk}
 abbrev pub part : ℕ → ℕ → List ℕ → List ℕ
 part a e words = take (e - a) (drop a words)
 
--- where the held end, of n nodes: they have b places, or n if those are fewer
+-- Where the parts of a walk's words begin, for n nodes: first n marks and n fresh nodes, then the frontier, the held and the keys of the answer.
+abbrev pub frontierAt : ℕ → ℕ
+frontierAt n = 2 * n
+
+abbrev pub heldAt : ℕ → ℕ
+heldAt n = 6 * n
+
+abbrev pub keysAt : ℕ → ℕ
+keysAt n = 10 * n
+
+-- how many words there are
+abbrev pub wordsFor : ℕ → ℕ
+wordsFor n = 11 * n
+
+-- the held have b slots, or n if those are fewer
 abbrev pub heldEnd : ℕ → ℕ → ℕ
-heldEnd n b = 6 * n + 4 * min b n
+heldEnd n b = heldAt n + 4 * min b n
+
+-- these parts of some words
+abbrev pub frontierPart : ℕ → List ℕ → List ℕ
+frontierPart n words = part (frontierAt n) (heldAt n) words
+
+abbrev pub heldPart : ℕ → ℕ → List ℕ → List ℕ
+heldPart n b words = part (heldAt n) (heldEnd n b) words
+
+abbrev pub keysPart : ℕ → List ℕ → List ℕ
+keysPart n words = part (keysAt n) (wordsFor n) words
 
 -- a node with its key
 abbrev pub pairOf : (ℕ → Float) → ℕ → ℕ × ℕ
@@ -34,11 +58,11 @@ pub record AnswerHeld (far : ℕ → Float) (nodes₀ keys nodes : List ℕ) (ke
 
 -- Words, nodes and counts in which a walk over n nodes with b places stands that has seen these nodes, and has these in its frontier.
 pub record Standing (far : ℕ → Float) (n b : ℕ) (nodes₀ words nodes : List ℕ) (walk : Walk) (seen front : List ℕ) : Type 0 where
-  pub frontier : Queue (frontRank far) n front (part (2 * n) (6 * n) words)
-  pub held : Held far (min b n) (heldOf far b seen) (part (6 * n) (heldEnd n b) words)
+  pub frontier : Queue (frontRank far) n front (frontierPart n words)
+  pub held : Held far (min b n) (heldOf far b seen) (heldPart n b words)
   pub held-count : walk .held ≡ length (heldOf far b seen)
   pub cutoff-is : walk .cutoff ≡ cutoffOf far b seen
-  pub answer : AnswerHeld far nodes₀ (part (10 * n) (11 * n) words) nodes (walk .kept) seen
+  pub answer : AnswerHeld far nodes₀ (keysPart n words) nodes (walk .kept) seen
   pub scored-is : walk .scored ≡ length seen
   pub once : NoDup seen
   pub inside : Below n seen
@@ -63,7 +87,7 @@ pushed far (v ∷ vs) s = pushed far vs (record { seen = v ∷ s .seen; front = 
 -- the first `count` of the fresh nodes, which are all different and all new, and have their distances
 abbrev pub PushingAll : ℕ → ℕ → ℕ → List Float → List ℕ → List ℕ → List ℕ → List ℕ → Walk → Walk → Type 0
 PushingAll n b count floats words words′ nodes nodes′ walk r =
-    11 * n ≤ length words →
+    wordsFor n ≤ length words →
     (far : ℕ → Float) (nodes₀ fresh : List ℕ) (s : State)
     → fresh ≡ take count (drop n words)
     → count ≡ length fresh

@@ -2,21 +2,39 @@
 // frontier, among the held, into the answer. The body of the inner loop of `beam_search` in
 // src/pipnn/mod.rs.
 //
-// One slice of words holds it, by the number n of nodes: n marks and n places for fresh nodes (`gathering`),
-// then the frontier (4·n words), the held (4·n words, of which the first four for each of the walk's places are
-// used) and the keys of the answer (n). The answer's nodes stand in the slice that they are wanted in, nearest
-// first, as far as it goes: `keep_first` keeps the first few of what it is offered, so that nothing is sorted at
-// the end. Counts and the cutoff are a struct by value.
+// One slice of words holds it. For n nodes its parts are, one behind the other:
+//
+//   from          words  part
+//   0             n      a mark for each node (`gathering`)
+//   n             n      the fresh nodes of a list (`gathering`)
+//   FRONTIER * n  4·n    the frontier, a tournament over the nodes (`queues`)
+//   HELD * n      4·n    the held, a tournament over the walk's places; min(places, n) of its slots are used
+//   KEYS * n      n      the keys of the answer's nodes
+//   WORDS * n            the end
+//
+// specs/State has the same names: `frontierAt`, `heldAt`, `keysAt`, `wordsFor`. The answer's nodes stand in the
+// slice that the caller wants them in, nearest first: `keep_first` keeps the first of what it is offered, as
+// many as that slice has room for, so that nothing is sorted at the end. Counts and the cutoff are a struct by
+// value.
 pub mod queues;
 pub mod tournament;
 
 ghost use mathlib.Core.Path.{_≡_};
-ghost use Prim.Native.Nat.{_+_, _*_, _≤_, min};
+ghost use Prim.Native.Nat.{_+_, _≤_, min};
 ghost use lib.ListN.{length, take};
-ghost use Rattle.beam_state.specs.State.{Pushing, PushingAll};
+ghost use Rattle.beam_state.specs.State.{frontierAt, wordsFor, Pushing, PushingAll};
 use distance::order;
 use words::ids::Node;
 use words::slices;
+
+// Where the parts of the words begin, in words for each node, and how many words there are.
+pub const FRONTIER: usize = 2;
+
+pub const HELD: usize = 6;
+
+pub const KEYS: usize = 10;
+
+pub const WORDS: usize = 11;
 
 // How many nodes are scored, how many are held for the cutoff, the cutoff, and how many are in the answer.
 pub struct Walk {
@@ -46,18 +64,26 @@ fn push(
     walk: Walk,
     node: Node,
 ) -> Walk
-    requires { ⌜ 11 * size ≤ length (now words) ⌝ }
-    ensures { λ r. ⌜ (take (2 * size) (now (words .exit)) ≡ take (2 * size) (now (words .entry)))
-        × Pushing size places (node .0) (now (floats .entry)) (now (words .entry)) (now (words .exit)) (now (nodes .entry)) (now (nodes .exit)) walk r ⌝ }
+    requires { ⌜ wordsFor size ≤ length (now words) ⌝ }
+    ensures marks { λ _. ⌜ take (frontierAt size) (now (words .exit)) ≡ take (frontierAt size) (now (words .entry)) ⌝ }
+    ensures pushed { λ r. ⌜ Pushing size places (node .0) (now (floats .entry))
+        (now (words .entry)) (now (words .exit)) (now (nodes .entry)) (now (nodes .exit)) walk r ⌝ }
 {
-    let front = 2 * size;
-    let held = 6 * size;
+    let distance = queues::distance_of(floats, node);
+    let key = order::key(distance);
+    let frontier = FRONTIER * size;
+    let held = HELD * size;
     let held_end = held + 4 * slices::lesser(places as usize, size);
-    let keys = 10 * size;
-    let end = 11 * size;
-    queues::enter(&mut words[front..held], floats, node);
-    let closest = queues::keep_closest(&mut words[held..held_end], floats, walk.held, places, node);
-    let key = order::key(queues::distance_of(floats, node));
+    let keys = KEYS * size;
+    let end = WORDS * size;
+    queues::enter(&mut words[frontier..held], key, node);
+    let closest = queues::keep_closest(
+        &mut words[held..held_end],
+        walk.held,
+        places,
+        distance,
+        key,
+    );
     let kept = sorting::keep_first(&mut words[keys..end], nodes, walk.kept, key, node.0);
     Walk {
         scored: one_more(walk.scored),
@@ -77,10 +103,11 @@ pub fn push_all(
     walk: Walk,
     count: usize,
 ) -> Walk
-    ensures { λ r. ⌜ (take (2 * size) (now (words .exit)) ≡ take (2 * size) (now (words .entry)))
-        × PushingAll size places count (now (floats .entry)) (now (words .entry)) (now (words .exit)) (now (nodes .entry)) (now (nodes .exit)) walk r ⌝ }
+    ensures marks { λ _. ⌜ take (frontierAt size) (now (words .exit)) ≡ take (frontierAt size) (now (words .entry)) ⌝ }
+    ensures pushed { λ r. ⌜ PushingAll size places count (now (floats .entry))
+        (now (words .entry)) (now (words .exit)) (now (nodes .entry)) (now (nodes .exit)) walk r ⌝ }
 {
-    if words.len() / 11 < size {
+    if words.len() / WORDS < size {
         return walk;
     }
     let many = slices::lesser(count, size);

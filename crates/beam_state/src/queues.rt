@@ -15,10 +15,9 @@
 // proofs/Keeping  the cases of `keep_closest`
 ghost use mathlib.Core.Path.{_≡_};
 ghost use mathlib.Core.Bool.{false};
-ghost use lib.Ieee.{binary32, inf};
+ghost use lib.Ieee.{inf};
 ghost use lib.ListN.{getD};
 ghost use Rattle.beam_state.specs.Tournament.{Putting};
-ghost use Rattle.distance.specs.Order.{keyOf};
 ghost use Rattle.beam_state.specs.Queues.{Popping, Worst, Keeping, Entering, heldRank};
 use super::tournament;
 use distance::order;
@@ -49,11 +48,10 @@ pub fn distance_of(floats: &[f32], node: Node) -> f32
     f32::from_bits(0x7f80_0000)
 }
 
-// Puts a node into the frontier.
-pub fn enter(tree: &mut [u32], floats: &[f32], node: Node)
-    ensures { λ _. ⌜ Entering (node .0) (now (floats .entry)) (now (tree .entry)) (now (tree .exit)) ⌝ }
+// Puts a node into the frontier, by its distance's key.
+pub fn enter(tree: &mut [u32], key: u32, node: Node)
+    ensures { λ _. ⌜ Entering (node .0) key (now (tree .entry)) (now (tree .exit)) ⌝ }
 {
-    let key = order::key(distance_of(floats, node));
     tournament::put(tree, node.0, key, node.0);
 }
 
@@ -71,11 +69,11 @@ pub fn pop(tree: &mut [u32], floats: &[f32]) -> Popped
     Popped::At(distance_of(floats, node), node)
 }
 
-// Puts a distance at a place of the held.
-fn hold(tree: &mut [u32], place: u32, distance: f32)
-    ensures { λ _. ⌜ Putting place (heldRank (keyOf binary32 distance) place) (now (tree .entry)) (now (tree .exit)) ⌝ }
+// Puts a distance's key into a slot of the held.
+fn hold(tree: &mut [u32], slot: u32, key: u32)
+    ensures { λ _. ⌜ Putting slot (heldRank key slot) (now (tree .entry)) (now (tree .exit)) ⌝ }
 {
-    tournament::put(tree, place, NOTHING - order::key(distance), place);
+    tournament::put(tree, slot, NOTHING - key, slot);
 }
 
 // The worst distance held; infinity where none is.
@@ -89,23 +87,22 @@ fn worst_of(tree: &[u32]) -> f32
     order::value(NOTHING - worst.key)
 }
 
-// Offers a scored node to the held, of which there are so many places, and gives the cutoff: infinity where
-// the node went to a free place, also the last one, else the worst distance held. A node takes the worst's
-// place where its distance is less, as numbers are compared.
-pub fn keep_closest(tree: &mut [u32], floats: &[f32], held: u32, places: u32, node: Node) -> Closest
-    ensures { λ r. ⌜ Keeping places held (node .0) (now (floats .entry)) (now (tree .entry)) (now (tree .exit)) r ⌝ }
+// Offers a scored node, by its distance and the distance's key, to the held, which have `places` slots, and
+// returns the cutoff: infinity where the node went to a free slot, also the last one, else the worst distance
+// held. A node takes the worst's slot where its distance is less, as numbers are compared.
+pub fn keep_closest(tree: &mut [u32], held: u32, places: u32, distance: f32, key: u32) -> Closest
+    ensures { λ r. ⌜ Keeping places held distance key (now (tree .entry)) (now (tree .exit)) r ⌝ }
 {
-    let distance = distance_of(floats, node);
     if held < places {
-        hold(tree, held, distance);
+        hold(tree, held, key);
         return Closest {
             held: held + 1,
             cutoff: f32::from_bits(0x7f80_0000),
         };
     }
     let worst = tournament::first(tree);
-    let place = worst.id;
-    if place == NOTHING {
+    let slot = worst.id;
+    if slot == NOTHING {
         return Closest {
             held,
             cutoff: f32::from_bits(0x7f80_0000),
@@ -113,7 +110,7 @@ pub fn keep_closest(tree: &mut [u32], floats: &[f32], held: u32, places: u32, no
     }
     let most = order::value(NOTHING - worst.key);
     if distance < most {
-        hold(tree, place, distance);
+        hold(tree, slot, key);
         let cutoff = worst_of(tree);
         return Closest { held, cutoff };
     }

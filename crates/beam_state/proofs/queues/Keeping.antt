@@ -3,7 +3,6 @@
 use mathlib.Core.Path.{_≡_, refl, sym, ap, ap₂, _∙_, subst}
 use mathlib.Core.Bool.{true, false}
 use mathlib.Core.List.{List, [], _∷_}
-use mathlib.Core.List.{List·Memᴰ·head as here}
 use Prim.Native.Nat.{ℕ, _+_, _-_, _≤_, _<_}
 use native.Mathlib.Omega.{arith}
 use borrow.Author.Tests.{lt-ltb, le-ltb}
@@ -11,12 +10,12 @@ use lib.Dec.{T, ltb}
 use lib.ListN.{length, getD}
 use lib.Ieee.{Float, binary32, fits, inf, lt}
 use Rattle.basics.specs.Choice.{pick-true, pick-false}
-use Rattle.distance.specs.Order.{keyOf, valueOf}
+use Rattle.distance.specs.Order.{valueOf}
 use Rattle.distance.proofs.order.Laws.{key-below, value-key}
 use Rattle.beam_state.specs.Tournament.{Putting, firstOf}
 use Rattle.beam_state.specs.declared.tournament.Pair.{Pair}
 use Rattle.def_walk.specs.KeepClosest.{keyAt, hold, replaceWorst, keepClosest, worstOf}
-use Rattle.beam_state.specs.Queues.{Known, heldRank, Held, Worst, Keeping}
+use Rattle.beam_state.specs.Queues.{heldRank, Held, Worst, Keeping}
 use Rattle.beam_state.proofs.queues.Holding.{hold-length, none-first, first-held, held-more, held-over}
 
 module _ (tree : List ℕ) (top : Pair) (first : top ≡ firstOf tree) (j : getD tree 3 0 < 4294967296) (k : getD tree 2 0 < 4294967296) where
@@ -47,70 +46,67 @@ module _ (tree : List ℕ) (top : Pair) (first : top ≡ firstOf tree) (j : getD
   worst-at ne d e far size [] f32s h = absurd (ne (is-none f32s h))
   worst-at ne d e far size (u ∷ l) f32s h = e ∙ worst-is f32s u l h
 
-  module _ (floats : List Float) (b count v : ℕ) (d : Float) (d-is : d ≡ getD floats v (inf false)) where
-    same-key : {far : ℕ → Float} {n : ℕ} → Known far n (v ∷ []) floats → keyOf binary32 d ≡ keyAt far v
-    same-key known = ap (keyOf binary32) (d-is ∙ known .there v (here refl))
-
-    -- a free place
-    pub kept-free : (tree′ : List ℕ) → count < b → Putting count (heldRank (keyOf binary32 d) count) tree tree′
-        → Keeping b count v floats tree tree′ (record { held = count + 1; cutoff = inf false })
+  module _ (b count : ℕ) (d : Float) (key : ℕ) where
+    -- a free slot
+    pub kept-free : (tree′ : List ℕ) → count < b → Putting count (heldRank key count) tree tree′
+        → Keeping b count d key tree tree′ (record { held = count + 1; cutoff = inf false })
     unfolding keepClosest
-    kept-free tree′ l put far n size held known e room h =
+    kept-free tree′ l put far v size held f32s d-is key-is e room h =
         let free : ltb (length held) b ≡ true = lt-ltb (length held) b (omega arith) in
         let after : keepClosest far b v held ≡ hold far v held = pick-true (hold far v held) (replaceWorst far v held) free in
         let put′ : Putting (length held) (heldRank (keyAt far v) (length held)) tree tree′ =
-        subst (λ (x : ℕ). Putting x (heldRank (keyAt far v) x) tree tree′) e (subst (λ (x : ℕ). Putting count (heldRank x count) tree tree′) (same-key known) put) in record {
+        subst (λ (x : ℕ). Putting x (heldRank (keyAt far v) x) tree tree′) e (subst (λ (x : ℕ). Putting count (heldRank x count) tree tree′) key-is put) in record {
           stands = subst (λ (l : List ℕ). Held far size l tree′) (sym after) (held-more v held (room (omega arith)) put′ h);
           count = omega (arith, ap length after, hold-length far v held);
           cutoff = sym (pick-true (inf false) (worstOf far (keepClosest far b v held)) free);
         }
 
     module _ (full : b ≤ count) where
-      no-place : (held : List ℕ) → count ≡ length held → ltb (length held) b ≡ false
-      no-place held e = le-ltb (length held) b (omega arith)
+      no-slot : (held : List ℕ) → count ≡ length held → ltb (length held) b ≡ false
+      no-slot held e = le-ltb (length held) b (omega arith)
 
-      replaced : (far : ℕ → Float) (held : List ℕ) → count ≡ length held → keepClosest far b v held ≡ replaceWorst far v held
+      replaced : (far : ℕ → Float) (v : ℕ) (held : List ℕ) → count ≡ length held → keepClosest far b v held ≡ replaceWorst far v held
       unfolding keepClosest
-      replaced far held e = pick-false (hold far v held) (replaceWorst far v held) (no-place held e)
+      replaced far v held e = pick-false (hold far v held) (replaceWorst far v held) (no-slot held e)
 
-      -- no place at all
-      pub kept-none : top .id ≡ 0xffff_ffff → Keeping b count v floats tree tree (record { held = count; cutoff = inf false })
+      -- no slot at all
+      pub kept-none : top .id ≡ 0xffff_ffff → Keeping b count d key tree tree (record { held = count; cutoff = inf false })
       unfolding replaceWorst
-      kept-none z far n size [] known e room h =
-          let after : keepClosest far b v [] ≡ [] = replaced far [] e in record {
+      kept-none z far v size [] f32s d-is key-is e room h =
+          let after : keepClosest far b v [] ≡ [] = replaced far v [] e in record {
             stands = subst (λ (l : List ℕ). Held far size l tree) (sym after) h;
             count = e ∙ ap length (sym after);
-            cutoff = sym (pick-false (inf false) (worstOf far (keepClosest far b v [])) (no-place [] e) ∙ ap (worstOf far) after);
+            cutoff = sym (pick-false (inf false) (worstOf far (keepClosest far b v [])) (no-slot [] e) ∙ ap (worstOf far) after);
           }
-      kept-none z far n size (w ∷ l) known e room h = absurd (not-none (known .f32s) w l h z)
+      kept-none z far v size (w ∷ l) f32s d-is key-is e room h = absurd (not-none f32s w l h z)
 
       module _ (ne : top .id ≡ 0xffff_ffff → ⊥) (most : Float) (most-is : most ≡ valueOf binary32 (0xffff_ffff - top .key)) where
-        nearer : {far : ℕ → Float} {n size : ℕ} (w : ℕ) (l : List ℕ) → Known far n (v ∷ []) floats → Held far size (w ∷ l) tree → lt (far v) (far w) ≡ lt d most
-        nearer w l known h = sym (ap₂ lt (d-is ∙ known .there v (here refl)) (most-is ∙ worst-is (known .f32s) w l h))
+        nearer : {far : ℕ → Float} {size : ℕ} (v w : ℕ) (l : List ℕ) → ((x : ℕ) → T (fits binary32 (far x))) → d ≡ far v → Held far size (w ∷ l) tree → lt (far v) (far w) ≡ lt d most
+        nearer v w l f32s d-is h = sym (ap₂ lt d-is (most-is ∙ worst-is f32s w l h))
 
-        -- the worst leaves its place
-        pub kept-new : (tree′ : List ℕ) (cutoff : Float) → lt d most ≡ true → Putting (top .id) (heldRank (keyOf binary32 d) (top .id)) tree tree′ → Worst tree′ cutoff
-            → Keeping b count v floats tree tree′ (record { held = count; cutoff = cutoff })
+        -- the worst leaves its slot
+        pub kept-new : (tree′ : List ℕ) (cutoff : Float) → lt d most ≡ true → Putting (top .id) (heldRank key (top .id)) tree tree′ → Worst tree′ cutoff
+            → Keeping b count d key tree tree′ (record { held = count; cutoff = cutoff })
         unfolding replaceWorst
-        kept-new tree′ cutoff t put worst far n size [] known e room h = absurd (ne (is-none (known .f32s) h))
-        kept-new tree′ cutoff t put worst far n size (w ∷ l) known e room h =
-            let after : keepClosest far b v (w ∷ l) ≡ hold far v l = replaced far (w ∷ l) e ∙ pick-true (hold far v l) (w ∷ l) (nearer w l known h ∙ t) in
-            let f = first-held (known .f32s) j k w l h in
+        kept-new tree′ cutoff t put worst far v size [] f32s d-is key-is e room h = absurd (ne (is-none f32s h))
+        kept-new tree′ cutoff t put worst far v size (w ∷ l) f32s d-is key-is e room h =
+            let after : keepClosest far b v (w ∷ l) ≡ hold far v l = replaced far v (w ∷ l) e ∙ pick-true (hold far v l) (w ∷ l) (nearer v w l f32s d-is h ∙ t) in
+            let f = first-held f32s j k w l h in
             let put′ : Putting (firstOf tree .id) (heldRank (keyAt far v) (firstOf tree .id)) tree tree′ =
-            subst (λ (x : ℕ). Putting x (heldRank (keyAt far v) x) tree tree′) top-id (subst (λ (x : ℕ). Putting (top .id) (heldRank x (top .id)) tree tree′) (same-key known) put) in
+            subst (λ (x : ℕ). Putting x (heldRank (keyAt far v) x) tree tree′) top-id (subst (λ (x : ℕ). Putting (top .id) (heldRank x (top .id)) tree tree′) key-is put) in
             let with : Held far size (hold far v l) tree′ = held-over w v l h (firstOf tree .id) (f .inside) (f .is) put′ in record {
               stands = subst (λ (m : List ℕ). Held far size m tree′) (sym after) with;
               count = omega (arith, e, ap length after, hold-length far v l);
-              cutoff = worst far size (hold far v l) (known .f32s) with ∙ ap (worstOf far) (sym after) ∙ sym (pick-false (inf false) (worstOf far (keepClosest far b v (w ∷ l))) (no-place (w ∷ l) e));
+              cutoff = worst far size (hold far v l) f32s with ∙ ap (worstOf far) (sym after) ∙ sym (pick-false (inf false) (worstOf far (keepClosest far b v (w ∷ l))) (no-slot (w ∷ l) e));
             }
 
         -- it stays
-        pub kept-same : lt d most ≡ false → Keeping b count v floats tree tree (record { held = count; cutoff = most })
+        pub kept-same : lt d most ≡ false → Keeping b count d key tree tree (record { held = count; cutoff = most })
         unfolding replaceWorst
-        kept-same t far n size [] known e room h = absurd (ne (is-none (known .f32s) h))
-        kept-same t far n size (w ∷ l) known e room h =
-            let after : keepClosest far b v (w ∷ l) ≡ w ∷ l = replaced far (w ∷ l) e ∙ pick-false (hold far v l) (w ∷ l) (nearer w l known h ∙ t) in record {
+        kept-same t far v size [] f32s d-is key-is e room h = absurd (ne (is-none f32s h))
+        kept-same t far v size (w ∷ l) f32s d-is key-is e room h =
+            let after : keepClosest far b v (w ∷ l) ≡ w ∷ l = replaced far v (w ∷ l) e ∙ pick-false (hold far v l) (w ∷ l) (nearer v w l f32s d-is h ∙ t) in record {
               stands = subst (λ (m : List ℕ). Held far size m tree) (sym after) h;
               count = e ∙ ap length (sym after);
-              cutoff = most-is ∙ worst-is (known .f32s) w l h ∙ ap (worstOf far) (sym after) ∙ sym (pick-false (inf false) (worstOf far (keepClosest far b v (w ∷ l))) (no-place (w ∷ l) e));
+              cutoff = most-is ∙ worst-is f32s w l h ∙ ap (worstOf far) (sym after) ∙ sym (pick-false (inf false) (worstOf far (keepClosest far b v (w ∷ l))) (no-slot (w ∷ l) e));
             }

@@ -8,9 +8,8 @@ use native.Mathlib.Omega.{arith}
 use native.Mathlib.Decide.{decLt}
 use borrow.Author.Tests.{lt-ltb, le-ltb}
 use lib.ListN.{length, getD}
-use lib.Ieee.{Float, binary32, inf}
+use lib.Ieee.{Float, inf}
 use Rattle.basics.specs.Choice.{pick-true, pick-false}
-use Rattle.distance.specs.Order.{keyOf}
 use Rattle.beam_state.specs.Tournament.{rankOf, emptyRank, Putting, firstOf}
 use Rattle.beam_state.specs.declared.tournament.Pair.{Pair}
 use Rattle.beam_state.proofs.tournament.Laws.{rank-id}
@@ -51,15 +50,12 @@ module _ (a b : ℕ → ℕ) (n : ℕ) (tree : List ℕ) where
 abbrev node : ℕ → Node
 node v = record { 0 = v }
 
-pub entering : (v : ℕ) (floats : List Float) (tree tree′ : List ℕ) (d : Float) (k : ℕ) → d ≡ getD floats v (inf false) → k ≡ keyOf binary32 d
-    → Putting v (rankOf k v) tree tree′ → Entering v floats tree tree′
+pub entering : (v k : ℕ) (tree tree′ : List ℕ) → Putting v (rankOf k v) tree tree′ → Entering v k tree tree′
 unfolding toFrontier
-entering v floats tree tree′ d k e f put far n front known low out q =
-    let few : n ≤ 1024 = known .few in
-    let same : k ≡ keyAt far v = f ∙ ap (keyOf binary32) (e ∙ known .there v (here refl)) in
+entering v k tree tree′ put far n front few f32s same low out q =
     put-in (frontRank far) n (sooner far) v front tree tree′ low
-    (λ w h. front-order far (known .f32s) v w (omega arith) (omega arith))
-    (λ w h s. front-one far (known .f32s) v w (omega arith) (omega arith) s)
+    (λ w h. front-order far f32s v w (omega arith) (omega arith))
+    (λ w h s. front-one far f32s v w (omega arith) (omega arith) s)
     out (subst (λ (j : ℕ). Putting v (rankOf j v) tree tree′) same put) q
 
 module _ (floats : List Float) (tree tree′ : List ℕ) (id : ℕ) (first : id ≡ firstOf tree .id) (j : getD tree 3 0 < 4294967296) (k : getD tree 2 0 < 4294967296) where

@@ -1,4 +1,4 @@
--- `queues::enter` meets its contract: the key is that of the node's distance. Assumes nothing.
+-- `queues::enter` meets its contract: the pair put is the key and the node. Assumes nothing.
 use Rattle.beam_state.proofs.queues.Steps.{entering}
 use borrow.Author.Needs.{needs}
 use Rattle.beam_state.proofs.queues.enter.Statement.{statement}
@@ -6,12 +6,13 @@ use Rattle.beam_state.proofs.queues.enter.Tie as tie
 
 returns : tie.Need-returns
 returns c =
-    let a = (c .before .before .before .before .before .before .before .before) .args in
-    entering (a .node .0) (a .floats .now) (a .tree .now) (c .before .before .put .last .0) (c .before .before .before .before .before .distance-of .result) (c .before .before .before .before .key .result) (c .before .before .before .before .before .distance-of .ensures) (c .before .before .before .before .key .ensures) (c .before .before .put .ensures)
+    let at-put = c .before .before in
+    let start = at-put .before .before .before in
+    let a = start .args in
+    entering (a .node .0) (a .key) (a .tree .now) (at-put .put .last .0) (at-put .put .ensures)
 
 pub enter-spec : {M : Type 1} → statement M
-enter-spec =
-    tie.close (tie.spec
-    -- distance_of, key, put, lengths stay
-    (λ c κs. search needs) (λ c κs. search needs) (λ c κs. search needs) (λ c. search needs)
+enter-spec = tie.close (tie.spec
+    -- put, lengths stay
+    (λ c κs. search needs) (λ c. search needs)
     returns)
