@@ -29,64 +29,61 @@ use Rattle.beam_state.specs.Queues.{frontRank}
 use Rattle.beam_state.proofs.queues.Laws.{empty-queue}
 use Rattle.beam_state.proofs.queues.Holding.{none-held}
 use Rattle.neighbours.specs.Gathering.{GatheringAll}
-use Rattle.beam_state.specs.State.{part, heldEnd, AnswerHeld, Standing}
+use Rattle.beam_state.specs.State.{part, frontierAt, heldAt, keysAt, wordsFor, heldEnd, frontierPart, heldPart, keysPart, AnswerHeld, Standing}
 use Rattle.beam_state.specs.declared.Walk.{Walk}
 use Rattle.beam_state.proofs.Parts.{lay, lay-length, part-here, part-before, take-before}
-use Rattle.beam_search.specs.Search.{within, Searched}
-use Rattle.beam_search.specs.Steps.{Between, TakingIn, walkOn, Prepared, Telling}
+use Rattle.beam_search.specs.declared.Sizes.{Sizes}
+use Rattle.beam_search.specs.Search.{within, Reads, farOf, scoredBy, Searched}
+use Rattle.beam_search.specs.Steps.{Memory, Between, TakingIn, walkOn, Prepared, Starting, PutDistances}
 use Rattle.beam_search.proofs.Taking.{gathered-in, same-mark}
 
 -- ---- room
 
--- so many words of scratch, components, nodes and words of bridges do not fit
-abbrev short : ℕ → ℕ → ℕ → ℕ → Bool
-short words query n bridges = ((ltb (words / 11) n || ltb 4294967295 query) || ltb 1024 n) || ltb n (bridges / 2)
+-- the words of scratch, the nodes or the words of bridges do not fit
+abbrev short : ℕ → ℕ → ℕ → Bool
+short words n bridges = (ltb (words / 11) n || ltb 1024 n) || ltb n (bridges / 2)
 
-pub record Room (words query n bridges : ℕ) : Type 0 where
+pub record Room (words n bridges : ℕ) : Type 0 where
   pub scratch : n ≤ words / 11
-  pub components : query ≤ 4294967295
   pub nodes : n ≤ 1024
   pub pairs : bridges / 2 ≤ n
 
-module _ (words query n bridges : ℕ) where
-  pub has-room : short words query n bridges ≡ false → Room words query n bridges
+module _ (words n bridges : ℕ) where
+  pub has-room : short words n bridges ≡ false → Room words n bridges
   has-room e =
-      let t3 = both-false ((ltb (words / 11) n || ltb 4294967295 query) || ltb 1024 n) (ltb n (bridges / 2)) e in
-      let t2 = both-false (ltb (words / 11) n || ltb 4294967295 query) (ltb 1024 n) (t3 .0) in
-      let t1 = both-false (ltb (words / 11) n) (ltb 4294967295 query) (t2 .0) in record {
+      let t2 = both-false (ltb (words / 11) n || ltb 1024 n) (ltb n (bridges / 2)) e in
+      let t1 = both-false (ltb (words / 11) n) (ltb 1024 n) (t2 .0) in record {
         scratch = ltb-false (words / 11) n (t1 .0);
-        components = ltb-false 4294967295 query (t1 .1);
-        nodes = ltb-false 1024 n (t2 .1);
-        pairs = ltb-false n (bridges / 2) (t3 .1);
+        nodes = ltb-false 1024 n (t1 .1);
+        pairs = ltb-false n (bridges / 2) (t2 .1);
       }
 
-  pub no-room : short words query n bridges ≡ true → Room words query n bridges → ⊥
+  pub no-room : short words n bridges ≡ true → Room words n bridges → ⊥
   no-room e r =
       mathlib.Core.Bool.true≢false
-      (sym e
-      ∙ ap₂ _||_ (ap₂ _||_ (ap₂ _||_ (le-ltb (words / 11) n (r .scratch)) (le-ltb 4294967295 query (r .components))) (le-ltb 1024 n (r .nodes))) (le-ltb n (bridges / 2) (r .pairs)))
+      (sym e ∙ ap₂ _||_ (ap₂ _||_ (le-ltb (words / 11) n (r .scratch)) (le-ltb 1024 n (r .nodes))) (le-ltb n (bridges / 2) (r .pairs)))
 
--- ---- distances told
+-- ---- the distances of the answer
 
 module _ (g : ℕ → Float) (nodes : List ℕ) (ds : List Float) where
-  abbrev pub told : ℕ → List Float
-  told i = map g (take i nodes) ++ drop i ds
+  abbrev pub put-so-far : ℕ → List Float
+  put-so-far i = map g (take i nodes) ++ drop i ds
 
   images : (i : ℕ) → i ≤ length nodes → length (map g (take i nodes)) ≡ i
   images i h = length-map (take i nodes) g ∙ length-take-le i nodes h
 
-  pub told-length : (i : ℕ) → i ≤ length nodes → i ≤ length ds → length (told i) ≡ length ds
-  told-length i h k = front-length ds (map g (take i nodes)) i (images i h) k
+  pub put-length : (i : ℕ) → i ≤ length nodes → i ≤ length ds → length (put-so-far i) ≡ length ds
+  put-length i h k = front-length ds (map g (take i nodes)) i (images i h) k
 
-  pub told-more : (i : ℕ) → i < length nodes → i < length ds → set (told i) i (g (getD nodes i 0)) ≡ told (i + 1)
-  told-more i h k =
+  pub put-more : (i : ℕ) → i < length nodes → i < length ds → set (put-so-far i) i (g (getD nodes i 0)) ≡ put-so-far (i + 1)
+  put-more i h k =
       front-set ds (map g (take i nodes)) i (g (getD nodes i 0)) (images i (omega arith)) k
       ∙ ap (λ (l : List Float). l ++ drop (i + 1) ds)
       (sym (ap (λ (j : ℕ). map g (take j nodes)) (add-one i) ∙ ap (map g) (take-suc nodes i 0 h) ∙ map-append g (take i nodes) (getD nodes i 0 ∷ [])))
 
 -- ---- cleared
 
-module _ (n b : ℕ) (words x y z : List ℕ) (long : 11 * n ≤ length words) (xi : x ≡ replicate (length (take n words)) 0) where
+module _ (n b : ℕ) (words x y z : List ℕ) (long : wordsFor n ≤ length words) (xi : x ≡ replicate (length (take n words)) 0) where
   abbrev w₁ : List ℕ
   w₁ = x ++ drop n words
 
@@ -96,52 +93,52 @@ module _ (n b : ℕ) (words x y z : List ℕ) (long : 11 * n ≤ length words) (
   l₁ : length w₁ ≡ length words
   l₁ = omega (arith, length-append x (drop n words), length-drop n words, lx)
 
-  module _ (ly : length y ≡ length (part (2 * n) (6 * n) w₁)) where
+  module _ (ly : length y ≡ length (frontierPart n w₁)) where
     abbrev w₂ : List ℕ
-    w₂ = lay (2 * n) (6 * n) y w₁
+    w₂ = lay (frontierAt n) (heldAt n) y w₁
 
-    part₁ : length (part (2 * n) (6 * n) w₁) ≡ 6 * n - 2 * n
-    part₁ = length-take-le (6 * n - 2 * n) (drop (2 * n) w₁) (omega (arith, length-drop (2 * n) w₁, l₁))
+    part₁ : length (frontierPart n w₁) ≡ heldAt n - frontierAt n
+    part₁ = length-take-le (heldAt n - frontierAt n) (drop (frontierAt n) w₁) (omega (arith, length-drop (frontierAt n) w₁, l₁))
 
     l₂ : length w₂ ≡ length words
-    l₂ = lay-length (2 * n) (6 * n) y w₁ (omega arith) (omega (arith, l₁)) (ly ∙ part₁) ∙ l₁
+    l₂ = lay-length (frontierAt n) (heldAt n) y w₁ (omega arith) (omega (arith, l₁)) (ly ∙ part₁) ∙ l₁
 
-    module _ (e : ℕ) (e-is : e ≡ heldEnd n b) (lz : length z ≡ length (part (6 * n) e w₂)) where
+    module _ (e : ℕ) (e-is : e ≡ heldEnd n b) (lz : length z ≡ length (part (heldAt n) e w₂)) where
       abbrev w₃ : List ℕ
-      w₃ = lay (6 * n) e z w₂
+      w₃ = lay (heldAt n) e z w₂
 
-      from : 6 * n ≤ e
+      from : heldAt n ≤ e
       from = omega arith
 
       upto : e ≤ length w₂
       upto = omega (arith, l₂)
 
-      part₂ : length (part (6 * n) e w₂) ≡ e - 6 * n
-      part₂ = length-take-le (e - 6 * n) (drop (6 * n) w₂) (omega (arith, length-drop (6 * n) w₂, upto))
+      part₂ : length (part (heldAt n) e w₂) ≡ e - heldAt n
+      part₂ = length-take-le (e - heldAt n) (drop (heldAt n) w₂) (omega (arith, length-drop (heldAt n) w₂, upto))
 
-      pub prepared : Tournament (replicate (length (part (2 * n) (6 * n) w₁) / 4) emptyRank) y → Tournament (replicate (length (part (6 * n) e w₂) / 4) emptyRank) z → Prepared n b w₃
+      pub prepared : Tournament (replicate (length (frontierPart n w₁) / 4) emptyRank) y → Tournament (replicate (length (part (heldAt n) e w₂) / 4) emptyRank) z → Prepared n b w₃
       prepared ty tz = record {
         marks = λ v h. same-mark n v w₁ w₃ h same ∙ List·getD-append x (drop n words) 0 v (omega (arith, lx)) ∙ ap (λ (l : List ℕ). getD l v 0) xi
             ∙ getD-replicate (length (take n words)) v 0 0 (omega (arith, length-take-le n words (omega arith)));
         front = subst (Tournament (replicate n emptyRank)) (sym front-is) (subst (λ (k : ℕ). Tournament (replicate k emptyRank) y) four₁ ty);
-        held = subst (λ (i : ℕ). Tournament (replicate (min b n) emptyRank) (part (6 * n) i w₃)) e-is
-            (subst (Tournament (replicate (min b n) emptyRank)) (sym (part-here (6 * n) e z w₂ from upto (lz ∙ part₂))) (subst (λ (k : ℕ). Tournament (replicate k emptyRank) z) four₂ tz));
+        held = subst (λ (i : ℕ). Tournament (replicate (min b n) emptyRank) (part (heldAt n) i w₃)) e-is
+            (subst (Tournament (replicate (min b n) emptyRank)) (sym (part-here (heldAt n) e z w₂ from upto (lz ∙ part₂))) (subst (λ (k : ℕ). Tournament (replicate k emptyRank) z) four₂ tz));
       }
         where
-          same : take (2 * n) w₃ ≡ take (2 * n) w₁
+          same : take (frontierAt n) w₃ ≡ take (frontierAt n) w₁
           same =
-              take-before (6 * n) e z w₂ from upto (lz ∙ part₂) (2 * n) (omega arith)
-              ∙ take-before (2 * n) (6 * n) y w₁ (omega arith) (omega (arith, l₁)) (ly ∙ part₁) (2 * n) (omega arith)
+              take-before (heldAt n) e z w₂ from upto (lz ∙ part₂) (frontierAt n) (omega arith)
+              ∙ take-before (frontierAt n) (heldAt n) y w₁ (omega arith) (omega (arith, l₁)) (ly ∙ part₁) (frontierAt n) (omega arith)
 
-          front-is : part (2 * n) (6 * n) w₃ ≡ y
+          front-is : frontierPart n w₃ ≡ y
           front-is =
-              part-before (6 * n) e z w₂ from upto (lz ∙ part₂) (2 * n) (6 * n) (omega arith) (omega arith)
-              ∙ part-here (2 * n) (6 * n) y w₁ (omega arith) (omega (arith, l₁)) (ly ∙ part₁)
+              part-before (heldAt n) e z w₂ from upto (lz ∙ part₂) (frontierAt n) (heldAt n) (omega arith) (omega arith)
+              ∙ part-here (frontierAt n) (heldAt n) y w₁ (omega arith) (omega (arith, l₁)) (ly ∙ part₁)
 
-          four₁ : length (part (2 * n) (6 * n) w₁) / 4 ≡ n
+          four₁ : length (frontierPart n w₁) / 4 ≡ n
           four₁ = omega (arith, part₁)
 
-          four₂ : length (part (6 * n) e w₂) / 4 ≡ min b n
+          four₂ : length (part (heldAt n) e w₂) / 4 ≡ min b n
           four₂ = omega (arith, part₂)
 
 -- ---- begun
@@ -152,13 +149,13 @@ noWalk = record { scored = 0; held = 0; cutoff = inf false; kept = 0 }
 none-standing : (far : ℕ → Float) (n b : ℕ) (words nodes : List ℕ) → n ≤ 1024 → Prepared n b words → Standing far n b nodes words nodes noWalk [] []
 unfolding heldOf cutoffOf sortBy
 none-standing far n b words nodes few p = record {
-  frontier = empty-queue (frontRank far) n (part (2 * n) (6 * n) words) (p .front);
-  held = none-held far (min b n) (part (6 * n) (heldEnd n b) words) (omega arith) (p .held);
+  frontier = empty-queue (frontRank far) n (frontierPart n words) (p .front);
+  held = none-held far (min b n) (heldPart n b words) (omega arith) (p .held);
   held-count = refl;
   cutoff-is = refl;
   answer = record {
-    pairs-are = none-kept (both (part (10 * n) (11 * n) words) nodes) (part (10 * n) (11 * n) words) nodes;
-    nodes-are = sym (ap (λ (l : List ℕ). l ++ nodes) (take-nil (both (part (10 * n) (11 * n) words) nodes)));
+    pairs-are = none-kept (both (keysPart n words) nodes) (keysPart n words) nodes;
+    nodes-are = sym (ap (λ (l : List ℕ). l ++ nodes) (take-nil (both (keysPart n words) nodes)));
     kept-is = omega arith;
     long = refl;
   };
@@ -173,14 +170,15 @@ first-one : (far : ℕ → Float) (n e : ℕ) → e < n → expand (toFrontier f
 unfolding within expand visit has pick toFrontier insertIn
 first-one far n e h = ap (λ (l : List ℕ). expand (toFrontier far) (record { seen = []; front = [] }) l) (pick-true (e ∷ []) [] (lt-ltb e n h))
 
-pub started : (far : ℕ → Float) (n b e count : ℕ) (words between words′ : List ℕ) (floats floats′ : List Float) (nodes nodes′ : List ℕ) (r : Walk) → ((v : ℕ) → T (fits binary32 (far v)))
-    → n + n ≤ length words → Prepared n b words → GatheringAll n (e ∷ []) words between count → TakingIn far n b count between words′ floats floats′ nodes nodes′ noWalk r
-    → take (2 * n) words′ ≡ take (2 * n) between → e < n → n ≤ 1024 → n ≤ length floats → Between far n b nodes words′ floats′ nodes′ r (e ∷ []) (e ∷ [])
+pub started : (sizes : Sizes) (far : ℕ → Float) (e count : ℕ) (words between : List ℕ) (floats : List Float) (nodes : List ℕ) (m′ : Memory) → ((v : ℕ) → T (fits binary32 (far v)))
+    → sizes .n + sizes .n ≤ length words → Prepared (sizes .n) (sizes .places) words → GatheringAll (sizes .n) (e ∷ []) words between count
+    → TakingIn sizes far count (record { words = between; floats = floats; nodes = nodes; walk = noWalk }) m′
+    → take (frontierAt (sizes .n)) (m′ .words) ≡ take (frontierAt (sizes .n)) between → Starting sizes far e floats nodes m′
 unfolding has pick
-started far n b e count words between words′ floats floats′ nodes nodes′ r f32s long p gather taking frame h few room =
-    subst (λ (s : State). Between far n b nodes words′ floats′ nodes′ r (s .seen) (s .front)) (first-one far n e h)
-    (gathered-in far n b count (e ∷ []) words between words′ floats floats′ nodes nodes′ noWalk r nodes (record { seen = []; front = [] }) long gather taking frame
-    (p .marks) (none-standing far n b words nodes few p) (record { few = few; f32s = f32s; there = λ v m. absurd (in-nil m) }) room)
+started sizes far e count words between floats nodes m′ f32s long p gather taking frame h few room =
+    subst (λ (s : State). Between sizes far nodes m′ (s .seen) (s .front)) (first-one far (sizes .n) e h)
+    (gathered-in sizes far count (e ∷ []) between (record { words = words; floats = floats; nodes = nodes; walk = noWalk }) m′ nodes (record { seen = []; front = [] }) long gather taking frame
+    (p .marks) (none-standing far (sizes .n) (sizes .places) words nodes few p) (record { few = few; f32s = f32s; there = λ v i. absurd (in-nil i) }) room)
 
 -- ---- ended
 
@@ -188,20 +186,38 @@ map-same : (f g : ℕ → Float) (l : List ℕ) → ((x : ℕ) → In x l → f 
 map-same f g [] h = refl
 map-same f g (x ∷ l) h = ap₂ (λ (y : Float) (r : List Float). y ∷ r) (h x (here refl)) (map-same f g l (λ y m. h y (there m)))
 
-module _ (far : ℕ → Float) (n b e : ℕ) (list : ℕ → List ℕ) (words : List ℕ) (floats : List Float) (nodes nodes′ front : List ℕ) (r : Walk) (distances distances′ : List Float) (count : ℕ)
-    (t : Between far n b nodes words floats nodes′ r (walkOn far b list n (e ∷ []) (e ∷ [])) front) (long : 11 * n ≤ length words) (few : n ≤ 1024) (told : length nodes ≤ length distances)
-    (tell : Telling (r .kept) nodes′ floats distances distances′) (count-is : count ≡ min (r .kept) 4294967295) where
-  abbrev seen : List ℕ
-  seen = walkOn far b list n (e ∷ []) (e ∷ [])
+module _ (sizes : Sizes) (reads : Reads) (e : ℕ) (nodes : List ℕ) (m : Memory) (front : List ℕ) (distances distances′ : List Float) (count : ℕ)
+    (t : Between sizes (farOf sizes reads) nodes m (walkOn sizes reads (sizes .n) (e ∷ []) (e ∷ [])) front) (long : wordsFor (sizes .n) ≤ length (m .words)) (few : sizes .n ≤ 1024)
+    (room : length nodes ≤ length distances) (put : PutDistances (m .walk .kept) (m .nodes) (m .floats) distances distances′) (count-is : count ≡ min (m .walk .kept) 4294967295) where
+  abbrev n : ℕ
+  n = sizes .n
 
-  a : AnswerHeld far nodes (part (10 * n) (11 * n) words) nodes′ (r .kept) seen
+  abbrev far : ℕ → Float
+  far = farOf sizes reads
+
+  abbrev words : List ℕ
+  words = m .words
+
+  abbrev floats : List Float
+  floats = m .floats
+
+  abbrev nodes′ : List ℕ
+  nodes′ = m .nodes
+
+  abbrev r : Walk
+  r = m .walk
+
+  abbrev seen : List ℕ
+  seen = walkOn sizes reads n (e ∷ []) (e ∷ [])
+
+  a : AnswerHeld far nodes (keysPart n words) nodes′ (r .kept) seen
   a = t .standing .answer
 
   seen-few : length seen ≤ n
   seen-few = at-most n seen (t .standing .once) (t .standing .inside)
 
-  keys-length : length (part (10 * n) (11 * n) words) ≡ n
-  keys-length = let s : 11 * n - 10 * n ≡ n = omega arith in length-take-le (11 * n - 10 * n) (drop (10 * n) words) (omega (arith, length-drop (10 * n) words)) ∙ s
+  keys-length : length (keysPart n words) ≡ n
+  keys-length = let s : wordsFor n - keysAt n ≡ n = omega arith in length-take-le (wordsFor n - keysAt n) (drop (keysAt n) words) (omega (arith, length-drop (keysAt n) words)) ∙ s
 
   abbrev sorted : List ℕ
   sorted = sortBy (keyAt far) (reverse seen)
@@ -209,8 +225,8 @@ module _ (far : ℕ → Float) (n b e : ℕ) (list : ℕ → List ℕ) (words : 
   sorted-length : length sorted ≡ length seen
   sorted-length = length-sort (keyAt far) (reverse seen) ∙ length-reverse seen
 
-  abbrev m : ℕ
-  m = both (part (10 * n) (11 * n) words) nodes′
+  abbrev most : ℕ
+  most = both (keysPart n words) nodes′
 
   take-min : (i j : ℕ) (l : List ℕ) → length l ≤ i → take (min i j) l ≡ take j l
   take-min i j l h = elim (native.Mathlib.Decide.decLt i j) [
@@ -218,7 +234,7 @@ module _ (far : ℕ → Float) (n b e : ℕ) (list : ℕ → List ℕ) (words : 
     | no k ↦ let s : min i j ≡ j = omega arith in ap (λ (x : ℕ). take x l) s
   ]
 
-  first-is : take m sorted ≡ answerOf far (length nodes) (reverse seen)
+  first-is : take most sorted ≡ answerOf far (length nodes) (reverse seen)
   unfolding answerOf
   first-is = ap₂ (λ (i : ℕ) (j : ℕ). take (min i j) sorted) keys-length (a .long) ∙ take-min n (length nodes) sorted (omega (arith, sorted-length, seen-few))
 
@@ -226,7 +242,7 @@ module _ (far : ℕ → Float) (n b e : ℕ) (list : ℕ → List ℕ) (words : 
   found = answerOf far (length nodes) (reverse seen)
 
   found-length : length found ≡ r .kept
-  found-length = ap length (sym first-is) ∙ length-take m sorted ∙ ap (min m) sorted-length ∙ sym (a .kept-is)
+  found-length = ap length (sym first-is) ∙ length-take most sorted ∙ ap (min most) sorted-length ∙ sym (a .kept-is)
 
   kept-few : (r .kept ≤ n) × (r .kept ≤ length nodes)
   kept-few = (omega (arith, a .kept-is, seen-few), omega (arith, a .kept-is, a .long))
@@ -241,14 +257,14 @@ module _ (far : ℕ → Float) (n b e : ℕ) (list : ℕ → List ℕ) (words : 
   unfolding answerOf
   found-in x i = in-reverse seen (first-in (keyAt far) (length nodes) (reverse seen) i)
 
-  pub searched : Searched far (answerOf far (length nodes) (beamSearch list n e far b)) (beamSearch list n e far b) nodes nodes′ distances distances′ (record { count = count; scored = r .scored })
+  pub searched : Searched far (answerOf far (length nodes) (scoredBy sizes e reads)) (scoredBy sizes e reads) nodes nodes′ distances distances′ (record { count = count; scored = r .scored })
   unfolding beamSearch walked
   searched = record {
     count-is = count-is ∙ whole ∙ sym found-length;
     scored-is = t .standing .scored-is ∙ sym (length-reverse seen);
     nodes-are = nodes-is ∙ ap (λ (k : ℕ). found ++ drop k nodes) (sym found-length);
     distances-are =
-        tell (omega (arith, kept-few .1, a .long)) (omega (arith, kept-few .1))
+        put (omega (arith, kept-few .1, a .long)) (omega (arith, kept-few .1))
         ∙ ap₂ (λ (l : List Float) (k : ℕ). l ++ drop k distances)
         (ap (map (λ v. getD floats v (inf false))) front-is ∙ map-same (λ v. getD floats v (inf false)) far found (λ x i. t .known .there x (found-in x i)))
         (sym found-length);

@@ -9,8 +9,9 @@ use native.Mathlib.Omega.{arith}
 use lib.Dec.{ltb}
 use lib.ListN.{length, getD, take, drop}
 use lib.Seq.{getD-take}
-use lib.Ieee.{Float}
+use lib.Ieee.{Float, inf}
 use Rattle.basics.specs.Choice.{pick, pick-true, pick-false}
+use Rattle.basics.specs.Graph.{listOf}
 use Rattle.basics.specs.Nodes.{has, NoDup, Below}
 use Rattle.basics.proofs.Counting.{at-most}
 use Rattle.def_walk.specs.Walk.{State, visit, expand}
@@ -18,13 +19,15 @@ use Rattle.def_walk.specs.Beam.{toFrontier}
 use Rattle.beam_state.specs.Queues.{frontRank, Queue, Held, Known}
 use Rattle.neighbours.specs.Scoring.{scoredAt}
 use Rattle.neighbours.proofs.scoring.Laws.{scored-known, scored-keeps}
-use Rattle.neighbours.specs.Gathering.{Fresh, visitOne, gatherFresh, FreshIn, GatheringAll}
-use Rattle.beam_state.specs.State.{part, heldEnd, AnswerHeld, Standing, PushingAll, pushed}
+use Rattle.lists.specs.Words.{rowLists, bridgeList}
+use Rattle.neighbours.specs.Gathering.{Fresh, visitOne, gatherFresh, FreshIn, GatheringAll, Linked, GatheringList}
+use Rattle.beam_state.specs.State.{part, frontierAt, heldAt, keysAt, wordsFor, heldEnd, AnswerHeld, Standing, PushingAll, pushed}
 use Rattle.beam_state.specs.declared.Walk.{Walk}
 use Rattle.beam_state.proofs.Parts.{part-behind}
 use Rattle.beam_state.proofs.Pushed.{pushed-append}
-use Rattle.beam_search.specs.Search.{within}
-use Rattle.beam_search.specs.Steps.{Between, TakenIn, TakingIn}
+use Rattle.beam_search.specs.declared.Sizes.{Sizes}
+use Rattle.beam_search.specs.Search.{within, Reads, farOf, listsOf}
+use Rattle.beam_search.specs.Steps.{Memory, Between, TakenIn, TakingIn}
 
 -- ---- scored and pushed
 
@@ -42,11 +45,12 @@ pushed-in far (v ∷ vs) s x m = go (pushed-in far vs (record { seen = v ∷ s .
     go (inl i) = first (in-cons i)
     go (inr i) = inr (there i)
 
-pub taking-in : (far : ℕ → Float) (n b count many : ℕ) (words words′ : List ℕ) (floats floats′ : List Float) (nodes nodes′ : List ℕ) (w r : Walk) → many ≡ min count n
-    → 11 * n ≤ length words → floats′ ≡ scoredAt far (take (n + many - n) (drop n words)) floats → length floats′ ≡ length floats
-    → PushingAll n b many floats′ words words′ nodes nodes′ w r → TakingIn far n b count words words′ floats floats′ nodes nodes′ w r
-taking-in far n b count many words words′ floats floats′ nodes nodes′ w r m long score lf push nodes₀ fresh s fi ci cn d below room known t = record {
-  standing = push long far nodes₀ fresh s (fi ∙ ap (λ (k : ℕ). take k (drop n words)) (sym all)) (all ∙ ci) (omega arith) d below known′ t;
+pub taking-in : (sizes : Sizes) (far : ℕ → Float) (count many : ℕ) (m m′ : Memory) → many ≡ min count (sizes .n)
+    → wordsFor (sizes .n) ≤ length (m .words) → m′ .floats ≡ scoredAt far (take (sizes .n + many - sizes .n) (drop (sizes .n) (m .words))) (m .floats)
+    → length (m′ .floats) ≡ length (m .floats)
+    → PushingAll (sizes .n) (sizes .places) many (m′ .floats) (m .words) (m′ .words) (m .nodes) (m′ .nodes) (m .walk) (m′ .walk) → TakingIn sizes far count m m′
+taking-in sizes far count many m m′ mi long score lf push nodes₀ fresh s fi ci cn d below room known t = record {
+  standing = push long far nodes₀ fresh s (fi ∙ ap (λ (k : ℕ). take k (drop (sizes .n) (m .words))) (sym all)) (all ∙ ci) (omega arith) d below known′ t;
   known = known′;
   room = omega arith;
 }
@@ -54,17 +58,17 @@ taking-in far n b count many words words′ floats floats′ nodes nodes′ w r 
     all : many ≡ count
     all = omega arith
 
-    ids : take (n + many - n) (drop n words) ≡ fresh
-    ids = let e : n + many - n ≡ count = omega (arith, all) in ap (λ (k : ℕ). take k (drop n words)) e ∙ sym fi
+    ids : take (sizes .n + many - sizes .n) (drop (sizes .n) (m .words)) ≡ fresh
+    ids = let e : sizes .n + many - sizes .n ≡ count = omega (arith, all) in ap (λ (k : ℕ). take k (drop (sizes .n) (m .words))) e ∙ sym fi
 
-    scored : floats′ ≡ scoredAt far fresh floats
-    scored = score ∙ ap (λ (l : List ℕ). scoredAt far l floats) ids
+    scored : m′ .floats ≡ scoredAt far fresh (m .floats)
+    scored = score ∙ ap (λ (l : List ℕ). scoredAt far l (m .floats)) ids
 
-    there′ : (x : ℕ) → In x (pushed far fresh s .seen) → In x (s .seen) ⊎ In x fresh → getD floats′ x (lib.Ieee.inf false) ≡ far x
-    there′ x i (inl j) = ap (λ (l : List Float). getD l x (lib.Ieee.inf false)) scored ∙ scored-keeps far (lib.Ieee.inf false) x fresh floats (omega (arith, below x i)) (known .there x j)
-    there′ x i (inr j) = ap (λ (l : List Float). getD l x (lib.Ieee.inf false)) scored ∙ scored-known far (lib.Ieee.inf false) x fresh floats j (omega (arith, below x i))
+    there′ : (x : ℕ) → In x (pushed far fresh s .seen) → In x (s .seen) ⊎ In x fresh → getD (m′ .floats) x (inf false) ≡ far x
+    there′ x i (inl j) = ap (λ (l : List Float). getD l x (inf false)) scored ∙ scored-keeps far (inf false) x fresh (m .floats) (omega (arith, below x i)) (known .there x j)
+    there′ x i (inr j) = ap (λ (l : List Float). getD l x (inf false)) scored ∙ scored-known far (inf false) x fresh (m .floats) j (omega (arith, below x i))
 
-    known′ : Known far n (pushed far fresh s .seen) floats′
+    known′ : Known far (sizes .n) (pushed far fresh s .seen) (m′ .floats)
     known′ = record { few = known .few; f32s = known .f32s; there = λ x i. there′ x i (pushed-in far fresh s x i) }
 
 -- ---- gathered and pushed is expanded
@@ -118,11 +122,11 @@ module _ (far : ℕ → Float) (n : ℕ) (s₀ : State) where
 pub standing-behind : {far : ℕ → Float} {n b : ℕ} {nodes₀ nodes : List ℕ} {w : Walk} {seen front : List ℕ} (words words′ : List ℕ) → drop (n + n) words′ ≡ drop (n + n) words
     → Standing far n b nodes₀ words nodes w seen front → Standing far n b nodes₀ words′ nodes w seen front
 standing-behind {far} {n} {b} {nodes₀} {nodes} {w} {seen} {front} words words′ same t = record {
-  frontier = subst (Queue (frontRank far) n front) (moved (2 * n) (6 * n) (omega arith)) (t .frontier);
-  held = subst (Held far (min b n) (Rattle.def_walk.specs.KeepClosest.heldOf far b seen)) (moved (6 * n) (heldEnd n b) (omega arith)) (t .held);
+  frontier = subst (Queue (frontRank far) n front) (moved (frontierAt n) (heldAt n) (omega arith)) (t .frontier);
+  held = subst (Held far (min b n) (Rattle.def_walk.specs.KeepClosest.heldOf far b seen)) (moved (heldAt n) (heldEnd n b) (omega arith)) (t .held);
   held-count = t .held-count;
   cutoff-is = t .cutoff-is;
-  answer = subst (λ (k : List ℕ). AnswerHeld far nodes₀ k nodes (w .kept) seen) (moved (10 * n) (11 * n) (omega arith)) (t .answer);
+  answer = subst (λ (k : List ℕ). AnswerHeld far nodes₀ k nodes (w .kept) seen) (moved (keysAt n) (wordsFor n) (omega arith)) (t .answer);
   scored-is = t .scored-is;
   once = t .once;
   inside = t .inside;
@@ -133,39 +137,62 @@ standing-behind {far} {n} {b} {nodes₀} {nodes} {w} {seen} {front} words words�
     moved a e h = sym (part-behind (n + n) a e words′ words h same)
 
 -- the marks of words that are the same up to the fresh nodes
-pub same-mark : (n v : ℕ) (words words′ : List ℕ) → v < n → take (2 * n) words′ ≡ take (2 * n) words → getD words′ v 0 ≡ getD words v 0
+pub same-mark : (n v : ℕ) (words words′ : List ℕ) → v < n → take (frontierAt n) words′ ≡ take (frontierAt n) words → getD words′ v 0 ≡ getD words v 0
 same-mark n v words words′ h same =
-    sym (getD-take (2 * n) words′ v 0 (omega arith)) ∙ ap (λ (l : List ℕ). getD l v 0) same ∙ getD-take (2 * n) words v 0 (omega arith)
+    sym (getD-take (frontierAt n) words′ v 0 (omega arith)) ∙ ap (λ (l : List ℕ). getD l v 0) same ∙ getD-take (frontierAt n) words v 0 (omega arith)
 
 -- what is gathered is taken in: marks and all
-pub gathered-in : (far : ℕ → Float) (n b count : ℕ) (list words between words′ : List ℕ) (floats floats′ : List Float) (nodes nodes′ : List ℕ) (w r : Walk) (nodes₀ : List ℕ) (s : State)
-    → n + n ≤ length words → GatheringAll n list words between count → TakingIn far n b count between words′ floats floats′ nodes nodes′ w r → take (2 * n) words′ ≡ take (2 * n) between
-    → ((v : ℕ) → v < n → getD words v 0 ≡ pick (has v (s .seen)) 1 0) → Standing far n b nodes₀ words nodes w (s .seen) (s .front) → Known far n (s .seen) floats → n ≤ length floats
-    → Between far n b nodes₀ words′ floats′ nodes′ r (expand (toFrontier far) s (within n list) .seen) (expand (toFrontier far) s (within n list) .front)
-unfolding pushed
-gathered-in far n b count list words between words′ floats floats′ nodes nodes′ w r nodes₀ s long gather taking frame marks t known room = record {
-  marks = λ v h. same-mark n v between words′ h frame ∙ got .marks v h ∙ ap (λ (l : List ℕ). pick {X = ℕ} (has v l) 1 0) (sym (like .seen-is));
-  standing = subst (λ (z : State). Standing far n b nodes₀ words′ nodes′ r (z .seen) (z .front)) (like .made) (taken .standing);
-  known = subst (λ (z : State). Known far n (z .seen) floats′) (like .made) (taken .known);
-  room = taken .room;
-}
-  where
-    none : Fresh
-    none = record { seen = s .seen; fresh = [] }
+module _ (sizes : Sizes) (far : ℕ → Float) (count : ℕ) (list between : List ℕ) (m m′ : Memory) where
+  abbrev n : ℕ
+  n = sizes .n
 
-    all : Fresh
-    all = gatherFresh n list none
+  -- the memory where the list has been gathered
+  abbrev gathered : Memory
+  gathered = record { words = between; floats = m .floats; nodes = m .nodes; walk = m .walk }
 
-    got : FreshIn n (drop (n + n) words) between count all
-    got = gather long (drop (n + n) words) none
-        (record { marks = marks; buffer = refl; count-is = refl; behind = refl; once = t .once; inside = t .inside; fewer = omega arith })
+  pub gathered-in : (nodes₀ : List ℕ) (s : State) → n + n ≤ length (m .words) → GatheringAll n list (m .words) between count → TakingIn sizes far count gathered m′
+      → take (frontierAt n) (m′ .words) ≡ take (frontierAt n) between → ((v : ℕ) → v < n → getD (m .words) v 0 ≡ pick (has v (s .seen)) 1 0)
+      → Standing far n (sizes .places) nodes₀ (m .words) (m .nodes) (m .walk) (s .seen) (s .front) → Known far n (s .seen) (m .floats) → n ≤ length (m .floats)
+      → Between sizes far nodes₀ m′ (expand (toFrontier far) s (within n list) .seen) (expand (toFrontier far) s (within n list) .front)
+  unfolding pushed
+  gathered-in nodes₀ s long gather taking frame marks t known room = record {
+    marks = λ v h. same-mark n v between (m′ .words) h frame ∙ got .marks v h ∙ ap (λ (l : List ℕ). pick {X = ℕ} (has v l) 1 0) (sym (like .seen-is));
+    standing = subst (λ (z : State). Standing far n (sizes .places) nodes₀ (m′ .words) (m′ .nodes) (m′ .walk) (z .seen) (z .front)) (like .made) (taken .standing);
+    known = subst (λ (z : State). Known far n (z .seen) (m′ .floats)) (like .made) (taken .known);
+    room = taken .room;
+  }
+    where
+      none : Fresh
+      none = record { seen = s .seen; fresh = [] }
 
-    like : Alike far (expand (toFrontier far) s (within n list)) s all
-    like = expand-alike far n s list s none (record { made = refl; seen-is = refl })
+      all : Fresh
+      all = gatherFresh n list none
 
-    final : all .seen ≡ pushed far (all .fresh) s .seen
-    final = sym (ap (λ (z : State). z .seen) (like .made) ∙ like .seen-is)
+      got : FreshIn n (drop (n + n) (m .words)) between count all
+      got = gather long (drop (n + n) (m .words)) none
+          (record { marks = marks; buffer = refl; count-is = refl; behind = refl; once = t .once; inside = t .inside; fewer = omega arith })
 
-    taken : TakenIn far n b nodes₀ words′ floats′ nodes′ r (pushed far (all .fresh) s)
-    taken = taking nodes₀ (all .fresh) s (sym (got .buffer)) (got .count-is) (omega (arith, at-most n (all .seen) (got .once) (got .inside), got .fewer, got .count-is))
-        (subst NoDup final (got .once)) (subst (Below n) final (got .inside)) room known (standing-behind words between (got .behind) t)
+      like : Alike far (expand (toFrontier far) s (within n list)) s all
+      like = expand-alike far n s list s none (record { made = refl; seen-is = refl })
+
+      final : all .seen ≡ pushed far (all .fresh) s .seen
+      final = sym (ap (λ (z : State). z .seen) (like .made) ∙ like .seen-is)
+
+      taken : TakenIn sizes far nodes₀ m′ (pushed far (all .fresh) s)
+      taken = taking nodes₀ (all .fresh) s (sym (got .buffer)) (got .count-is) (omega (arith, at-most n (all .seen) (got .once) (got .inside), got .fewer, got .count-is))
+          (subst NoDup final (got .once)) (subst (Below n) final (got .inside)) room known (standing-behind (m .words) between (got .behind) t)
+
+-- a node's list looked at, of linked bridges
+abbrev pub Expanding : Sizes → Reads → List ℕ → ℕ → Memory → Memory → Type 0
+Expanding sizes reads links u m m′ =
+    Linked (sizes .n) (reads .bridges) links → u < sizes .n → (nodes₀ seen front : List ℕ) → Between sizes (farOf sizes reads) nodes₀ m seen front
+    → Between sizes (farOf sizes reads) nodes₀ m′ (expand (toFrontier (farOf sizes reads)) (record { seen = seen; front = front }) (listsOf sizes reads u) .seen)
+    (expand (toFrontier (farOf sizes reads)) (record { seen = seen; front = front }) (listsOf sizes reads u) .front)
+
+pub expanding : (sizes : Sizes) (reads : Reads) (links : List ℕ) (u count : ℕ) (between : List ℕ) (m m′ : Memory) → wordsFor (sizes .n) ≤ length (m .words)
+    → GatheringList (sizes .n) (sizes .degree) (reads .rows) (reads .bridges) links u (m .words) between count
+    → TakingIn sizes (farOf sizes reads) count (gathered sizes (farOf sizes reads) count [] between m m′) m′
+    → take (frontierAt (sizes .n)) (m′ .words) ≡ take (frontierAt (sizes .n)) between → Expanding sizes reads links u m m′
+expanding sizes reads links u count between m m′ long gather taking frame linked below nodes₀ seen front t =
+    gathered-in sizes (farOf sizes reads) count (listOf (rowLists (sizes .degree) (reads .rows)) (bridgeList (reads .bridges)) u) between m m′ nodes₀ (record { seen = seen; front = front })
+    (omega arith) (gather linked below) taking frame (t .marks) (t .standing) (t .known) (t .room)

@@ -1,8 +1,8 @@
--- What a search gives (01, part 8): the answer of the walk, the distances of its nodes, and two counts. The graph is that of rows and bridges in words;
+-- What a search returns (01, part 8): the answer of the walk, the distances of its nodes, and two counts. The graph is that of rows and bridges in words;
 -- entries that are no node are not in it, so that a search needs no test of the lists. On a well-formed store every entry is a node.
 use mathlib.Core.Path.{_≡_}
 use mathlib.Core.List.{List, [], _∷_, _++_, map}
-use Prim.Native.Nat.{ℕ, _*_, _/_, _+_, _≤_, _<_}
+use Prim.Native.Nat.{ℕ, _*_, _≤_, _<_}
 use lib.Dec.{ltb}
 use lib.ListN.{length, getD, drop}
 use lib.Ieee.{Float}
@@ -11,6 +11,7 @@ use Rattle.basics.specs.Graph.{listOf}
 use Rattle.lists.specs.Words.{rowLists, bridgeList}
 use Rattle.distance.specs.Vectors.{vectorsIn}
 use Rattle.def_walk.specs.Beam.{farFrom, beamSearch, answerOf}
+use Rattle.beam_search.specs.declared.Sizes.{Sizes}
 use Rattle.beam_search.specs.declared.Walked.{Walked}
 
 -- the entries below n
@@ -23,18 +24,30 @@ within n (v ∷ vs) = pick (ltb v n) (v ∷ within n vs) (within n vs)
 abbrev pub listInWords : ℕ → ℕ → List ℕ → List ℕ → ℕ → List ℕ
 listInWords n degree rows bridges u = within n (listOf (rowLists degree rows) (bridgeList bridges) u)
 
--- how many rows stand in some words
-abbrev pub nodesOfWords : ℕ → List ℕ → ℕ
-nodesOfWords degree rows = length rows / (1 + degree)
+-- What a walk reads: a scaled query, the nodes' vectors, their rows as words hold them, and the bridges, two words each.
+pub record Reads : Type 0 where
+  pub query : List Float
+  pub vectors : List Float
+  pub rows : List ℕ
+  pub bridges : List ℕ
 
--- the sizes fit: bridges between nodes, one for each node at most, and so many words and floats of scratch
-pub record SearchFits (n entry : ℕ) (query : List Float) (bridges nodes : List ℕ) (distances : List Float) (words floats : ℕ) : Type 0 where
+-- the distance of a node, the list of a node, and the nodes that a walk scores
+abbrev pub farOf : Sizes → Reads → ℕ → Float
+farOf sizes reads = farFrom (reads .query) (vectorsIn (sizes .dimension) (reads .vectors))
+
+abbrev pub listsOf : Sizes → Reads → ℕ → List ℕ
+listsOf sizes reads = listInWords (sizes .n) (sizes .degree) (reads .rows) (reads .bridges)
+
+abbrev pub scoredBy : Sizes → ℕ → Reads → List ℕ
+scoredBy sizes entry reads = beamSearch (listsOf sizes reads) (sizes .n) entry (farOf sizes reads) (sizes .places)
+
+-- the sizes fit: bridges between nodes, at most one for each node, and enough words and floats of scratch
+pub record SearchFits (n entry : ℕ) (bridges nodes : List ℕ) (distances : List Float) (words floats : ℕ) : Type 0 where
   pub entry-below : entry < n
   pub few : n ≤ 1024
-  pub dimension : length query < 4294967296
   pub bridges-few : length bridges ≤ 2 * n
   pub ends-below : (i : ℕ) → i < length bridges → getD bridges i 0 < n
-  pub told : length nodes ≤ length distances
+  pub distances-room : length nodes ≤ length distances
   pub words-room : 64 * n ≤ words
   pub floats-room : 16 * n ≤ floats
 
@@ -45,11 +58,9 @@ pub record Searched (far : ℕ → Float) (found scored nodes nodes′ : List �
   pub nodes-are : nodes′ ≡ found ++ drop (length found) nodes
   pub distances-are : distances′ ≡ map far found ++ drop (length found) distances
 
-abbrev pub Searching : List Float → List Float → List ℕ → ℕ → List ℕ → ℕ → ℕ → List ℕ → List ℕ → List Float → List Float → ℕ → ℕ → Walked → Type 0
-Searching query vectors rows degree bridges entry b nodes nodes′ distances distances′ words floats r =
-    SearchFits (nodesOfWords degree rows) entry query bridges nodes distances words floats
-    → Searched (farFrom query (vectorsIn (length query) vectors))
-    (answerOf (farFrom query (vectorsIn (length query) vectors)) (length nodes)
-    (beamSearch (listInWords (nodesOfWords degree rows) degree rows bridges) (nodesOfWords degree rows) entry (farFrom query (vectorsIn (length query) vectors)) b))
-    (beamSearch (listInWords (nodesOfWords degree rows) degree rows bridges) (nodesOfWords degree rows) entry (farFrom query (vectorsIn (length query) vectors)) b)
+-- where the sizes fit, as many nodes are found as the output has room for
+abbrev pub Searching : Sizes → ℕ → Reads → List ℕ → List ℕ → List Float → List Float → ℕ → ℕ → Walked → Type 0
+Searching sizes entry reads nodes nodes′ distances distances′ words floats r =
+    SearchFits (sizes .n) entry (reads .bridges) nodes distances words floats
+    → Searched (farOf sizes reads) (answerOf (farOf sizes reads) (length nodes) (scoredBy sizes entry reads)) (scoredBy sizes entry reads)
     nodes nodes′ distances distances′ r

@@ -8,12 +8,14 @@ use lib.Ieee.{Float, inf}
 use Rattle.basics.specs.Choice.{pick}
 use Rattle.basics.specs.Nodes.{has, NoDup, Below}
 use Rattle.beam_state.specs.Tournament.{emptyRank, Tournament}
-use Rattle.def_walk.specs.Walk.{State, expand, walk}
-use Rattle.def_walk.specs.Beam.{farFrom, toFrontier, tooFar, tooMany}
+use Rattle.def_walk.specs.Walk.{State, walk}
+use Rattle.def_walk.specs.Beam.{toFrontier, tooFar, tooMany}
 use Rattle.beam_state.specs.Queues.{Known}
 use Rattle.neighbours.specs.Gathering.{Linked}
-use Rattle.beam_state.specs.State.{part, heldEnd, Standing, pushed}
+use Rattle.beam_state.specs.State.{frontierPart, heldPart, Standing, pushed}
 use Rattle.beam_state.specs.declared.Walk.{Walk}
+use Rattle.beam_search.specs.declared.Sizes.{Sizes}
+use Rattle.beam_search.specs.Search.{Reads, farOf, listsOf}
 
 -- bridges between nodes linked, where no node had a link
 abbrev pub Linking : ℕ → List ℕ → List ℕ → List ℕ → Type 0
@@ -24,99 +26,96 @@ Linking n bridges links links′ =
     → ((i : ℕ) → i < length bridges → getD bridges i 0 < n)
     → Linked n bridges links′
 
+-- What a walk writes: its two parts of scratch and the nodes of the answer; with its counts.
+pub record Memory : Type 0 where
+  pub words : List ℕ
+  pub floats : List Float
+  pub nodes : List ℕ
+  pub walk : Walk
+
 -- a walk between two expansions
-pub record Between (far : ℕ → Float) (n b : ℕ) (nodes₀ words : List ℕ) (floats : List Float) (nodes : List ℕ) (w : Walk) (seen front : List ℕ) : Type 0 where
-  pub marks : (v : ℕ) → v < n → getD words v 0 ≡ pick (has v seen) 1 0
-  pub standing : Standing far n b nodes₀ words nodes w seen front
-  pub known : Known far n seen floats
-  pub room : n ≤ length floats
+pub record Between (sizes : Sizes) (far : ℕ → Float) (nodes₀ : List ℕ) (m : Memory) (seen front : List ℕ) : Type 0 where
+  pub marks : (v : ℕ) → v < sizes .n → getD (m .words) v 0 ≡ pick (has v seen) 1 0
+  pub standing : Standing far (sizes .n) (sizes .places) nodes₀ (m .words) (m .nodes) (m .walk) seen front
+  pub known : Known far (sizes .n) seen (m .floats)
+  pub room : sizes .n ≤ length (m .floats)
 
 -- fresh nodes scored and pushed
-pub record TakenIn (far : ℕ → Float) (n b : ℕ) (nodes₀ words : List ℕ) (floats : List Float) (nodes : List ℕ) (w : Walk) (s : State) : Type 0 where
-  pub standing : Standing far n b nodes₀ words nodes w (s .seen) (s .front)
-  pub known : Known far n (s .seen) floats
-  pub room : n ≤ length floats
+pub record TakenIn (sizes : Sizes) (far : ℕ → Float) (nodes₀ : List ℕ) (m : Memory) (s : State) : Type 0 where
+  pub standing : Standing far (sizes .n) (sizes .places) nodes₀ (m .words) (m .nodes) (m .walk) (s .seen) (s .front)
+  pub known : Known far (sizes .n) (s .seen) (m .floats)
+  pub room : sizes .n ≤ length (m .floats)
 
-abbrev pub TakingIn : (ℕ → Float) → ℕ → ℕ → ℕ → List ℕ → List ℕ → List Float → List Float → List ℕ → List ℕ → Walk → Walk → Type 0
-TakingIn far n b count words words′ floats floats′ nodes nodes′ w r =
+abbrev pub TakingIn : Sizes → (ℕ → Float) → ℕ → Memory → Memory → Type 0
+TakingIn sizes far count m m′ =
     (nodes₀ fresh : List ℕ) (s : State)
-    → fresh ≡ take count (drop n words)
+    → fresh ≡ take count (drop (sizes .n) (m .words))
     → count ≡ length fresh
-    → count ≤ n
+    → count ≤ sizes .n
     → NoDup (pushed far fresh s .seen)
-    → Below n (pushed far fresh s .seen)
-    → n ≤ length floats
-    → Known far n (s .seen) floats
-    → Standing far n b nodes₀ words nodes w (s .seen) (s .front)
-    → TakenIn far n b nodes₀ words′ floats′ nodes′ r (pushed far fresh s)
+    → Below (sizes .n) (pushed far fresh s .seen)
+    → sizes .n ≤ length (m .floats)
+    → Known far (sizes .n) (s .seen) (m .floats)
+    → Standing far (sizes .n) (sizes .places) nodes₀ (m .words) (m .nodes) (m .walk) (s .seen) (s .front)
+    → TakenIn sizes far nodes₀ m′ (pushed far fresh s)
 
--- a node's list looked at, of linked bridges
-abbrev pub Expanding : List ℕ → List ℕ → (ℕ → Float) → ℕ → ℕ → (ℕ → List ℕ) → ℕ → List ℕ → List ℕ → List Float → List Float → List ℕ → List ℕ → Walk → Walk → Type 0
-Expanding bridges links far n b list u words words′ floats floats′ nodes nodes′ w r =
-    Linked n bridges links
-    → u < n
-    → (nodes₀ seen front : List ℕ)
-    → Between far n b nodes₀ words floats nodes w seen front
-    → Between far n b nodes₀ words′ floats′ nodes′ r
-    (expand (toFrontier far) (record { seen = seen; front = front }) (list u) .seen)
-    (expand (toFrontier far) (record { seen = seen; front = front }) (list u) .front)
-
--- the walk of the definition from where it stands, by so many steps at most
-abbrev pub walkOn : (ℕ → Float) → ℕ → (ℕ → List ℕ) → ℕ → List ℕ → List ℕ → List ℕ
-walkOn far b list more seen front = walk list (toFrontier far) (tooFar far b) (tooMany b) more seen front
+-- the walk of the definition from where it stands, by at most `more` steps
+abbrev pub walkOn : Sizes → Reads → ℕ → List ℕ → List ℕ → List ℕ
+walkOn sizes reads more seen front =
+    walk (listsOf sizes reads) (toFrontier (farOf sizes reads)) (tooFar (farOf sizes reads) (sizes .places)) (tooMany (sizes .places)) more seen front
 
 -- one step: the walk ends there, or goes on from there
-pub record Stepped (far : ℕ → Float) (n b : ℕ) (list : ℕ → List ℕ) (nodes₀ words : List ℕ) (floats : List Float) (nodes : List ℕ) (w : Walk) (done : Bool) (seen front : List ℕ) : Type 0 where
+pub record Stepped (sizes : Sizes) (reads : Reads) (nodes₀ : List ℕ) (m : Memory) (done : Bool) (seen front : List ℕ) : Type 0 where
   pub seen′ : List ℕ
   pub front′ : List ℕ
-  pub stands : Between far n b nodes₀ words floats nodes w seen′ front′
-  pub ends : done ≡ true → (more : ℕ) → walkOn far b list (suc more) seen front ≡ seen′
-  pub goes : done ≡ false → (more : ℕ) → walkOn far b list (suc more) seen front ≡ walkOn far b list more seen′ front′
+  pub stands : Between sizes (farOf sizes reads) nodes₀ m seen′ front′
+  pub ends : done ≡ true → (more : ℕ) → walkOn sizes reads (suc more) seen front ≡ seen′
+  pub goes : done ≡ false → (more : ℕ) → walkOn sizes reads (suc more) seen front ≡ walkOn sizes reads more seen′ front′
 
-abbrev pub Stepping : List ℕ → List ℕ → (ℕ → Float) → ℕ → ℕ → (ℕ → List ℕ) → List ℕ → List ℕ → List Float → List Float → List ℕ → List ℕ → Walk → Walk → Bool → Type 0
-Stepping bridges links far n b list words words′ floats floats′ nodes nodes′ w r done =
-    Linked n bridges links
+abbrev pub Stepping : Sizes → Reads → List ℕ → Memory → Memory → Bool → Type 0
+Stepping sizes reads links m m′ done =
+    Linked (sizes .n) (reads .bridges) links
     → (nodes₀ seen front : List ℕ)
-    → Between far n b nodes₀ words floats nodes w seen front
-    → Stepped far n b list nodes₀ words′ floats′ nodes′ r done seen front
+    → Between sizes (farOf sizes reads) nodes₀ m seen front
+    → Stepped sizes reads nodes₀ m′ done seen front
 
 -- all steps
-pub record Rested (far : ℕ → Float) (n b : ℕ) (nodes₀ words : List ℕ) (floats : List Float) (nodes : List ℕ) (w : Walk) (seen : List ℕ) : Type 0 where
+pub record Rested (sizes : Sizes) (far : ℕ → Float) (nodes₀ : List ℕ) (m : Memory) (seen : List ℕ) : Type 0 where
   pub front : List ℕ
-  pub stands : Between far n b nodes₀ words floats nodes w seen front
+  pub stands : Between sizes far nodes₀ m seen front
 
-abbrev pub Walking : List ℕ → List ℕ → (ℕ → Float) → ℕ → ℕ → (ℕ → List ℕ) → List ℕ → List ℕ → List Float → List Float → List ℕ → List ℕ → Walk → Walk → Type 0
-Walking bridges links far n b list words words′ floats floats′ nodes nodes′ w r =
-    Linked n bridges links
+abbrev pub Walking : Sizes → Reads → List ℕ → Memory → Memory → Type 0
+Walking sizes reads links m m′ =
+    Linked (sizes .n) (reads .bridges) links
     → (nodes₀ seen front : List ℕ)
-    → Between far n b nodes₀ words floats nodes w seen front
-    → Rested far n b nodes₀ words′ floats′ nodes′ r (walkOn far b list n seen front)
+    → Between sizes (farOf sizes reads) nodes₀ m seen front
+    → Rested sizes (farOf sizes reads) nodes₀ m′ (walkOn sizes reads (sizes .n) seen front)
 
--- the same, of bridges between nodes, whoever links them
-abbrev pub WalkingLinked : List ℕ → (ℕ → Float) → ℕ → ℕ → (ℕ → List ℕ) → List ℕ → List ℕ → List Float → List Float → List ℕ → List ℕ → Walk → Walk → Type 0
-WalkingLinked bridges far n b list words words′ floats floats′ nodes nodes′ w r =
-    ((i : ℕ) → i < length bridges → getD bridges i 0 < n)
+-- the same of bridges between nodes, which the function links itself
+abbrev pub WalkingLinked : Sizes → Reads → Memory → Memory → Type 0
+WalkingLinked sizes reads m m′ =
+    ((i : ℕ) → i < length (reads .bridges) → getD (reads .bridges) i 0 < sizes .n)
     → (nodes₀ seen front : List ℕ)
-    → Between far n b nodes₀ words floats nodes w seen front
-    → Rested far n b nodes₀ words′ floats′ nodes′ r (walkOn far b list n seen front)
+    → Between sizes (farOf sizes reads) nodes₀ m seen front
+    → Rested sizes (farOf sizes reads) nodes₀ m′ (walkOn sizes reads (sizes .n) seen front)
 
 -- nothing is marked, in the frontier or held
 pub record Prepared (n b : ℕ) (words : List ℕ) : Type 0 where
   pub marks : (v : ℕ) → v < n → getD words v 0 ≡ 0
-  pub front : Tournament (replicate n emptyRank) (part (2 * n) (6 * n) words)
-  pub held : Tournament (replicate (min b n) emptyRank) (part (6 * n) (heldEnd n b) words)
+  pub front : Tournament (replicate n emptyRank) (frontierPart n words)
+  pub held : Tournament (replicate (min b n) emptyRank) (heldPart n b words)
 
 -- the entry node is scored
-abbrev pub Starting : List Float → List (List Float) → ℕ → ℕ → ℕ → List ℕ → List Float → List Float → List ℕ → List ℕ → Walk → Type 0
-Starting query vs n b entry words′ floats floats′ nodes nodes′ r =
-    entry < n
-    → n ≤ 1024
-    → n ≤ length floats
-    → Between (farFrom query vs) n b nodes words′ floats′ nodes′ r (entry ∷ []) (entry ∷ [])
+abbrev pub Starting : Sizes → (ℕ → Float) → ℕ → List Float → List ℕ → Memory → Type 0
+Starting sizes far entry floats nodes m′ =
+    entry < sizes .n
+    → sizes .n ≤ 1024
+    → sizes .n ≤ length floats
+    → Between sizes far nodes m′ (entry ∷ []) (entry ∷ [])
 
--- the distances of the first few nodes
-abbrev pub Telling : ℕ → List ℕ → List Float → List Float → List Float → Type 0
-Telling count nodes floats distances distances′ =
+-- the distances of the first `count` nodes
+abbrev pub PutDistances : ℕ → List ℕ → List Float → List Float → List Float → Type 0
+PutDistances count nodes floats distances distances′ =
     count ≤ length nodes
     → count ≤ length distances
     → distances′ ≡ map (λ v. getD floats v (inf false)) (take count nodes) ++ drop count distances

@@ -7,10 +7,11 @@
 // left of the definition's walk finds nothing then. The answer is kept in order from the first
 // node on, so that nothing is sorted at the end.
 //
-// What it gives is the walk and the answer of `beam`; specs/Search says of which graph: the entries of the
-// lists that are below the number of nodes. Scratch is 11 words and a float for each node; its old content
-// does not show. Before the walk goes on from the entry node, bridges, where there are any, are linked
-// (`chains`) in a local array of 16 KB, so that an expansion looks at its node's own bridges alone.
+// It computes the walk and the answer of `beam`; specs/Search says of which graph: the entries of the lists
+// that are below the number of nodes. Scratch is 11 words (`beam_state` has their layout) and a float for each
+// node; what it held before has no effect. Before the walk goes on from the entry node, bridges, where there
+// are any, are linked (`chains`) in a local array of 16 KB, so that an expansion looks at its node's own
+// bridges alone.
 ghost use mathlib.Core.Path.{_≡_};
 ghost use mathlib.Core.Bool.{_&&_, _||_};
 ghost use Prim.Native.Nat.{_*_, _/_, _≤_, min};
@@ -19,8 +20,9 @@ ghost use lib.Ieee.{binary32, mul, lt};
 ghost use lib.ListN.{length, take};
 ghost use Rattle.distance.specs.Vectors.{vectorsIn};
 ghost use Rattle.def_walk.specs.Beam.{farFrom, stopFactor, stopMultiplier};
-ghost use Rattle.beam_search.specs.Steps.{Linking, TakingIn, Expanding, Stepping, Walking, WalkingLinked, Prepared, Starting, Telling};
-ghost use Rattle.beam_search.specs.Search.{listInWords, Searching};
+ghost use Rattle.beam_state.specs.State.{frontierAt, wordsFor};
+ghost use Rattle.beam_search.specs.Steps.{Linking, TakingIn, Stepping, Walking, WalkingLinked, Prepared, Starting, PutDistances};
+ghost use Rattle.beam_search.specs.Search.{Searching};
 use beam_state::Walk;
 use beam_state::queues;
 use beam_state::queues::Popped;
@@ -36,6 +38,15 @@ const STOP_FACTOR: f32 = 1.5;
 
 const STOP_MULTIPLIER: u64 = 10;
 
+// The numbers of a walk: how many nodes there are, how many entries a row can have, how many components a
+// vector has, and how many nodes the walk keeps.
+pub struct Sizes {
+    pub n: usize,
+    pub degree: u16,
+    pub dimension: u32,
+    pub places: u32,
+}
+
 // How many nodes the answer has, and how many were scored.
 pub struct Walked {
     pub count: u32,
@@ -47,7 +58,7 @@ struct Went {
     done: bool,
 }
 
-// A count as a u32, which none of a walk's is too large for.
+// A count as a u32; no count of a walk is too large for one.
 fn small(count: usize) -> u32
     ensures { λ r. ⌜ r ≡ min count 4294967295 ⌝ }
 {
@@ -80,55 +91,21 @@ fn take_in(
     nodes: &mut [u32],
     query: &[f32],
     vectors: &[f32],
-    dimension: u32,
-    size: usize,
-    places: u32,
+    sizes: Sizes,
     walk: Walk,
     count: usize,
 ) -> Walk
-    requires { ⌜ 11 * size ≤ length (now words) ⌝ }
-    ensures { λ r. ⌜ (take (2 * size) (now (words .exit)) ≡ take (2 * size) (now (words .entry)))
-        × TakingIn (farFrom (now (query .entry)) (vectorsIn dimension (now (vectors .entry)))) size places count (now (words .entry)) (now (words .exit)) (now (floats .entry)) (now (floats .exit)) (now (nodes .entry)) (now (nodes .exit)) walk r ⌝ }
+    requires { ⌜ wordsFor (sizes .n) ≤ length (now words) ⌝ }
+    ensures marks { λ _. ⌜ take (frontierAt (sizes .n)) (now (words .exit)) ≡ take (frontierAt (sizes .n)) (now (words .entry)) ⌝ }
+    ensures pushed { λ r. ⌜ TakingIn sizes (farFrom (now (query .entry)) (vectorsIn (sizes .dimension) (now (vectors .entry)))) count
+        (record { words = now (words .entry); floats = now (floats .entry); nodes = now (nodes .entry); walk = walk })
+        (record { words = now (words .exit); floats = now (floats .exit); nodes = now (nodes .exit); walk = r }) ⌝ }
 {
-    let many = slices::lesser(count, size);
-    let end = size + many;
-    scoring::score(floats, query, vectors, dimension, &words[size..end]);
-    beam_state::push_all(words, floats, nodes, size, places, walk, many)
-}
-
-// Looks at a node's list.
-fn expand(
-    words: &mut [u32],
-    floats: &mut [f32],
-    nodes: &mut [u32],
-    query: &[f32],
-    vectors: &[f32],
-    dimension: u32,
-    rows: &[u32],
-    degree: u16,
-    bridges: &[u32],
-    links: &[u32],
-    size: usize,
-    places: u32,
-    walk: Walk,
-    node: Node,
-) -> Walk
-    requires { ⌜ 11 * size ≤ length (now words) ⌝ }
-    ensures { λ r. ⌜ Expanding (now (bridges .entry)) (now (links .entry)) (farFrom (now (query .entry)) (vectorsIn dimension (now (vectors .entry)))) size places (listInWords size degree (now (rows .entry)) (now (bridges .entry))) (node .0) (now (words .entry)) (now (words .exit)) (now (floats .entry)) (now (floats .exit)) (now (nodes .entry)) (now (nodes .exit)) walk r ⌝ }
-{
-    let count = gathering::gather(words, size, rows, degree, bridges, links, node);
-    take_in(
-        words,
-        floats,
-        nodes,
-        query,
-        vectors,
-        dimension,
-        size,
-        places,
-        walk,
-        count,
-    )
+    let n = sizes.n;
+    let many = slices::lesser(count, n);
+    let end = n + many;
+    scoring::score(floats, query, vectors, sizes.dimension, &words[n..end]);
+    beam_state::push_all(words, floats, nodes, n, sizes.places, walk, many)
 }
 
 // Before a node is expanded: all places are taken, and it lies farther than the cutoff times the factor.
@@ -138,82 +115,73 @@ fn too_far(walk: Walk, places: u32, distance: f32) -> bool
     (places <= walk.held) & (walk.cutoff * STOP_FACTOR < distance)
 }
 
-// After: many nodes are scored, or all of them, so that nothing is left to be found.
-fn ends_after(walk: Walk, places: u32, size: usize) -> bool
-    ensures { λ r. ⌜ r ≡ (ltb (stopMultiplier * places) (walk .scored) || leb size (walk .scored)) ⌝ }
+// After a node is expanded: many nodes are scored, or all of them, so that nothing is left to be found.
+fn ends_after(walk: Walk, places: u32, n: usize) -> bool
+    ensures { λ r. ⌜ r ≡ (ltb (stopMultiplier * places) (walk .scored) || leb n (walk .scored)) ⌝ }
 {
-    (STOP_MULTIPLIER * (places as u64) < (walk.scored as u64)) | (size <= walk.scored as usize)
+    (STOP_MULTIPLIER * (places as u64) < (walk.scored as u64)) | (n <= walk.scored as usize)
 }
 
-// Takes the nearest node from the frontier and looks at its list, unless the walk ends before.
+// Takes the nearest node from the frontier and expands it, which is to look at its list, unless the walk ends
+// before.
 fn step(
     words: &mut [u32],
     floats: &mut [f32],
     nodes: &mut [u32],
     query: &[f32],
     vectors: &[f32],
-    dimension: u32,
     rows: &[u32],
-    degree: u16,
     bridges: &[u32],
     links: &[u32],
-    size: usize,
-    places: u32,
+    sizes: Sizes,
     walk: Walk,
 ) -> Went
-    requires { ⌜ 11 * size ≤ length (now words) ⌝ }
-    ensures { λ r. ⌜ Stepping (now (bridges .entry)) (now (links .entry)) (farFrom (now (query .entry)) (vectorsIn dimension (now (vectors .entry)))) size places (listInWords size degree (now (rows .entry)) (now (bridges .entry))) (now (words .entry)) (now (words .exit)) (now (floats .entry)) (now (floats .exit)) (now (nodes .entry)) (now (nodes .exit)) walk (r .walk) (r .done) ⌝ }
+    requires { ⌜ wordsFor (sizes .n) ≤ length (now words) ⌝ }
+    ensures { λ r. ⌜ Stepping sizes
+        (record { query = now (query .entry); vectors = now (vectors .entry); rows = now (rows .entry); bridges = now (bridges .entry) })
+        (now (links .entry))
+        (record { words = now (words .entry); floats = now (floats .entry); nodes = now (nodes .entry); walk = walk })
+        (record { words = now (words .exit); floats = now (floats .exit); nodes = now (nodes .exit); walk = r .walk })
+        (r .done) ⌝ }
 {
-    let front = 2 * size;
-    let held = 6 * size;
-    let popped = queues::pop(&mut words[front..held], floats);
+    let n = sizes.n;
+    let frontier = beam_state::FRONTIER * n;
+    let held = beam_state::HELD * n;
+    let popped = queues::pop(&mut words[frontier..held], floats);
     let Popped::At(distance, node) = popped else {
         return Went { walk, done: true };
     };
-    if too_far(walk, places, distance) {
+    if too_far(walk, sizes.places, distance) {
         return Went { walk, done: true };
     }
-    let next = expand(
-        words,
-        floats,
-        nodes,
-        query,
-        vectors,
-        dimension,
-        rows,
-        degree,
-        bridges,
-        links,
-        size,
-        places,
-        walk,
-        node,
-    );
-    let done = ends_after(next, places, size);
+    let count = gathering::gather(words, n, rows, sizes.degree, bridges, links, node);
+    let next = take_in(words, floats, nodes, query, vectors, sizes, walk, count);
+    let done = ends_after(next, sizes.places, n);
     Went { walk: next, done }
 }
 
-// The walk from where it stands, by as many steps as there are nodes at most.
+// The walk from where it stands, by n steps at most.
 fn walk_on(
     words: &mut [u32],
     floats: &mut [f32],
     nodes: &mut [u32],
     query: &[f32],
     vectors: &[f32],
-    dimension: u32,
     rows: &[u32],
-    degree: u16,
     bridges: &[u32],
     links: &[u32],
-    size: usize,
-    places: u32,
+    sizes: Sizes,
     walk: Walk,
 ) -> Walk
-    requires { ⌜ 11 * size ≤ length (now words) ⌝ }
-    ensures { λ r. ⌜ Walking (now (bridges .entry)) (now (links .entry)) (farFrom (now (query .entry)) (vectorsIn dimension (now (vectors .entry)))) size places (listInWords size degree (now (rows .entry)) (now (bridges .entry))) (now (words .entry)) (now (words .exit)) (now (floats .entry)) (now (floats .exit)) (now (nodes .entry)) (now (nodes .exit)) walk r ⌝ }
+    requires { ⌜ wordsFor (sizes .n) ≤ length (now words) ⌝ }
+    ensures { λ r. ⌜ Walking sizes
+        (record { query = now (query .entry); vectors = now (vectors .entry); rows = now (rows .entry); bridges = now (bridges .entry) })
+        (now (links .entry))
+        (record { words = now (words .entry); floats = now (floats .entry); nodes = now (nodes .entry); walk = walk })
+        (record { words = now (words .exit); floats = now (floats .exit); nodes = now (nodes .exit); walk = r }) ⌝ }
 {
     let mut now = walk;
-    let mut left = size;
+    let mut left = sizes.n;
     while left > 0 {
         left -= 1;
         let s = step(
@@ -222,13 +190,10 @@ fn walk_on(
             nodes,
             query,
             vectors,
-            dimension,
             rows,
-            degree,
             bridges,
             links,
-            size,
-            places,
+            sizes,
             now,
         );
         now = s.walk;
@@ -247,17 +212,17 @@ fn walk_linked(
     nodes: &mut [u32],
     query: &[f32],
     vectors: &[f32],
-    dimension: u32,
     rows: &[u32],
-    degree: u16,
     bridges: &[u32],
-    size: usize,
-    places: u32,
+    sizes: Sizes,
     walk: Walk,
 ) -> Walk
-    requires { ⌜ 11 * size ≤ length (now words) ⌝ }
-    requires { ⌜ (size ≤ 1024) × (length (now bridges) / 2 ≤ size) ⌝ }
-    ensures { λ r. ⌜ WalkingLinked (now (bridges .entry)) (farFrom (now (query .entry)) (vectorsIn dimension (now (vectors .entry)))) size places (listInWords size degree (now (rows .entry)) (now (bridges .entry))) (now (words .entry)) (now (words .exit)) (now (floats .entry)) (now (floats .exit)) (now (nodes .entry)) (now (nodes .exit)) walk r ⌝ }
+    requires { ⌜ wordsFor (sizes .n) ≤ length (now words) ⌝ }
+    requires { ⌜ (sizes .n ≤ 1024) × (length (now bridges) / 2 ≤ sizes .n) ⌝ }
+    ensures { λ r. ⌜ WalkingLinked sizes
+        (record { query = now (query .entry); vectors = now (vectors .entry); rows = now (rows .entry); bridges = now (bridges .entry) })
+        (record { words = now (words .entry); floats = now (floats .entry); nodes = now (nodes .entry); walk = walk })
+        (record { words = now (words .exit); floats = now (floats .exit); nodes = now (nodes .exit); walk = r }) ⌝ }
 {
     if bridges.len() < 2 {
         let none: usize = 0;
@@ -267,45 +232,39 @@ fn walk_linked(
             nodes,
             query,
             vectors,
-            dimension,
             rows,
-            degree,
             bridges,
             &bridges[none..none],
-            size,
-            places,
+            sizes,
             walk,
         );
     }
     let mut links = [0u32; 4096];
-    link_bridges(&mut links[..], size as u32, bridges);
+    link_bridges(&mut links[..], sizes.n as u32, bridges);
     walk_on(
         words,
         floats,
         nodes,
         query,
         vectors,
-        dimension,
         rows,
-        degree,
         bridges,
         &links[..],
-        size,
-        places,
+        sizes,
         walk,
     )
 }
 
 // No node is marked, in the frontier or held.
-fn prepare(words: &mut [u32], size: usize, places: u32)
-    requires { ⌜ 11 * size ≤ length (now words) ⌝ }
-    ensures { λ _. ⌜ Prepared size places (now (words .exit)) ⌝ }
+fn prepare(words: &mut [u32], n: usize, places: u32)
+    requires { ⌜ wordsFor n ≤ length (now words) ⌝ }
+    ensures { λ _. ⌜ Prepared n places (now (words .exit)) ⌝ }
 {
-    let front = 2 * size;
-    let held = 6 * size;
-    let held_end = held + 4 * slices::lesser(places as usize, size);
-    slices::clear_words(&mut words[..size]);
-    tournament::clear(&mut words[front..held]);
+    let frontier = beam_state::FRONTIER * n;
+    let held = beam_state::HELD * n;
+    let held_end = held + 4 * slices::lesser(places as usize, n);
+    slices::clear_words(&mut words[..n]);
+    tournament::clear(&mut words[frontier..held]);
     tournament::clear(&mut words[held..held_end]);
 }
 
@@ -316,39 +275,28 @@ fn start(
     nodes: &mut [u32],
     query: &[f32],
     vectors: &[f32],
-    dimension: u32,
-    size: usize,
-    places: u32,
+    sizes: Sizes,
     entry: Node,
 ) -> Walk
-    requires { ⌜ 11 * size ≤ length (now words) ⌝ }
-    ensures { λ r. ⌜ Starting (now (query .entry)) (vectorsIn dimension (now (vectors .entry))) size places (entry .0) (now (words .exit)) (now (floats .entry)) (now (floats .exit)) (now (nodes .entry)) (now (nodes .exit)) r ⌝ }
+    requires { ⌜ wordsFor (sizes .n) ≤ length (now words) ⌝ }
+    ensures { λ r. ⌜ Starting sizes (farFrom (now (query .entry)) (vectorsIn (sizes .dimension) (now (vectors .entry)))) (entry .0)
+        (now (floats .entry)) (now (nodes .entry))
+        (record { words = now (words .exit); floats = now (floats .exit); nodes = now (nodes .exit); walk = r }) ⌝ }
 {
-    prepare(words, size, places);
+    prepare(words, sizes.n, sizes.places);
     let none = Walk {
         scored: 0,
         held: 0,
         cutoff: f32::from_bits(0x7f80_0000),
         kept: 0,
     };
-    let count = gathering::begin(words, size, entry);
-    take_in(
-        words,
-        floats,
-        nodes,
-        query,
-        vectors,
-        dimension,
-        size,
-        places,
-        none,
-        count,
-    )
+    let count = gathering::begin(words, sizes.n, entry);
+    take_in(words, floats, nodes, query, vectors, sizes, none, count)
 }
 
-// The distances of the answer's nodes.
-fn tell(distances: &mut [f32], nodes: &[u32], floats: &[f32], count: usize)
-    ensures { λ _. ⌜ Telling count (now (nodes .entry)) (now (floats .entry)) (now (distances .entry)) (now (distances .exit)) ⌝ }
+// The distances of the answer's nodes go to the output.
+fn put_distances(distances: &mut [f32], nodes: &[u32], floats: &[f32], count: usize)
+    ensures { λ _. ⌜ PutDistances count (now (nodes .entry)) (now (floats .entry)) (now (distances .entry)) (now (distances .exit)) ⌝ }
 {
     let many = slices::lesser(count, slices::lesser(nodes.len(), distances.len()));
     let mut i = 0;
@@ -358,65 +306,49 @@ fn tell(distances: &mut [f32], nodes: &[u32], floats: &[f32], count: usize)
     }
 }
 
-// The nearest nodes to a scaled query that a walk with so many places from the entry node scores, nearest
-// first, with their distances, as many as `nodes` has places for. Says how many there are, and how many nodes
-// were scored. `vectors` has the nodes' vectors, `rows` their rows as words hold them, of so many entries,
-// `bridges` the bridges, a pair of words each. `words` and `floats` are scratch, 64 and 16 for each node.
-// It is promised for scratch that is long enough, at most 1,024 nodes and no more bridges than nodes.
+// The nearest nodes to a scaled query among those that a walk from the entry node scores, nearest first, with
+// their distances, as many as `nodes` has room for. Returns how many there are, and how many nodes were scored.
+// `vectors` has the nodes' vectors, `rows` their rows as words hold them, `bridges` the bridges, a pair of
+// words each. `words` and `floats` are scratch, 64 and 16 for each node. The contract holds for scratch that is
+// long enough, at most 1,024 nodes and no more bridges than nodes.
 pub fn beam_search(
     query: &[f32],
     vectors: &[f32],
     rows: &[u32],
-    degree: u16,
     bridges: &[u32],
+    sizes: Sizes,
     entry: Node,
-    places: u32,
     nodes: &mut [u32],
     distances: &mut [f32],
     words: &mut [u32],
     floats: &mut [f32],
 ) -> Walked
-    ensures { λ r. ⌜ Searching (now (query .entry)) (now (vectors .entry)) (now (rows .entry)) degree (now (bridges .entry)) (entry .0) places (now (nodes .entry)) (now (nodes .exit)) (now (distances .entry)) (now (distances .exit)) (length (now (words .entry))) (length (now (floats .entry))) r ⌝ }
+    ensures { λ r. ⌜ Searching sizes (entry .0)
+        (record { query = now (query .entry); vectors = now (vectors .entry); rows = now (rows .entry); bridges = now (bridges .entry) })
+        (now (nodes .entry)) (now (nodes .exit)) (now (distances .entry)) (now (distances .exit))
+        (length (now (words .entry))) (length (now (floats .entry))) r ⌝ }
 {
-    let size = rows.len() / (1 + degree as usize);
-    if (words.len() / 11 < size)
-        | (query.len() > 4294967295)
-        | (size > 1024)
-        | (bridges.len() / 2 > size)
-    {
+    let n = sizes.n;
+    if (words.len() / beam_state::WORDS < n) | (n > 1024) | (bridges.len() / 2 > n) {
         return Walked {
             count: 0,
             scored: 0,
         };
     }
-    let dimension = small(query.len());
-    let first = start(
-        words,
-        floats,
-        nodes,
-        query,
-        vectors,
-        dimension,
-        size,
-        places,
-        entry,
-    );
+    let first = start(words, floats, nodes, query, vectors, sizes, entry);
     let last = walk_linked(
         words,
         floats,
         nodes,
         query,
         vectors,
-        dimension,
         rows,
-        degree,
         bridges,
-        size,
-        places,
+        sizes,
         first,
     );
     let kept = last.kept;
-    tell(distances, nodes, floats, kept);
+    put_distances(distances, nodes, floats, kept);
     Walked {
         count: small(kept),
         scored: last.scored,

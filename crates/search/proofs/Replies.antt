@@ -20,7 +20,7 @@ use Rattle.store.proofs.Opened.{opening-numbered}
 use Rattle.def_walk.specs.Beam.{farFrom}
 use Rattle.def_calls.specs.Search.{ownSearchChecks, searchChecks, Reply, refused, farIn, scoredIn, foundIn, replyOf, searchWithEfSpec}
 use Rattle.def_calls.proofs.Taken.{SearchTaken, search-taken}
-use Rattle.search.specs.Giving.{Ready, replyBy}
+use Rattle.search.specs.Reply.{Ready, replyBy}
 
 -- ---- a query scaled at the front of a longer list
 
@@ -62,10 +62,9 @@ module _ (ws fs : ℕ) (w : List ℕ) (f query : List Float) (k ef : ℕ) (docs 
   pub query-short : refusal ≡ 0 → length query ≤ 64
   query-short e = let t = taken e in omega (arith, t .components, t .stores .header .dimension .most)
 
-  -- where the scaled query stands in a slice as long as the query is
-  pub ready : refusal ≡ 0 → (scaled : List Float) → length scaled ≡ length query → Ready w f scaled k docs distances ws fs
+  pub ready : refusal ≡ 0 → Ready w f k docs distances ws fs
   unfolding searchChecks
-  ready e scaled same =
+  ready e =
       let lists = both-none (opening (Scratch ws fs) w f) (ownSearchChecks w query k ef docs distances) (opening-numbered (Scratch ws fs) w f) e in
       let t = taken e in
-      record { opens = lists .0; built = t .built; components = same ∙ t .components; docs-room = t .docs-room; distances-room = t .distances-room }
+      record { opens = lists .0; built = t .built; docs-room = t .docs-room; distances-room = t .distances-room }

@@ -4,8 +4,7 @@ use mathlib.Core.Path.{_≡_, refl, sym, ap, ap₂, subst, _∙_}
 use mathlib.Core.Logic.{⊎-elim}
 use mathlib.Core.List.{List, [], _∷_, _++_, map, append-assoc}
 use mathlib.Core.List.{List·Memᴰ as In, List·Memᴰ·head as here, List·Memᴰ·tail as there}
-use Prim.Native.Nat.{ℕ, _-_, _*_, _/_, _≤_, min}
-use native.Mathlib.Nat.{mul-div-cancel}
+use Prim.Native.Nat.{ℕ, _-_, _*_, _≤_, min}
 use native.Mathlib.Omega.{arith}
 use lib.Dec.{ltb, lt→ltb}
 use lib.ListN.{length, getD, take, drop, length-append, length-drop, length-map, take-append-drop}
@@ -20,7 +19,7 @@ use Rattle.basics.proofs.Tests.{both-false}
 use Rattle.sorting.specs.Sorting.{sortBy}
 use Rattle.sorting.proofs.Laws.{in-sort}
 use Rattle.store.specs.declared.Lent.the-variants.{Scratch}
-use Rattle.store.specs.Layout.{word, nodesAt, degreeAt, entryAt, bridgeCountAt, capacityAt, rowsAt, rowSize, bridgeSize, scratchWords, scratchFloats}
+use Rattle.store.specs.Layout.{word, dimensionAt, nodesAt, degreeAt, entryAt, bridgeCountAt, capacityAt, rowsAt, rowSize, bridgeSize, scratchWords, scratchFloats}
 use Rattle.store.specs.View.{view, listIn}
 use Rattle.store.proofs.Header.{Built}
 use Rattle.store.proofs.Opened.{Opened, opened}
@@ -31,13 +30,13 @@ use Rattle.lists.proofs.Parts.{rowPart, rows-part, bridgePart, bridges-part, ve
 use Rattle.def_walk.specs.KeepClosest.{keyAt}
 use Rattle.def_walk.specs.Beam.{farFrom, placesFor, beamSearch, answerOf}
 use Rattle.def_walk.proofs.beam.Laws.{scored-nodes, scored-few, answer-few}
+use Rattle.beam_search.specs.declared.Sizes.{Sizes}
 use Rattle.beam_search.specs.declared.Walked.{Walked}
-use Rattle.beam_search.specs.Search.{within, nodesOfWords, SearchFits, Searched, Searching}
-use Rattle.beam_search.specs.Search.{listInWords}
+use Rattle.beam_search.specs.Search.{within, listInWords, Reads, farOf, SearchFits, Searched, Searching}
 use Rattle.def_calls.specs.Search.{Reply}
 use Rattle.search.specs.Docs.{docAt}
 use Rattle.search.specs.declared.Parts.{Parts}
-use Rattle.search.specs.Giving.{PartsIn, Ready, replyBy}
+use Rattle.search.specs.Reply.{PartsIn, Ready, replyBy}
 use Rattle.search.proofs.Answer.{answer-room}
 use Rattle.search.proofs.Inside.{lists-inside, bridge-words, bridge-nodes}
 
@@ -63,7 +62,7 @@ lent-front {A} m xs l h fits =
 
 -- ---- the walk over the parts is the walk over the view
 
-module _ (w : List ℕ) (f scaled : List Float) (k ef : ℕ) (docs : List ℕ) (distances : List Float) (ws fs : ℕ) (ready : Ready w f scaled k docs distances ws fs) where
+module _ (w : List ℕ) (f scaled : List Float) (k ef : ℕ) (docs : List ℕ) (distances : List Float) (ws fs : ℕ) (ready : Ready w f k docs distances ws fs) where
   abbrev n : ℕ
   n = word w nodesAt
 
@@ -97,23 +96,21 @@ module _ (w : List ℕ) (f scaled : List Float) (k ef : ℕ) (docs : List ℕ) (
       scored-nodes (listIn (view w f)) n (word w entryAt) (built .entry) (lists-inside w f (stores .rest)) far (placesFor ef k) x
       (in-sort (keyAt far) scored (in-take k (sortBy (keyAt far) scored) m))
 
-  rows-many : nodesOfWords (word w degreeAt) (rowPart w f (stores .room)) ≡ n
-  rows-many =
-      let size : length (rowPart w f (stores .room)) ≡ n * rowSize (word w degreeAt) =
-      length-take-le (n * rowSize (word w degreeAt)) (drop (rowsAt (word w capacityAt)) w)
-      (omega (arith, stores .room .rows, length-drop (rowsAt (word w capacityAt)) w)) in
-      ap (λ (m : ℕ). m / rowSize (word w degreeAt)) size ∙ mul-div-cancel n (omega arith)
-
   lists-same : listInWords n (word w degreeAt) (rowPart w f (stores .room)) (bridgePart w f (stores .room)) ≡ listIn (view w f)
   lists-same i u =
       (ap₂ (λ rows bridges. within n (listOf rows bridges u)) (rows-part w f (stores .room)) (bridges-part w f (stores .room))
       ∙ within-all n (listIn (view w f) u) (lists-inside w f (stores .rest) u))
       i
 
-  far-same : farFrom scaled (vectorsIn (length scaled) (vectorPart w f (stores .room))) ≡ far
-  far-same =
-      ap (farFrom scaled)
-      (ap (λ (d : ℕ). vectorsIn d (vectorPart w f (stores .room))) (ready .components) ∙ vectors-part w f (stores .room) (stores .header .dimension .least))
+  far-same : farFrom scaled (vectorsIn (word w dimensionAt) (vectorPart w f (stores .room))) ≡ far
+  far-same = ap (farFrom scaled) (vectors-part w f (stores .room) (stores .header .dimension .least))
+
+  -- what the walk is given: the numbers of the header, and the parts of the stores
+  abbrev sizes : Sizes
+  sizes = record { n = n; degree = word w degreeAt; dimension = word w dimensionAt; places = placesFor ef k }
+
+  abbrev reads : Reads
+  reads = record { query = scaled; vectors = vectorPart w f (stores .room); rows = rowPart w f (stores .room); bridges = bridgePart w f (stores .room) }
 
   -- what scratch has room for
   rooms : (64 * n ≤ ws) × (16 * n ≤ fs)
@@ -124,39 +121,27 @@ module _ (w : List ℕ) (f scaled : List Float) (k ef : ℕ) (docs : List ℕ) (
       (omega (arith, words, stores .header .nodes), omega (arith, floats, stores .header .nodes))
 
   module _ (nodes nodes′ : List ℕ) (far-off far-off′ : List Float) (r : Walked) (nodes-many : length nodes ≡ min k n) (distances-many : length far-off ≡ min k n) where
-    fits : SearchFits n (word w entryAt) scaled (bridgePart w f (stores .room)) nodes far-off ws fs
+    fits : SearchFits n (word w entryAt) (bridgePart w f (stores .room)) nodes far-off ws fs
     fits = record {
       entry-below = built .entry;
       few = few;
-      dimension = omega (arith, ready .components, stores .header .dimension .most);
       bridges-few = omega (arith, bridge-words w f (stores .rest) (stores .room), built .bridges);
       ends-below = bridge-nodes w f (stores .rest) (stores .room);
-      told = omega (arith, nodes-many, distances-many);
+      distances-room = omega (arith, nodes-many, distances-many);
       words-room = rooms .0;
       floats-room = rooms .1;
     }
 
-    -- found by so many nodes, along such lists, at such distances, with so many places in the answer
-    abbrev Left : ℕ → (ℕ → List ℕ) → (ℕ → Float) → ℕ → Type 0
-    Left m list at places =
-        Searched at (answerOf at places (beamSearch list m (word w entryAt) at (placesFor ef k))) (beamSearch list m (word w entryAt) at (placesFor ef k)) nodes nodes′ far-off far-off′ r
+    -- found along such lists, at such distances, with room for `room` nodes in the answer
+    abbrev Left : (ℕ → List ℕ) → (ℕ → Float) → ℕ → Type 0
+    Left list at room =
+        Searched at (answerOf at room (beamSearch list n (word w entryAt) at (placesFor ef k))) (beamSearch list n (word w entryAt) at (placesFor ef k)) nodes nodes′ far-off far-off′ r
 
-    abbrev Walk : Type 0
-    Walk =
-        Searching scaled (vectorPart w f (stores .room)) (rowPart w f (stores .room)) (word w degreeAt) (bridgePart w f (stores .room)) (word w entryAt)
-        (placesFor ef k) nodes nodes′ far-off far-off′ ws fs r
-
-    pub searched : Walk → Searched far found scored nodes nodes′ far-off far-off′ r
+    pub searched : Searching sizes (word w entryAt) reads nodes nodes′ far-off far-off′ ws fs r → Searched far found scored nodes nodes′ far-off far-off′ r
     searched walk =
-        let rows : List ℕ = rowPart w f (stores .room) in
-        let bridges : List ℕ = bridgePart w f (stores .room) in
-        let D : ℕ = word w degreeAt in
-        let at : ℕ → Float = farFrom scaled (vectorsIn (length scaled) (vectorPart w f (stores .room))) in
-        let counted : Left n (listInWords n D rows bridges) at (length nodes) =
-        subst (λ (m : ℕ). SearchFits m (word w entryAt) scaled bridges nodes far-off ws fs → Left m (listInWords m D rows bridges) at (length nodes)) rows-many walk fits in
-        let listed : Left n (listIn (view w f)) at (length nodes) = subst (λ (l : ℕ → List ℕ). Left n l at (length nodes)) lists-same counted in
-        let measured : Left n (listIn (view w f)) far (length nodes) = subst (λ (g : ℕ → Float). Left n (listIn (view w f)) g (length nodes)) far-same listed in
-        let limited : Left n (listIn (view w f)) far (min k n) = subst (λ (m : ℕ). Left n (listIn (view w f)) far m) nodes-many measured in
+        let listed : Left (listIn (view w f)) (farOf sizes reads) (length nodes) = subst (λ (l : ℕ → List ℕ). Left l (farOf sizes reads) (length nodes)) lists-same (walk fits) in
+        let measured : Left (listIn (view w f)) far (length nodes) = subst (λ (g : ℕ → Float). Left (listIn (view w f)) g (length nodes)) far-same listed in
+        let limited : Left (listIn (view w f)) far (min k n) = subst (λ (m : ℕ). Left (listIn (view w f)) far m) nodes-many measured in
         subst (λ (l : List ℕ). Searched far l scored nodes nodes′ far-off far-off′ r) (sym (answer-room far k n scored scored-most)) limited
 
   -- ---- what the outputs then are
@@ -213,8 +198,9 @@ module _ (w : List ℕ) (f scaled : List Float) (k ef : ℕ) (docs : List ℕ) (
 
   module _ (p : Parts) (at : PartsIn w p) (answer places : ℕ) (answer-is : answer ≡ min k n) (places-are : places ≡ placesFor ef k)
       (nodes nodes′ : List ℕ) (room : min k n ≤ length nodes) (far-off′ : List Float) (r : Walked)
-      (ran : Searching scaled (take (p .«vectors_end») f) (take (p .«rows_to» - p .«rows_from») (drop (p .«rows_from») w)) (p .degree)
-      (take (p .«bridges_to» - p .«bridges_from») (drop (p .«bridges_from») w)) (p .entry .0) places (take answer nodes) nodes′ (take answer distances) far-off′ ws fs r) where
+      (ran : Searching (record { n = p .n; degree = p .degree; dimension = p .dimension; places = places }) (p .entry .0)
+      (record { query = scaled; vectors = take (p .«vectors_end») f; rows = take (p .«rows_to» - p .«rows_from») (drop (p .«rows_from») w); bridges = take (p .«bridges_to» - p .«bridges_from») (drop (p .«bridges_from») w) })
+      (take answer nodes) nodes′ (take answer distances) far-off′ ws fs r) where
     rows-are : take (p .«rows_to» - p .«rows_from») (drop (p .«rows_from») w) ≡ rowPart w f (stores .room)
     rows-are =
         let size : p .«rows_to» - p .«rows_from» ≡ n * rowSize (word w degreeAt) = omega (arith, at .rows-from, at .rows-to) in
@@ -229,9 +215,11 @@ module _ (w : List ℕ) (f scaled : List Float) (k ef : ℕ) (docs : List ℕ) (
     walked =
         searched (take (min k n) nodes) nodes′ (take (min k n) distances) far-off′ r (length-take-le (min k n) nodes room) (length-take-le (min k n) distances (ready .distances-room))
         (subst (λ (X : Type 0). X)
-        (λ i. Searching scaled (take (at .vectors-end i) f) (rows-are i) (at .degree i) (bridges-are i) (at .entry i) (places-are i) (take (answer-is i) nodes) nodes′ (take (answer-is i) distances) far-off′ ws fs r) ran)
+        (λ i. Searching (record { n = at .n i; degree = at .degree i; dimension = at .dimension i; places = places-are i }) (at .entry i)
+        (record { query = scaled; vectors = take (at .vectors-end i) f; rows = rows-are i; bridges = bridges-are i })
+        (take (answer-is i) nodes) nodes′ (take (answer-is i) distances) far-off′ ws fs r) ran)
 
-    -- so many nodes stand at the front of the array
+    -- the nodes that are counted stand at the front of the array
     pub count-stands : (rest : List ℕ) → r .count ≤ length (nodes′ ++ rest)
     count-stands rest =
         omega (arith, ap length (nodes-whole (take (min k n) nodes) nodes′ rest far-off′ r walked), walked .count-is, length-append found (drop (length found) (take (min k n) nodes) ++ rest))

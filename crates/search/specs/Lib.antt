@@ -1,2 +1,2 @@
 pub mod Docs
-pub mod Giving
+pub mod Reply

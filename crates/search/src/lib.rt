@@ -24,7 +24,8 @@ ghost use Rattle.store.specs.View.{view};
 ghost use Rattle.def_calls.specs.Search.{searchChecks, replyOf, searchWithEfSpec, searchSpec};
 ghost use Rattle.def_walk.specs.Beam.{farFrom};
 ghost use Rattle.search.specs.Docs.{docAt};
-ghost use Rattle.search.specs.Giving.{PartsIn, Ready, gives, replyBy};
+ghost use Rattle.search.specs.Reply.{PartsIn, Ready, foundWith, replyBy};
+use beam_search::Sizes;
 use params::finite;
 use store::Lent;
 use words::ids::Node;
@@ -38,14 +39,16 @@ pub struct Found {
     pub scored: u32,
 }
 
-// Where the parts of a built store stand that a walk reads.
+// Where the parts of a built store stand that a walk reads, and the numbers of its header that a walk needs.
 struct Parts {
     rows_from: usize,
     rows_to: usize,
     bridges_from: usize,
     bridges_to: usize,
     vectors_end: usize,
+    n: usize,
     degree: u16,
+    dimension: u32,
     entry: Node,
 }
 
@@ -74,7 +77,8 @@ fn search_refusal(
     scratch_words: usize,
     scratch_floats: usize,
 ) -> u32
-    ensures { λ r. ⌜ r ≡ firstRefusal (searchChecks (now (words .entry)) (now (query .entry)) k ef (now (docs .entry)) (now (distances .entry)) «scratch_words» «scratch_floats» (now (floats .entry))) ⌝ }
+    ensures { λ r. ⌜ r ≡ firstRefusal (searchChecks (now (words .entry)) (now (query .entry)) k ef
+        (now (docs .entry)) (now (distances .entry)) «scratch_words» «scratch_floats» (now (floats .entry))) ⌝ }
 {
     let lent = Lent::Scratch {
         words: scratch_words,
@@ -148,7 +152,9 @@ fn parts_of(words: &[u32]) -> Parts
         bridges_from: store::bridges_at(capacity, degree),
         bridges_to: store::bridge_at(capacity, degree, bridges),
         vectors_end: store::floats_size(n, dimension),
+        n: n as usize,
         degree,
+        dimension,
         entry: Node(store::word_at(words, store::ENTRY)),
     }
 }
@@ -166,8 +172,10 @@ fn find_scaled(
     scratch_words: &mut [u32],
     scratch_floats: &mut [f32],
 ) -> Found
-    requires { ⌜ Ready (now words) (now floats) (now scaled) k (now docs) (now distances) (length (now «scratch_words»)) (length (now «scratch_floats»)) ⌝ }
-    ensures { λ r. ⌜ gives r (now (docs .exit)) (now (distances .exit)) ≡ replyBy (farFrom (now (scaled .entry)) (view (now (words .entry)) (now (floats .entry)) .vectors)) (view (now (words .entry)) (now (floats .entry))) k ef (now (docs .entry)) (now (distances .entry)) ⌝ }
+    requires { ⌜ Ready (now words) (now floats) k (now docs) (now distances) (length (now «scratch_words»)) (length (now «scratch_floats»)) ⌝ }
+    ensures { λ r. ⌜ foundWith r (now (docs .exit)) (now (distances .exit))
+        ≡ replyBy (farFrom (now (scaled .entry)) (view (now (words .entry)) (now (floats .entry)) .vectors))
+        (view (now (words .entry)) (now (floats .entry))) k ef (now (docs .entry)) (now (distances .entry)) ⌝ }
 {
     let parts = parts_of(words);
     let vectors_end = parts.vectors_end;
@@ -176,16 +184,20 @@ fn find_scaled(
     let bridges_from = parts.bridges_from;
     let bridges_to = parts.bridges_to;
     let answer = wanted(words, k);
-    let places = larger(ef, k);
+    let sizes = Sizes {
+        n: parts.n,
+        degree: parts.degree,
+        dimension: parts.dimension,
+        places: larger(ef, k),
+    };
     let mut nodes = [0u32; 1024];
     let walked = beam_search::beam_search(
         scaled,
         &floats[..vectors_end],
         &words[rows_from..rows_to],
-        parts.degree,
         &words[bridges_from..bridges_to],
+        sizes,
         parts.entry,
-        places,
         &mut nodes[..answer],
         &mut distances[..answer],
         scratch_words,
@@ -211,8 +223,10 @@ fn find(
     scratch_words: &mut [u32],
     scratch_floats: &mut [f32],
 ) -> Found
-    requires { ⌜ firstRefusal (searchChecks (now words) (now query) k ef (now docs) (now distances) (length (now «scratch_words»)) (length (now «scratch_floats»)) (now floats)) ≡ 0 ⌝ }
-    ensures { λ r. ⌜ gives r (now (docs .exit)) (now (distances .exit)) ≡ replyOf (view (now (words .entry)) (now (floats .entry))) (now (query .entry)) k ef (now (docs .entry)) (now (distances .entry)) ⌝ }
+    requires { ⌜ firstRefusal (searchChecks (now words) (now query) k ef (now docs) (now distances)
+        (length (now «scratch_words»)) (length (now «scratch_floats»)) (now floats)) ≡ 0 ⌝ }
+    ensures { λ r. ⌜ foundWith r (now (docs .exit)) (now (distances .exit))
+        ≡ replyOf (view (now (words .entry)) (now (floats .entry))) (now (query .entry)) k ef (now (docs .entry)) (now (distances .entry)) ⌝ }
 {
     let mut room = [0.0f32; 64];
     let components = query.len();
@@ -243,7 +257,9 @@ pub fn search_with_ef(
     scratch_words: &mut [u32],
     scratch_floats: &mut [f32],
 ) -> Found
-    ensures { λ r. ⌜ gives r (now (docs .exit)) (now (distances .exit)) ≡ searchWithEfSpec (length (now («scratch_words» .entry))) (length (now («scratch_floats» .entry))) (now (words .entry)) (now (floats .entry)) (now (query .entry)) k ef (now (docs .entry)) (now (distances .entry)) ⌝ }
+    ensures { λ r. ⌜ foundWith r (now (docs .exit)) (now (distances .exit))
+        ≡ searchWithEfSpec (length (now («scratch_words» .entry))) (length (now («scratch_floats» .entry)))
+        (now (words .entry)) (now (floats .entry)) (now (query .entry)) k ef (now (docs .entry)) (now (distances .entry)) ⌝ }
 {
     let refusal = search_refusal(
         words,
@@ -287,7 +303,9 @@ pub fn search(
     scratch_words: &mut [u32],
     scratch_floats: &mut [f32],
 ) -> Found
-    ensures { λ r. ⌜ gives r (now (docs .exit)) (now (distances .exit)) ≡ searchSpec (length (now («scratch_words» .entry))) (length (now («scratch_floats» .entry))) (now (words .entry)) (now (floats .entry)) (now (query .entry)) k (now (docs .entry)) (now (distances .entry)) ⌝ }
+    ensures { λ r. ⌜ foundWith r (now (docs .exit)) (now (distances .exit))
+        ≡ searchSpec (length (now («scratch_words» .entry))) (length (now («scratch_floats» .entry)))
+        (now (words .entry)) (now (floats .entry)) (now (query .entry)) k (now (docs .entry)) (now (distances .entry)) ⌝ }
 {
     let ef = store::word_at(words, store::EF_SEARCH);
     search_with_ef(

@@ -2,6 +2,7 @@
 use mathlib.Core.Path.{ap}
 use Prim.Native.Nat.{ℕ, _+_, _*_}
 use lib.ListN.{length-take}
+use Rattle.beam_state.specs.State.{heldAt}
 use Rattle.beam_search.proofs.Ending.{prepared}
 use native.Mathlib.Omega.{arith}
 use borrow.Author.Needs.{needs}
@@ -17,23 +18,22 @@ returns c =
     let at-clear = at-clear2 .before .before .before .before in
     let at-clear-words = at-clear .before .before .before .before in
     let at-lesser = at-clear-words .before .before in
-    let back = at-lesser .before .before in
-    let start = back in
+    let start = at-lesser .before .before in
     let a = start .args in
     let marks = at-clear-words .clear-words in
     let front = at-clear .clear in
     let held = at-clear2 .clear2 in
-    prepared (a .size) (a .places) (a .words .now) (marks .last .0) (front .last .0) (held .last .0) (start .pre) (marks .ensures) (front .kept .0) _
-    (ap (λ (m : ℕ). 6 * a .size + 4 * m) (at-lesser .lesser .ensures)) (held .kept .0) (front .ensures) (held .ensures)
+    prepared (a .n) (a .places) (a .words .now) (marks .last .0) (front .last .0) (held .last .0) (start .pre) (marks .ensures) (front .kept .0) _
+    (ap (λ (m : ℕ). heldAt (a .n) + 4 * m) (at-lesser .lesser .ensures)) (held .kept .0) (front .ensures) (held .ensures)
 
 pub prepare-spec : {M : Type 1} → statement M
 prepare-spec =
     tie.close
     (tie.spec
-    -- front, held, lesser, held_end, slice-relend-prefix-clear-words
+    -- frontier, held, lesser, held_end, clear_words and its part
     (λ c. search needs) (λ c. search needs) (λ c κs. search needs) (λ c. search needs) (λ c. search needs) (λ c. search needs)
     slice-aggregate-clear-words
-    -- clear_words, clear, part-clear-start, part-clear-end, lengths stay
+    -- clear_words, clear and its part, twice, lengths stay
     (λ c κs. search needs) (λ c. search needs) (λ c. search needs) (λ c. search needs) (λ c. search needs) (λ c κs. search needs) (λ c. search needs)
     (λ c. search needs) (λ c. search needs) (λ c. search needs) (λ c κs. search needs) (λ c. search needs)
     returns)

@@ -9,22 +9,33 @@ use borrow.Author.Needs.{needs}
 use Rattle.beam_search.proofs.start.Statement.{statement}
 use Rattle.beam_search.proofs.start.Tie as tie
 
-float-from-bits-t15 : tie.Need-float-from-bits-t15
+float-from-bits-cutoff : tie.Need-float-from-bits-t13
 unfolding nanBits
-float-from-bits-t15 c = tt
+float-from-bits-cutoff c = tt
+
+-- from `prepare` back to the start
+abbrev start : tie.After-prepare → tie.Start
+start c = c .before .before .before .before .before .before .before
 
 take-in-requires : tie.Need-take-in-requires
-take-in-requires c κs = let k = c .before .before .before .before .before .begin .kept .0 in let j = c .before .before .before .before .before .before .before .before .before .prepare .kept .0 in omega (arith, (c .before .before .before .before .before .before .before .before .before .before .before .before .before .before .before .before) .pre)
+take-in-requires c κs =
+    let at-begin = c .before .before .before .before .before in
+    let at-prepare = at-begin .before .before .before .before in
+    omega (arith, at-begin .begin .kept .0, at-prepare .prepare .kept .0, start at-prepare .pre)
 
 returns : tie.Need-returns
 unfolding ofBits
 returns c =
-    let a = (c .before .before .before .before .before .before .before .before .before .before .before .before .before .before .before .before .before .before .before .before .before .before .before) .args in
-    let clear = c .before .before .before .before .before .before .before .before .before .before .before .before .before .before .before .before .prepare in
-    let begin = c .before .before .before .before .before .before .before .before .before .before .before .before .begin in
-    let take = c .before .before .before .before .before .before .take-in in
-    started (farFrom (a .query .now) (vectorsIn (a .dimension) (a .vectors .now))) (a .size) (a .places) (a .entry .0) (begin .result) (clear .last .0) (begin .last .0) (take .last .0) (a .floats .now) (take .last .1 .0) (a .nodes .now) (take .last .1 .1 .0) (take .result)
-    (far-fits (a .query .now) (vectorsIn (a .dimension) (a .vectors .now))) (omega (arith, clear .kept .0, (c .before .before .before .before .before .before .before .before .before .before .before .before .before .before .before .before .before .before .before .before .before .before .before) .pre)) (clear .ensures) (begin .ensures) (take .ensures .1) (take .ensures .0)
+    let at-take-in = c .before .before .before .before .before .before in
+    let at-begin = at-take-in .before .before .before .before .before .before in
+    let at-prepare = at-begin .before .before .before .before in
+    let a = start at-prepare .args in
+    let clear = at-prepare .prepare in
+    let begin = at-begin .begin in
+    let take = at-take-in .take-in in
+    started (a .sizes) (farFrom (a .query .now) (vectorsIn (a .sizes .dimension) (a .vectors .now))) (a .entry .0) (begin .result) (clear .last .0) (begin .last .0) (a .floats .now) (a .nodes .now)
+    (record { words = take .last .0; floats = take .last .1 .0; nodes = take .last .1 .1 .0; walk = take .result })
+    (far-fits (a .query .now) (vectorsIn (a .sizes .dimension) (a .vectors .now))) (omega (arith, clear .kept .0, start at-prepare .pre)) (clear .ensures) (begin .ensures) (take .ensures .1) (take .ensures .0)
 
 pub start-spec : {M : Type 1} → statement M
 start-spec =
@@ -32,7 +43,7 @@ start-spec =
     (tie.spec
     -- prepare
     (λ c κs. search needs)
-    float-from-bits-t15
+    float-from-bits-cutoff
     -- begin
     (λ c κs. search needs)
     take-in-requires

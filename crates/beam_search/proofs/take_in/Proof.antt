@@ -11,20 +11,22 @@ returns c =
     let at-push-all = c .before .before .before .before in
     let at-score = at-push-all .before .before .before .before .before .before in
     let at-lesser = at-score .before .before .before .before in
-    let back = at-lesser .before .before .before .before .before .before in
-    let a = (back) .args in
+    let start = at-lesser .before .before .before .before .before .before in
+    let a = start .args in
     let push = at-push-all .push-all in
     let score = at-score .score in (
       push .ensures .0,
-      taking-in (farFrom (a .query .now) (vectorsIn (a .dimension) (a .vectors .now))) (a .size) (a .places) (a .count) (at-lesser .lesser .result) (a .words .now) (push .last .0) (a .floats .now) (score .last .0) (a .nodes .now) (push .last .1 .1 .0) (a .walk) (push .result)
-          (at-lesser .lesser .ensures) ((back) .pre) (score .ensures) (score .kept .0) (push .ensures .1),
+      taking-in (a .sizes) (farFrom (a .query .now) (vectorsIn (a .sizes .dimension) (a .vectors .now))) (a .count) (at-lesser .lesser .result)
+          (record { words = a .words .now; floats = a .floats .now; nodes = a .nodes .now; walk = a .walk })
+          (record { words = push .last .0; floats = score .last .0; nodes = push .last .1 .1 .0; walk = push .result })
+          (at-lesser .lesser .ensures) (start .pre) (score .ensures) (score .kept .0) (push .ensures .1),
     )
 
 pub take-in-spec : {M : Type 1} → statement M
 take-in-spec =
     tie.close
     (tie.spec
-    -- lesser, end, score, part-score-start, part-score-end, push_all, lengths stay
+    -- lesser, end, score and its part, push_all, lengths stay
     (λ c κs. search needs) (λ c. search needs) (λ c. search needs) (λ c. search needs) (λ c. search needs) (λ c. search needs) (λ c κs. search needs)
     (λ c κs. search needs) (λ c. search needs) (λ c. search needs) (λ c. search needs)
     returns)

@@ -1,8 +1,6 @@
 -- `beam_search::walk_on` meets its contract: the walk of the definition by the steps that are left is the whole. The measure is how many are left. Assumes nothing.
 use mathlib.Core.Path.{_∙_}
-use Rattle.distance.specs.Vectors.{vectorsIn}
-use Rattle.def_walk.specs.Beam.{farFrom}
-use Rattle.beam_search.specs.Search.{listInWords}
+use Rattle.beam_search.specs.Steps.{Memory}
 use Rattle.beam_search.proofs.Walking.{Onward, onward-none, onward-more, onward-ends, onward-all}
 use borrow.Author.Needs.{needs}
 use native.Mathlib.Omega.{arith}
@@ -10,18 +8,25 @@ use Rattle.beam_search.proofs.walk_on.Statement.{statement}
 use Rattle.beam_search.proofs.walk_on.Tie as tie
 
 abbrev Inv-loop : tie.InvT-loop
-Inv-loop words₀ floats₀ nodes₀ query vectors dimension rows degree bridges links size places now₀ left₀ words floats nodes now left =
-    Onward bridges links (farFrom query (vectorsIn dimension vectors)) size places (listInWords size degree rows bridges) words₀ floats₀ nodes₀ now₀ words floats nodes now left
+Inv-loop words₀ floats₀ nodes₀ query vectors rows bridges links sizes now₀ left₀ words floats nodes now left =
+    Onward sizes (record { query = query; vectors = vectors; rows = rows; bridges = bridges }) links
+    (record { words = words₀; floats = floats₀; nodes = nodes₀; walk = now₀ }) (record { words = words; floats = floats; nodes = nodes; walk = now }) left
 
 abbrev μ-loop : tie.MeasureT-loop
-μ-loop words₀ floats₀ nodes₀ query vectors dimension rows degree bridges links size places now₀ left₀ words floats nodes now left =
-    left
+μ-loop words₀ floats₀ nodes₀ query vectors rows bridges links sizes now₀ left₀ words floats nodes now left = left
 
 loop-holds : tie.Need-loop-holds Inv-loop μ-loop
-loop-holds c = let a = (c .before .before .before .before .before .before .before .before) .args in onward-none (a .bridges .now) (a .links .now) (farFrom (a .query .now) (vectorsIn (a .dimension) (a .vectors .now))) (a .size) (a .places) (listInWords (a .size) (a .degree) (a .rows .now) (a .bridges .now)) (a .words .now) (a .floats .now) (a .nodes .now) (a .walk)
+loop-holds c = let a = (c .before .before .before .before .before .before .before .before) .args in onward-none (a .sizes) _ (a .links .now) _
 
 step-requires : tie.Need-step-requires Inv-loop μ-loop
-step-requires c κs = let o = c .before .before .before .before .loop .inv .words-kept in omega (arith, (c .before .before .before .before .before .before .before .before .before .before .before .before .before) .pre)
+step-requires c κs =
+    let at-loop = c .before .before .before .before in
+    let start = at-loop .before .before .before .before .before .before .before .before .before in
+    omega (arith, at-loop .loop .inv .words-kept, start .pre)
+
+-- the memory after a step
+abbrev after : tie.After-step Inv-loop μ-loop → Memory
+after c = let s = c .step in record { words = s .last .0; floats = s .last .1 .0; nodes = s .last .1 .1 .0; walk = s .result .walk }
 
 same-length : tie.Need-same-length Inv-loop μ-loop
 same-length c =
@@ -45,15 +50,17 @@ returns : tie.Need-returns Inv-loop μ-loop
 returns c =
     let at-step = c .before .before .before .before .before .before .before .before in
     let at-loop-test = at-step .before .before .before .before in
-    let at-loop = at-loop-test .before in
-    let l = at-loop .loop in let s = at-step .step in onward-ends (l .inv) (s .last .0) (s .last .1 .0) (s .last .1 .1 .0) (s .result .walk) (s .result .done) (at-loop-test .loop-test .taken) (s .ensures) (c .if1 .taken)
+    let l = at-loop-test .before .loop in
+    let s = at-step .step in
+    onward-ends (l .inv) (after at-step) (s .result .done) (at-loop-test .loop-test .taken) (s .ensures) (c .if1 .taken)
 
 loop-again : tie.Need-loop-again Inv-loop μ-loop
 loop-again c =
     let at-step = c .before .before .before .before .before .before .before .before in
     let at-loop-test = at-step .before .before .before .before in
-    let at-loop = at-loop-test .before in
-    let l = at-loop .loop in let s = at-step .step in onward-more (l .inv) (s .last .0) (s .last .1 .0) (s .last .1 .1 .0) (s .result .walk) (s .result .done) (at-loop-test .loop-test .taken) (s .ensures) (c .if1 .left) (s .kept .0) (s .kept .1 .0) (s .kept .1 .1 .0)
+    let l = at-loop-test .before .loop in
+    let s = at-step .step in
+    onward-more (l .inv) (after at-step) (s .result .done) (at-loop-test .loop-test .taken) (s .ensures) (c .if1 .left) (s .kept .0) (s .kept .1 .0) (s .kept .1 .1 .0)
 
 same-length-4 : tie.Need-same-length-4 Inv-loop μ-loop
 same-length-4 c = c .before .loop .inv .words-kept

@@ -7,7 +7,7 @@ use lib.Seq.{length-take-le}
 use lib.Ieee.{Float}
 use Rattle.store.specs.View.{view}
 use Rattle.def_walk.specs.Beam.{farFrom}
-use Rattle.search.specs.Giving.{replyBy}
+use Rattle.search.specs.Reply.{replyBy}
 use Rattle.search.proofs.Replies.{query-short, room-is, room-long, room-length, ready, reply-is}
 use native.Mathlib.Omega.{arith}
 use borrow.Author.Needs.{needs}
@@ -35,17 +35,15 @@ slice-aggregate-find-scaled c = sym (room-length _ _ _ (c .before .before .scale
 find-scaled-requires : tie.Need-find-scaled-requires
 find-scaled-requires c κs =
     let at-scale-into = c .before .before .before .before .before .before in
-    let back = at-scale-into .before .before .before .before .before .before .before .before .before in
-    let s = back in
+    let s = at-scale-into .before .before .before .before .before .before .before .before .before in
     let a = s .args in
-    ready _ _ (a .words .now) (a .floats .now) (a .query .now) (a .k) (a .ef) (a .docs .now) (a .distances .now) (s .pre) _ (room-length _ _ _ (at-scale-into .scale-into .ensures))
+    ready _ _ (a .words .now) (a .floats .now) (a .query .now) (a .k) (a .ef) (a .docs .now) (a .distances .now) (s .pre)
 
 returns : tie.Need-returns
 returns c =
     let at-find-scaled = c .before .before .before .before .before .before .before .before in
     let at-scale-into = at-find-scaled .before .before .before .before .before .before .before in
-    let back = at-scale-into .before .before .before .before .before .before .before .before .before in
-    let s = back in
+    let s = at-scale-into .before .before .before .before .before .before .before .before .before in
     let a = s .args in
     at-find-scaled .find-scaled .ensures
     ∙ ap (λ (l : List Float). replyBy (farFrom l (view (a .words .now) (a .floats .now) .vectors)) (view (a .words .now) (a .floats .now)) (a .k) (a .ef) (a .docs .now) (a .distances .now)) (room-is _ _ _ (at-scale-into .scale-into .ensures))

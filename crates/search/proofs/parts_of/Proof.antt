@@ -28,7 +28,9 @@ returns c =
       bridges-from = at-bridges-at .bridges-at .ensures ∙ (λ i. bridgesAt (capacity i) (degree i));
       bridges-to = at-bridge-at .bridge-at .ensures ∙ (λ i. bridgeAt (capacity i) (degree i) (bridges i));
       vectors-end = c .before .floats-size .ensures ∙ (λ i. n i * dimension i);
+      n = n;
       degree = degree;
+      dimension = dimension;
       entry = c .word-at6 .ensures;
     }
 
@@ -36,7 +38,7 @@ pub parts-of-spec : {M : Type 1} → statement M
 parts-of-spec =
     tie.close
     (tie.spec
-    -- word_at, degree, rows_at, row_at, bridges_at, bridge_at, floats_size
+    -- word_at, degree, rows_at, row_at, bridges_at, bridge_at, floats_size, n, entry
     (λ c κs. search needs) (λ c κs. search needs) (λ c κs. search needs) (λ c. search needs) (λ c κs. search needs) (λ c κs. search needs)
-    (λ c κs. search needs) (λ c κs. search needs) (λ c κs. search needs) (λ c κs. search needs) (λ c κs. search needs) (λ c κs. search needs)
+    (λ c κs. search needs) (λ c κs. search needs) (λ c κs. search needs) (λ c κs. search needs) (λ c κs. search needs) (λ c. search needs) (λ c κs. search needs)
     returns)

@@ -1,18 +1,18 @@
--- `beam_search::tell` meets its contract: so far the first i are told, and the rest is what it was. The measure is how many are left. Assumes nothing.
+-- `beam_search::put_distances` meets its contract: the first i distances are written, and the rest is as it was. The measure is how many are left. Assumes nothing.
 use mathlib.Core.Path.{_≡_, refl, ap, ap₂, _∙_}
 use mathlib.Core.Bool.{false}
 use mathlib.Core.List.{List}
 use Prim.Native.Nat.{_-_, _≤_}
 use lib.ListN.{length, getD, set}
 use lib.Ieee.{Float, inf}
-use Rattle.beam_search.proofs.Ending.{told, told-length, told-more}
+use Rattle.beam_search.proofs.Ending.{put-so-far, put-length, put-more}
 use borrow.Author.Needs.{needs}
 use native.Mathlib.Omega.{arith}
-use Rattle.beam_search.proofs.tell.Statement.{statement}
-use Rattle.beam_search.proofs.tell.Tie as tie
+use Rattle.beam_search.proofs.put_distances.Statement.{statement}
+use Rattle.beam_search.proofs.put_distances.Tie as tie
 
 abbrev Inv-loop : tie.InvT-loop
-Inv-loop distances₀ nodes floats count many i₀ distances i = (i ≤ many) × (distances ≡ told (λ v. getD floats v (inf false)) nodes distances₀ i)
+Inv-loop distances₀ nodes floats count many i₀ distances i = (i ≤ many) × (distances ≡ put-so-far (λ v. getD floats v (inf false)) nodes distances₀ i)
 
 abbrev μ-loop : tie.MeasureT-loop
 μ-loop distances₀ nodes floats count many i₀ distances i = many - i
@@ -25,7 +25,7 @@ kept : (c : tie.At-loop Inv-loop μ-loop) → length (c .loop .distances) ≡ le
 kept c =
     let a = c .before .before .before .before .before .before .args in
     let m = room (c .before) in
-    ap length (c .loop .inv .1) ∙ told-length (λ v. getD (a .floats .now) v (inf false)) (a .nodes .now) (a .distances .now) (c .loop .i) (omega (arith, c .loop .inv .0)) (omega (arith, c .loop .inv .0))
+    ap length (c .loop .inv .1) ∙ put-length (λ v. getD (a .floats .now) v (inf false)) (a .nodes .now) (a .distances .now) (c .loop .i) (omega (arith, c .loop .inv .0)) (omega (arith, c .loop .inv .0))
 
 loop-holds : tie.Need-loop-holds Inv-loop μ-loop
 loop-holds c = (omega arith, refl)
@@ -45,7 +45,7 @@ loop-again c =
     let l = c .before .before .before .loop in
     let m = room (c .before .before .before .before) in
     let t = c .before .before .loop-test .taken in
-    (omega arith, ap₂ (λ (x : List Float) (y : Float). set x (l .i) y) (l .inv .1) (c .distance-of .ensures) ∙ told-more (λ v. getD (a .floats .now) v (inf false)) (a .nodes .now) (a .distances .now) (l .i) (omega arith) (omega arith))
+    (omega arith, ap₂ (λ (x : List Float) (y : Float). set x (l .i) y) (l .inv .1) (c .distance-of .ensures) ∙ put-more (λ v. getD (a .floats .now) v (inf false)) (a .nodes .now) (a .distances .now) (l .i) (omega arith) (omega arith))
 
 same-length : tie.Need-same-length Inv-loop μ-loop
 same-length c = kept (c .before)
@@ -58,10 +58,10 @@ returns c =
     let e2 = c .before .before .before .lesser .ensures in
     λ h k.
     let all : l .i ≡ a .count = omega (arith, l .inv .0, c .loop-test .left) in
-    l .inv .1 ∙ ap (told (λ v. getD (a .floats .now) v (inf false)) (a .nodes .now) (a .distances .now)) all
+    l .inv .1 ∙ ap (put-so-far (λ v. getD (a .floats .now) v (inf false)) (a .nodes .now) (a .distances .now)) all
 
-pub tell-spec : {M : Type 1} → statement M
-tell-spec =
+pub put-distances-spec : {M : Type 1} → statement M
+put-distances-spec =
     tie.close
     (tie.spec
     Inv-loop
