@@ -107,7 +107,10 @@ pub extern "C" fn pipnn_new(
     ef_search: u32,
     capacity: u32,
 ) -> u32
-    ensures { λ r. ⌜ (r, now (words .exit), now (floats .exit)) ≡ newFrom dimension «final_prune» (paramsFrom «max_leaf_size» «min_leaf_size» «leader_fraction» «max_degree» «num_hash_bits» «final_prune» alpha «ef_search») capacity (now (words .entry)) (now (floats .entry)) ⌝ }
+    ensures { λ r. ⌜ (r, now (words .exit), now (floats .exit))
+        ≡ newFrom dimension «final_prune»
+        (paramsFrom «max_leaf_size» «min_leaf_size» «leader_fraction» «max_degree» «num_hash_bits» «final_prune» alpha «ef_search»)
+        capacity (now (words .entry)) (now (floats .entry)) ⌝ }
 {
     if params::dimension_within(dimension) & (1 < final_prune) {
         return error::PARAMETER_OUT_OF_RANGE;
@@ -139,7 +142,9 @@ pub extern "C" fn pipnn_build(
     scratch_words: &mut [u32],
     scratch_floats: &mut [f32],
 ) -> u32
-    ensures { λ r. ⌜ (r, now (words .exit), now (floats .entry)) ≡ buildSpec (length (now («scratch_words» .entry))) (length (now («scratch_floats» .entry))) (now (words .entry)) (now (floats .entry)) ⌝ }
+    ensures { λ r. ⌜ (r, now (words .exit), now (floats .entry))
+        ≡ buildSpec (length (now («scratch_words» .entry))) (length (now («scratch_floats» .entry)))
+        (now (words .entry)) (now (floats .entry)) ⌝ }
 {
     build::build(words, floats, scratch_words, scratch_floats)
 }
@@ -156,7 +161,9 @@ pub extern "C" fn pipnn_search_with_ef(
     scratch_words: &mut [u32],
     scratch_floats: &mut [f32],
 ) -> PipnnFound
-    ensures { λ r. ⌜ foundWith r (now (docs .exit)) (now (distances .exit)) ≡ searchWithEfSpec (length (now («scratch_words» .entry))) (length (now («scratch_floats» .entry))) (now (words .entry)) (now (floats .entry)) (now (query .entry)) k ef (now (docs .entry)) (now (distances .entry)) ⌝ }
+    ensures { λ r. ⌜ foundWith r (now (docs .exit)) (now (distances .exit))
+        ≡ searchWithEfSpec (length (now («scratch_words» .entry))) (length (now («scratch_floats» .entry)))
+        (now (words .entry)) (now (floats .entry)) (now (query .entry)) k ef (now (docs .entry)) (now (distances .entry)) ⌝ }
 {
     let found = search::search_with_ef(
         words,
@@ -188,7 +195,9 @@ pub extern "C" fn pipnn_search(
     scratch_words: &mut [u32],
     scratch_floats: &mut [f32],
 ) -> PipnnFound
-    ensures { λ r. ⌜ foundWith r (now (docs .exit)) (now (distances .exit)) ≡ searchSpec (length (now («scratch_words» .entry))) (length (now («scratch_floats» .entry))) (now (words .entry)) (now (floats .entry)) (now (query .entry)) k (now (docs .entry)) (now (distances .entry)) ⌝ }
+    ensures { λ r. ⌜ foundWith r (now (docs .exit)) (now (distances .exit))
+        ≡ searchSpec (length (now («scratch_words» .entry))) (length (now («scratch_floats» .entry)))
+        (now (words .entry)) (now (floats .entry)) (now (query .entry)) k (now (docs .entry)) (now (distances .entry)) ⌝ }
 {
     let found = search::search(
         words,
@@ -217,7 +226,9 @@ pub extern "C" fn pipnn_recognise(
     scratch_words: &mut [u32],
     scratch_floats: &mut [f32],
 ) -> PipnnRecognised
-    ensures { λ r. ⌜ r ≡ recognisedWith (recogniseSpec (length (now («scratch_words» .entry))) (length (now («scratch_floats» .entry))) (now (words .entry)) (now (floats .entry)) (now (query .entry)) ef limit) ⌝ }
+    ensures { λ r. ⌜ r
+        ≡ recognisedWith (recogniseSpec (length (now («scratch_words» .entry))) (length (now («scratch_floats» .entry)))
+        (now (words .entry)) (now (floats .entry)) (now (query .entry)) ef limit) ⌝ }
 {
     let answer = recognise::recognise(
         words,

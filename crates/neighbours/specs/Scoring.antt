@@ -25,5 +25,6 @@ scoredEight far nodes at = record {
 -- eight distances at the places of eight nodes
 abbrev pub placedEight : List ℕ → ℕ → Eight → List Float → List Float
 placedEight nodes at x floats =
-    set (set (set (set (set (set (set (set floats (getD nodes at 0) (x .a)) (getD nodes (at + 1) 0) (x .b)) (getD nodes (at + 2) 0) (x .c))
-    (getD nodes (at + 3) 0) (x .d)) (getD nodes (at + 4) 0) (x .e)) (getD nodes (at + 5) 0) (x .f)) (getD nodes (at + 6) 0) (x .g)) (getD nodes (at + 7) 0) (x .h)
+    set (set (set (set (set (set (set (set floats
+    (getD nodes at 0) (x .a)) (getD nodes (at + 1) 0) (x .b)) (getD nodes (at + 2) 0) (x .c)) (getD nodes (at + 3) 0) (x .d))
+    (getD nodes (at + 4) 0) (x .e)) (getD nodes (at + 5) 0) (x .f)) (getD nodes (at + 6) 0) (x .g)) (getD nodes (at + 7) 0) (x .h)

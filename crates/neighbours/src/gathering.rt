@@ -58,7 +58,9 @@ fn visit_ends(
     node: Node,
 ) -> usize
     requires { ⌜ n + n ≤ length (now words) ⌝ }
-    ensures { λ r. ⌜ Gathering n count (linkedEnds n (now (bridges .entry)) (now (links .entry)) (firstLink n (now (links .entry)) (node .0))) (now (words .entry)) (now (words .exit)) r ⌝ }
+    ensures { λ r. ⌜ Gathering n count
+        (linkedEnds n (now (bridges .entry)) (now (links .entry)) (firstLink n (now (links .entry)) (node .0)))
+        (now (words .entry)) (now (words .exit)) r ⌝ }
 {
     let mut fresh = count;
     let mut link = chains::first_link(links, n, node);
@@ -79,7 +81,8 @@ pub fn gather(
     links: &[u32],
     node: Node,
 ) -> usize
-    ensures { λ r. ⌜ GatheringList size degree (now (rows .entry)) (now (bridges .entry)) (now (links .entry)) (node .0) (now (words .entry)) (now (words .exit)) r ⌝ }
+    ensures { λ r. ⌜ GatheringList size degree (now (rows .entry)) (now (bridges .entry)) (now (links .entry)) (node .0)
+        (now (words .entry)) (now (words .exit)) r ⌝ }
 {
     if words.len() / 2 < size {
         return 0;

@@ -20,7 +20,8 @@ fn place(floats: &mut [f32], node: Node, distance: f32)
 }
 
 fn score_one(floats: &mut [f32], query: &[f32], vectors: &[f32], dimension: u32, node: Node)
-    ensures { λ _. ⌜ now (floats .exit) ≡ set (now (floats .entry)) (node .0) (farFrom (now (query .entry)) (vectorsIn dimension (now (vectors .entry))) (node .0)) ⌝ }
+    ensures { λ _. ⌜ now (floats .exit)
+        ≡ set (now (floats .entry)) (node .0) (farFrom (now (query .entry)) (vectorsIn dimension (now (vectors .entry))) (node .0)) ⌝ }
 {
     let vector = vectors::get_vector(vectors, dimension, node);
     let d = distance::cosine_distance_normalized(query, vector);
@@ -30,7 +31,8 @@ fn score_one(floats: &mut [f32], query: &[f32], vectors: &[f32], dimension: u32,
 // The distances of eight of the nodes, from one place of their list on.
 fn eight(query: &[f32], vectors: &[f32], dimension: u32, nodes: &[u32], at: usize) -> Eight
     requires { ⌜ at + 8 ≤ length (now nodes) ⌝ }
-    ensures { λ r. ⌜ r ≡ scoredEight (farFrom (now (query .entry)) (vectorsIn dimension (now (vectors .entry)))) (now (nodes .entry)) at ⌝ }
+    ensures { λ r. ⌜ r
+        ≡ scoredEight (farFrom (now (query .entry)) (vectorsIn dimension (now (vectors .entry)))) (now (nodes .entry)) at ⌝ }
 {
     let a = vectors::get_vector(vectors, dimension, Node(nodes[at]));
     let b = vectors::get_vector(vectors, dimension, Node(nodes[at + 1]));
@@ -66,7 +68,9 @@ fn score_eight(
     at: usize,
 )
     requires { ⌜ at + 8 ≤ length (now nodes) ⌝ }
-    ensures { λ _. ⌜ now (floats .exit) ≡ scoredAt (farFrom (now (query .entry)) (vectorsIn dimension (now (vectors .entry)))) (take 8 (drop at (now (nodes .entry)))) (now (floats .entry)) ⌝ }
+    ensures { λ _. ⌜ now (floats .exit)
+        ≡ scoredAt (farFrom (now (query .entry)) (vectorsIn dimension (now (vectors .entry))))
+        (take 8 (drop at (now (nodes .entry)))) (now (floats .entry)) ⌝ }
 {
     let distances = eight(query, vectors, dimension, nodes, at);
     place_eight(floats, nodes, at, distances);
@@ -81,7 +85,9 @@ fn score_rest(
     nodes: &[u32],
     from: usize,
 )
-    ensures { λ _. ⌜ now (floats .exit) ≡ scoredAt (farFrom (now (query .entry)) (vectorsIn dimension (now (vectors .entry)))) (drop from (now (nodes .entry))) (now (floats .entry)) ⌝ }
+    ensures { λ _. ⌜ now (floats .exit)
+        ≡ scoredAt (farFrom (now (query .entry)) (vectorsIn dimension (now (vectors .entry))))
+        (drop from (now (nodes .entry))) (now (floats .entry)) ⌝ }
 {
     let mut i = from;
     while i < nodes.len() {
@@ -92,7 +98,9 @@ fn score_rest(
 
 // Works out the distances of all these nodes.
 pub fn score(floats: &mut [f32], query: &[f32], vectors: &[f32], dimension: u32, nodes: &[u32])
-    ensures { λ _. ⌜ now (floats .exit) ≡ scoredAt (farFrom (now (query .entry)) (vectorsIn dimension (now (vectors .entry)))) (now (nodes .entry)) (now (floats .entry)) ⌝ }
+    ensures { λ _. ⌜ now (floats .exit)
+        ≡ scoredAt (farFrom (now (query .entry)) (vectorsIn dimension (now (vectors .entry))))
+        (now (nodes .entry)) (now (floats .entry)) ⌝ }
 {
     let mut i = 0;
     while nodes.len() - i >= 8 {

@@ -118,7 +118,8 @@ fn add_refusal(words: &[u32], floats: &[f32], vector: &[f32]) -> u32
 // Puts the scaled vector in its place, `at`.
 fn put_vector(floats: &mut [f32], at: usize, vector: &[f32])
     requires { ⌜ at + length (now vector) ≤ length (now floats) ⌝ }
-    ensures { λ _. ⌜ now (floats .exit) ≡ take at (now (floats .entry)) ++ (scaledOf binary32 (now (vector .entry)) ++ drop (at + length (now (vector .entry))) (now (floats .entry))) ⌝ }
+    ensures { λ _. ⌜ now (floats .exit)
+        ≡ take at (now (floats .entry)) ++ (scaledOf binary32 (now (vector .entry)) ++ drop (at + length (now (vector .entry))) (now (floats .entry))) ⌝ }
 {
     let end = at + vector.len();
     slices::copy_floats(&mut floats[at..end], vector);

@@ -31,7 +31,9 @@ pub fn recognise(
     scratch_words: &mut [u32],
     scratch_floats: &mut [f32],
 ) -> Recognised
-    ensures { λ r. ⌜ recognisedValues r ≡ recogniseSpec (length (now («scratch_words» .entry))) (length (now («scratch_floats» .entry))) (now (words .entry)) (now (floats .entry)) (now (query .entry)) ef limit ⌝ }
+    ensures { λ r. ⌜ recognisedValues r
+        ≡ recogniseSpec (length (now («scratch_words» .entry))) (length (now («scratch_floats» .entry)))
+        (now (words .entry)) (now (floats .entry)) (now (query .entry)) ef limit ⌝ }
 {
     let mut doc = [0u32; 1];
     let mut distance = [0.0f32; 1];

@@ -53,9 +53,9 @@ map-in g h [] e = refl
 map-in g h (x ∷ l) e = ap₂ (λ (y : ℕ) (m : List ℕ). y ∷ m) (e x (here refl)) (map-in g h l (λ y m. e y (there m)))
 
 -- the first m places of l were passed in, and xs was written to their front
-lent-front : {A : Type 0} (m : ℕ) (xs l : List A) → length xs ≤ m → m ≤ length l
+front-written : {A : Type 0} (m : ℕ) (xs l : List A) → length xs ≤ m → m ≤ length l
     → (xs ++ drop (length xs) (take m l)) ++ drop m l ≡ xs ++ drop (length xs) l
-lent-front {A} m xs l h fits =
+front-written {A} m xs l h fits =
     append-assoc xs (drop (length xs) (take m l)) (drop m l)
     ∙ ap (λ (r : List A). xs ++ r)
     (sym (drop-append-le (length xs) (take m l) (drop m l) (omega (arith, length-take-le m l fits))) ∙ ap (drop (length xs)) (take-append-drop m l))
@@ -160,7 +160,7 @@ module _ (w : List ℕ) (f scaled : List Float) (k ef : ℕ) (docs : List ℕ) (
     distances-whole =
         let many : length (map far found) ≡ length found = length-map found far in
         ap (λ (l : List Float). l ++ drop (min k n) distances) (s .distances-are ∙ ap (λ (c : ℕ). map far found ++ drop c (take (min k n) distances)) (sym many))
-        ∙ lent-front (min k n) (map far found) distances (omega (arith, many, found-few)) (ready .distances-room)
+        ∙ front-written (min k n) (map far found) distances (omega (arith, many, found-few)) (ready .distances-room)
         ∙ ap (λ (c : ℕ). map far found ++ drop c distances) many
 
     pub replied : (docs′ : List ℕ) (distances′ : List Float) → docs′ ≡ map (docAt w) (take (r .count) (nodes′ ++ rest)) ++ drop (r .count) docs

@@ -6,7 +6,8 @@ use lib.ListN.{length, getD, drop}
 use lib.Ieee.{Float}
 use Rattle.basics.specs.Refusals.{firstRefusal}
 use Rattle.store.specs.declared.Lent.the-variants.{Scratch}
-use Rattle.store.specs.Layout.{word, builtState, stateAt, dimensionAt, nodesAt, degreeAt, entryAt, bridgeCountAt, capacityAt, rowsAt, rowAt, bridgesAt, bridgeAt}
+use Rattle.store.specs.Layout.{word, builtState, stateAt, dimensionAt, nodesAt, degreeAt, entryAt, bridgeCountAt, capacityAt}
+use Rattle.store.specs.Layout.{rowsAt, rowAt, bridgesAt, bridgeAt}
 use Rattle.store.specs.View.{View, listIn}
 use Rattle.store.specs.Opening.{opening}
 use Rattle.def_walk.specs.Beam.{placesFor, beamSearch, answerOf}
