@@ -28,7 +28,7 @@ use Rattle.def_walk.proofs.beam.Reverse.{in-reverse}
 use Rattle.beam_state.specs.Queues.{frontRank}
 use Rattle.beam_state.proofs.queues.Laws.{empty-queue}
 use Rattle.beam_state.proofs.queues.Holding.{none-held}
-use Rattle.neighbours.specs.Gathering.{GatheringAll}
+use Rattle.neighbours.specs.Gathering.{freshEnd, GatheringAll}
 use Rattle.beam_state.specs.State.{part, frontierAt, heldAt, keysAt, wordsFor, heldEnd, frontierPart, heldPart, keysPart, AnswerHeld, Standing}
 use Rattle.beam_state.specs.declared.Walk.{Walk}
 use Rattle.beam_state.proofs.Parts.{lay, lay-length, part-here, part-before, take-before}
@@ -171,7 +171,7 @@ unfolding within expand visit has pick toFrontier insertIn
 first-one far n e h = ap (λ (l : List ℕ). expand (toFrontier far) (record { seen = []; front = [] }) l) (pick-true (e ∷ []) [] (lt-ltb e n h))
 
 pub started : (sizes : Sizes) (far : ℕ → Float) (e count : ℕ) (words between : List ℕ) (floats : List Float) (nodes : List ℕ) (m′ : Memory) → ((v : ℕ) → T (fits binary32 (far v)))
-    → sizes .n + sizes .n ≤ length words → Prepared (sizes .n) (sizes .places) words → GatheringAll (sizes .n) (e ∷ []) words between count
+    → freshEnd (sizes .n) ≤ length words → Prepared (sizes .n) (sizes .places) words → GatheringAll (sizes .n) (e ∷ []) words between count
     → TakingIn sizes far count (record { words = between; floats = floats; nodes = nodes; walk = noWalk }) m′
     → take (frontierAt (sizes .n)) (m′ .words) ≡ take (frontierAt (sizes .n)) between → Starting sizes far e floats nodes m′
 unfolding has pick

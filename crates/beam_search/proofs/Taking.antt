@@ -20,7 +20,7 @@ use Rattle.beam_state.specs.Queues.{frontRank, Queue, Held, Known}
 use Rattle.neighbours.specs.Scoring.{scoredAt}
 use Rattle.neighbours.proofs.scoring.Laws.{scored-known, scored-keeps}
 use Rattle.lists.specs.Words.{rowLists, bridgeList}
-use Rattle.neighbours.specs.Gathering.{Fresh, visitOne, gatherFresh, FreshIn, GatheringAll, Linked, GatheringList}
+use Rattle.neighbours.specs.Gathering.{Fresh, visitOne, gatherFresh, freshEnd, FreshIn, GatheringAll, Linked, GatheringList}
 use Rattle.beam_state.specs.State.{part, frontierAt, heldAt, keysAt, wordsFor, heldEnd, AnswerHeld, Standing, PushingAll, pushed}
 use Rattle.beam_state.specs.declared.Walk.{Walk}
 use Rattle.beam_state.proofs.Parts.{part-behind}
@@ -119,7 +119,7 @@ module _ (far : ℕ → Float) (n : ℕ) (s₀ : State) where
           past v g e = pick-false (pick (has v (g .seen)) g (record { seen = v ∷ g .seen; fresh = g .fresh ++ (v ∷ []) })) g e
 
 -- the same state in words that are the same behind marks and fresh nodes
-pub standing-behind : {far : ℕ → Float} {n b : ℕ} {nodes₀ nodes : List ℕ} {w : Walk} {seen front : List ℕ} (words words′ : List ℕ) → drop (n + n) words′ ≡ drop (n + n) words
+pub standing-behind : {far : ℕ → Float} {n b : ℕ} {nodes₀ nodes : List ℕ} {w : Walk} {seen front : List ℕ} (words words′ : List ℕ) → drop (freshEnd n) words′ ≡ drop (freshEnd n) words
     → Standing far n b nodes₀ words nodes w seen front → Standing far n b nodes₀ words′ nodes w seen front
 standing-behind {far} {n} {b} {nodes₀} {nodes} {w} {seen} {front} words words′ same t = record {
   frontier = subst (Queue (frontRank far) n front) (moved (frontierAt n) (heldAt n) (omega arith)) (t .frontier);
@@ -133,8 +133,8 @@ standing-behind {far} {n} {b} {nodes₀} {nodes} {w} {seen} {front} words words�
   sub = t .sub;
 }
   where
-    moved : (a e : ℕ) → n + n ≤ a → part a e words ≡ part a e words′
-    moved a e h = sym (part-behind (n + n) a e words′ words h same)
+    moved : (a e : ℕ) → freshEnd n ≤ a → part a e words ≡ part a e words′
+    moved a e h = sym (part-behind (freshEnd n) a e words′ words h same)
 
 -- the marks of words that are the same up to the fresh nodes
 pub same-mark : (n v : ℕ) (words words′ : List ℕ) → v < n → take (frontierAt n) words′ ≡ take (frontierAt n) words → getD words′ v 0 ≡ getD words v 0
@@ -150,7 +150,7 @@ module _ (sizes : Sizes) (far : ℕ → Float) (count : ℕ) (list between : Lis
   abbrev gathered : Memory
   gathered = record { words = between; floats = m .floats; nodes = m .nodes; walk = m .walk }
 
-  pub gathered-in : (nodes₀ : List ℕ) (s : State) → n + n ≤ length (m .words) → GatheringAll n list (m .words) between count → TakingIn sizes far count gathered m′
+  pub gathered-in : (nodes₀ : List ℕ) (s : State) → freshEnd n ≤ length (m .words) → GatheringAll n list (m .words) between count → TakingIn sizes far count gathered m′
       → take (frontierAt n) (m′ .words) ≡ take (frontierAt n) between → ((v : ℕ) → v < n → getD (m .words) v 0 ≡ pick (has v (s .seen)) 1 0)
       → Standing far n (sizes .places) nodes₀ (m .words) (m .nodes) (m .walk) (s .seen) (s .front) → Known far n (s .seen) (m .floats) → n ≤ length (m .floats)
       → Between sizes far nodes₀ m′ (expand (toFrontier far) s (within n list) .seen) (expand (toFrontier far) s (within n list) .front)
@@ -168,8 +168,8 @@ module _ (sizes : Sizes) (far : ℕ → Float) (count : ℕ) (list between : Lis
       all : Fresh
       all = gatherFresh n list none
 
-      got : FreshIn n (drop (n + n) (m .words)) between count all
-      got = gather long (drop (n + n) (m .words)) none
+      got : FreshIn n (drop (freshEnd n) (m .words)) between count all
+      got = gather long (drop (freshEnd n) (m .words)) none
           (record { marks = marks; buffer = refl; count-is = refl; behind = refl; once = t .once; inside = t .inside; fewer = omega arith })
 
       like : Alike far (expand (toFrontier far) s (within n list)) s all

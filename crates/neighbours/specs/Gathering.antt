@@ -25,12 +25,16 @@ unfolding visitOne
 gatherFresh n [] g = g
 gatherFresh n (v ∷ vs) g = gatherFresh n vs (visitOne n v g)
 
+-- where the fresh nodes end, behind n marks: there is room for n of them
+abbrev pub freshEnd : ℕ → ℕ
+freshEnd n = n + n
+
 -- Words that hold this: a mark for each node, then the fresh ones; what stands behind both is `tail`.
 pub record FreshIn (n : ℕ) (tail words : List ℕ) (count : ℕ) (g : Fresh) : Type 0 where
   pub marks : (v : ℕ) → v < n → getD words v 0 ≡ pick (has v (g .seen)) 1 0
   pub buffer : take count (drop n words) ≡ g .fresh
   pub count-is : count ≡ length (g .fresh)
-  pub behind : drop (n + n) words ≡ tail
+  pub behind : drop (freshEnd n) words ≡ tail
   pub once : NoDup (g .seen)
   pub inside : Below n (g .seen)
   pub fewer : length (g .fresh) ≤ length (g .seen)
@@ -44,7 +48,7 @@ Gathering n count list words words′ r =
 
 -- from the first fresh node on
 abbrev pub GatheringAll : ℕ → List ℕ → List ℕ → List ℕ → ℕ → Type 0
-GatheringAll n list words words′ r = n + n ≤ length words → Gathering n 0 list words words′ r
+GatheringAll n list words words′ r = freshEnd n ≤ length words → Gathering n 0 list words words′ r
 
 -- the links of some bridges among n nodes, which chains know by 32 bits
 pub record Linked (n : ℕ) (bridges links : List ℕ) : Type 0 where

@@ -7,18 +7,21 @@
 // ends of its bridges, as `listOf` of `basics` says; chains link them, so that a node's own bridges are looked
 // at and no others.
 ghost use mathlib.Core.List.{[], _∷_};
-ghost use Prim.Native.Nat.{_+_, _≤_};
+ghost use Prim.Native.Nat.{_≤_};
 ghost use lib.ListN.{length};
 ghost use Rattle.lists.specs.Chains.{firstLink, linkedEnds};
-ghost use Rattle.neighbours.specs.Gathering.{Gathering, GatheringAll, GatheringList};
+ghost use Rattle.neighbours.specs.Gathering.{freshEnd, Gathering, GatheringAll, GatheringList};
 use lists::chains;
 use words::ids::Node;
+
+// A mark and room for a fresh node, for each node.
+const WORDS: usize = 2;
 
 // Marks a node, and puts it behind the `count` fresh ones that are there; it stays there as one of them if it
 // was not marked. Gives how many there are then. Which nodes are fresh cannot be foretold, so there is no
 // branch on it.
 fn visit(words: &mut [u32], size: usize, count: usize, node: u32) -> usize
-    requires { ⌜ size + size ≤ length (now words) ⌝ }
+    requires { ⌜ freshEnd size ≤ length (now words) ⌝ }
     ensures { λ r. ⌜ Gathering size count (node ∷ []) (now (words .entry)) (now (words .exit)) r ⌝ }
 {
     let at = node as usize;
@@ -36,7 +39,7 @@ fn visit(words: &mut [u32], size: usize, count: usize, node: u32) -> usize
 }
 
 fn visit_all(words: &mut [u32], size: usize, count: usize, list: &[u32]) -> usize
-    requires { ⌜ size + size ≤ length (now words) ⌝ }
+    requires { ⌜ freshEnd size ≤ length (now words) ⌝ }
     ensures { λ r. ⌜ Gathering size count (now (list .entry)) (now (words .entry)) (now (words .exit)) r ⌝ }
 {
     let mut fresh = count;
@@ -57,7 +60,7 @@ fn visit_ends(
     links: &[u32],
     node: Node,
 ) -> usize
-    requires { ⌜ n + n ≤ length (now words) ⌝ }
+    requires { ⌜ freshEnd n ≤ length (now words) ⌝ }
     ensures { λ r. ⌜ Gathering n count
         (linkedEnds n (now (bridges .entry)) (now (links .entry)) (firstLink n (now (links .entry)) (node .0)))
         (now (words .entry)) (now (words .exit)) r ⌝ }
@@ -84,7 +87,7 @@ pub fn gather(
     ensures { λ r. ⌜ GatheringList size degree (now (rows .entry)) (now (bridges .entry)) (now (links .entry)) (node .0)
         (now (words .entry)) (now (words .exit)) r ⌝ }
 {
-    if words.len() / 2 < size {
+    if words.len() / WORDS < size {
         return 0;
     }
     // chains know nodes by 32 bits
@@ -100,7 +103,7 @@ pub fn gather(
 pub fn begin(words: &mut [u32], size: usize, node: Node) -> usize
     ensures { λ r. ⌜ GatheringAll size (node .0 ∷ []) (now (words .entry)) (now (words .exit)) r ⌝ }
 {
-    if words.len() / 2 < size {
+    if words.len() / WORDS < size {
         return 0;
     }
     visit(words, size, 0, node.0)

@@ -25,7 +25,7 @@ use Rattle.lists.specs.Words.{bridgeList}
 use Rattle.lists.specs.Chains.{otherEndAt, firstLink, nextLink, linkedEnds, bridgesIn}
 use Rattle.lists.proofs.chains.Reading.{first-place, next-place, linked-none, linked-step}
 use Rattle.lists.proofs.chains.Laws.{chained-ends}
-use Rattle.neighbours.specs.Gathering.{Fresh, visitOne, gatherFresh, FreshIn, Gathering, Linked}
+use Rattle.neighbours.specs.Gathering.{Fresh, visitOne, gatherFresh, freshEnd, FreshIn, Gathering, Linked}
 
 pub at-most-one : (b : Bool) → boolByte b ≤ 1
 at-most-one true = omega arith
@@ -110,7 +110,7 @@ module _ (n count v : ℕ) (words : List ℕ) where
   ]
 
   -- a node seen before: its mark stands, and what is put behind the fresh ones is none of them
-  visit-old : n + n ≤ length words → v < n → count < n → (getD words v 0 ≡ 0 → ⊥) → Gathering n count (v ∷ []) words (set (set words v 1) (n + count) v) count
+  visit-old : freshEnd n ≤ length words → v < n → count < n → (getD words v 0 ≡ 0 → ⊥) → Gathering n count (v ∷ []) words (set (set words v 1) (n + count) v) count
   visit-old long l few ne tail g h = record {
     marks = λ w k. getD-set-other (set words v 1) (n + count) w v 0 (λ e. omega arith) ∙ mark w k ∙ x .marks w k;
     buffer =
@@ -118,7 +118,7 @@ module _ (n count v : ℕ) (words : List ℕ) where
         ∙ take-set-le count (drop n words) count v (omega arith)
         ∙ x .buffer;
     count-is = x .count-is;
-    behind = drop-set-lt (n + n) (set words v 1) (n + count) v (omega arith) ∙ drop-set-lt (n + n) words v 1 (omega arith) ∙ x .behind;
+    behind = drop-set-lt (freshEnd n) (set words v 1) (n + count) v (omega arith) ∙ drop-set-lt (freshEnd n) words v 1 (omega arith) ∙ x .behind;
     once = x .once;
     inside = x .inside;
     fewer = x .fewer;
@@ -133,7 +133,7 @@ module _ (n count v : ℕ) (words : List ℕ) where
         | no e ↦ getD-set-other words v w 1 0 e
       ]
 
-  visit-new : n + n ≤ length words → v < n → getD words v 0 ≡ 0 → Gathering n count (v ∷ []) words (set (set words v 1) (n + count) v) (count + 1)
+  visit-new : freshEnd n ≤ length words → v < n → getD words v 0 ≡ 0 → Gathering n count (v ∷ []) words (set (set words v 1) (n + count) v) (count + 1)
   unfolding gatherFresh visitOne
   visit-new long l z tail g h =
       subst (FreshIn n tail (set (set words v 1) (n + count) v) (count + 1))
@@ -142,7 +142,7 @@ module _ (n count v : ℕ) (words : List ℕ) where
         marks = marks′;
         buffer = buffer′;
         count-is = omega (arith, h .count-is, length-append (g .fresh) (v ∷ []));
-        behind = drop-set-lt (n + n) (set words v 1) (n + count) v (omega (arith, few)) ∙ drop-set-lt (n + n) words v 1 (omega arith) ∙ h .behind;
+        behind = drop-set-lt (freshEnd n) (set words v 1) (n + count) v (omega (arith, few)) ∙ drop-set-lt (freshEnd n) words v 1 (omega arith) ∙ h .behind;
         once = (out g tail l z h, h .once);
         inside = below g tail l h;
         fewer = omega (arith, h .fewer, length-append (g .fresh) (v ∷ []));
@@ -174,7 +174,7 @@ module _ (n count v : ℕ) (words : List ℕ) where
           ∙ ap (λ (x : List ℕ). x ++ (v ∷ [])) (h .buffer)
 
   -- marked and put behind the fresh ones, and one of them if the mark was 0
-  pub visit-here : n + n ≤ length words → v < n → count < n → Gathering n count (v ∷ []) words (set (set words v 1) (n + count) v) (count + boolByte (eqb (getD words v 0) 0))
+  pub visit-here : freshEnd n ≤ length words → v < n → count < n → Gathering n count (v ∷ []) words (set (set words v 1) (n + count) v) (count + boolByte (eqb (getD words v 0) 0))
   visit-here long l few = elim (ℕ-discrete (getD words v 0) 0) [
     | yes z ↦ subst (λ (b : Bool). Gathering n count (v ∷ []) words (set (set words v 1) (n + count) v) (count + boolByte b)) (sym (eq-eqb (getD words v 0) 0 z)) (visit-new long l z)
     | no z ↦ subst (λ (b : Bool). Gathering n count (v ∷ []) words (set (set words v 1) (n + count) v) (count + boolByte b)) (sym (ne-eqb (getD words v 0) 0 z)) (subst (Gathering n count (v ∷ []) words (set (set words v 1) (n + count) v)) none (visit-old long l few z))
