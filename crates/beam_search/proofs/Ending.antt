@@ -29,12 +29,12 @@ use Rattle.beam_state.specs.Queues.{frontRank}
 use Rattle.beam_state.proofs.queues.Laws.{empty-queue}
 use Rattle.beam_state.proofs.queues.Holding.{none-held}
 use Rattle.neighbours.specs.Gathering.{freshEnd, GatheringAll}
-use Rattle.beam_state.specs.State.{part, frontierAt, heldAt, keysAt, wordsFor, heldEnd, frontierPart, heldPart, keysPart, AnswerHeld, Standing}
+use Rattle.beam_state.specs.State.{part, frontierAt, heldAt, keysAt, wordsFor, heldEnd, frontierPart, heldPart, keysPart, Memory, AnswerHeld, Standing}
 use Rattle.beam_state.specs.declared.Walk.{Walk}
 use Rattle.beam_state.proofs.Parts.{lay, lay-length, part-here, part-before, take-before}
 use Rattle.beam_search.specs.declared.Sizes.{Sizes}
 use Rattle.beam_search.specs.Search.{within, Reads, farOf, scoredBy, Searched}
-use Rattle.beam_search.specs.Steps.{Memory, Between, TakingIn, walkOn, Prepared, Starting, PutDistances}
+use Rattle.beam_search.specs.Steps.{Between, TakingIn, walkOn, Prepared, Starting, PutDistances}
 use Rattle.beam_search.proofs.Taking.{gathered-in, same-mark}
 
 -- ---- room
@@ -146,9 +146,10 @@ module _ (n b : ℕ) (words x y z : List ℕ) (long : wordsFor n ≤ length word
 abbrev pub noWalk : Walk
 noWalk = record { scored = 0; held = 0; cutoff = inf false; kept = 0 }
 
-none-standing : (far : ℕ → Float) (n b : ℕ) (words nodes : List ℕ) → n ≤ 1024 → Prepared n b words → Standing far n b nodes words nodes noWalk [] []
+none-standing : (far : ℕ → Float) (n b : ℕ) (words : List ℕ) (floats : List Float) (nodes : List ℕ) → n ≤ 1024 → Prepared n b words
+    → Standing far n b nodes (record { words = words; floats = floats; nodes = nodes; walk = noWalk }) [] []
 unfolding heldOf cutoffOf sortBy
-none-standing far n b words nodes few p = record {
+none-standing far n b words floats nodes few p = record {
   frontier = empty-queue (frontRank far) n (frontierPart n words) (p .front);
   held = none-held far (min b n) (heldPart n b words) (omega arith) (p .held);
   held-count = refl;
@@ -178,7 +179,7 @@ unfolding has pick
 started sizes far e count words between floats nodes m′ f32s long p gather taking frame h few room =
     subst (λ (s : State). Between sizes far nodes m′ (s .seen) (s .front)) (first-one far (sizes .n) e h)
     (gathered-in sizes far count (e ∷ []) between (record { words = words; floats = floats; nodes = nodes; walk = noWalk }) m′ nodes (record { seen = []; front = [] }) long gather taking frame
-    (p .marks) (none-standing far (sizes .n) (sizes .places) words nodes few p) (record { few = few; f32s = f32s; there = λ v i. absurd (in-nil i) }) room)
+    (p .marks) (none-standing far (sizes .n) (sizes .places) words floats nodes few p) (record { few = few; f32s = f32s; there = λ v i. absurd (in-nil i) }) room)
 
 -- ---- ended
 

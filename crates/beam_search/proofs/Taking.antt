@@ -21,13 +21,29 @@ use Rattle.neighbours.specs.Scoring.{scoredAt}
 use Rattle.neighbours.proofs.scoring.Laws.{scored-known, scored-keeps}
 use Rattle.lists.specs.Words.{rowLists, bridgeList}
 use Rattle.neighbours.specs.Gathering.{Fresh, visitOne, gatherFresh, freshEnd, FreshIn, GatheringAll, Linked, GatheringList}
-use Rattle.beam_state.specs.State.{part, frontierAt, heldAt, keysAt, wordsFor, heldEnd, AnswerHeld, Standing, PushingAll, pushed}
+use Rattle.beam_state.specs.State.{part, frontierAt, heldAt, keysAt, wordsFor, heldEnd, Memory, AnswerHeld, Standing, PushingAll, pushed}
 use Rattle.beam_state.specs.declared.Walk.{Walk}
 use Rattle.beam_state.proofs.Parts.{part-behind}
 use Rattle.beam_state.proofs.Pushed.{pushed-append}
 use Rattle.beam_search.specs.declared.Sizes.{Sizes}
 use Rattle.beam_search.specs.Search.{within, Reads, farOf, listsOf}
-use Rattle.beam_search.specs.Steps.{Memory, Between, TakenIn, TakingIn}
+use Rattle.beam_search.specs.Steps.{Between, TakenIn, TakingIn}
+
+-- what stands does not depend on the floats
+standing-in : {far : ℕ → Float} {n b : ℕ} {nodes₀ words nodes : List ℕ} {w : Walk} {seen front : List ℕ} (floats floats′ : List Float)
+    → Standing far n b nodes₀ (record { words = words; floats = floats; nodes = nodes; walk = w }) seen front
+    → Standing far n b nodes₀ (record { words = words; floats = floats′; nodes = nodes; walk = w }) seen front
+standing-in floats floats′ t = record {
+  frontier = t .frontier;
+  held = t .held;
+  held-count = t .held-count;
+  cutoff-is = t .cutoff-is;
+  answer = t .answer;
+  scored-is = t .scored-is;
+  once = t .once;
+  inside = t .inside;
+  sub = t .sub;
+}
 
 -- ---- scored and pushed
 
@@ -48,9 +64,9 @@ pushed-in far (v ∷ vs) s x m = go (pushed-in far vs (record { seen = v ∷ s .
 pub taking-in : (sizes : Sizes) (far : ℕ → Float) (count many : ℕ) (m m′ : Memory) → many ≡ min count (sizes .n)
     → wordsFor (sizes .n) ≤ length (m .words) → m′ .floats ≡ scoredAt far (take (sizes .n + many - sizes .n) (drop (sizes .n) (m .words))) (m .floats)
     → length (m′ .floats) ≡ length (m .floats)
-    → PushingAll (sizes .n) (sizes .places) many (m′ .floats) (m .words) (m′ .words) (m .nodes) (m′ .nodes) (m .walk) (m′ .walk) → TakingIn sizes far count m m′
+    → PushingAll (sizes .n) (sizes .places) many (record { words = m .words; floats = m′ .floats; nodes = m .nodes; walk = m .walk }) m′ → TakingIn sizes far count m m′
 taking-in sizes far count many m m′ mi long score lf push nodes₀ fresh s fi ci cn d below room known t = record {
-  standing = push long far nodes₀ fresh s (fi ∙ ap (λ (k : ℕ). take k (drop (sizes .n) (m .words))) (sym all)) (all ∙ ci) (omega arith) d below known′ t;
+  standing = push long far nodes₀ fresh s (fi ∙ ap (λ (k : ℕ). take k (drop (sizes .n) (m .words))) (sym all)) (all ∙ ci) (omega arith) d below known′ (standing-in (m .floats) (m′ .floats) t);
   known = known′;
   room = omega arith;
 }
@@ -119,9 +135,10 @@ module _ (far : ℕ → Float) (n : ℕ) (s₀ : State) where
           past v g e = pick-false (pick (has v (g .seen)) g (record { seen = v ∷ g .seen; fresh = g .fresh ++ (v ∷ []) })) g e
 
 -- the same state in words that are the same behind marks and fresh nodes
-pub standing-behind : {far : ℕ → Float} {n b : ℕ} {nodes₀ nodes : List ℕ} {w : Walk} {seen front : List ℕ} (words words′ : List ℕ) → drop (freshEnd n) words′ ≡ drop (freshEnd n) words
-    → Standing far n b nodes₀ words nodes w seen front → Standing far n b nodes₀ words′ nodes w seen front
-standing-behind {far} {n} {b} {nodes₀} {nodes} {w} {seen} {front} words words′ same t = record {
+pub standing-behind : {far : ℕ → Float} {n b : ℕ} {nodes₀ nodes : List ℕ} {floats : List Float} {w : Walk} {seen front : List ℕ} (words words′ : List ℕ)
+    → drop (freshEnd n) words′ ≡ drop (freshEnd n) words → Standing far n b nodes₀ (record { words = words; floats = floats; nodes = nodes; walk = w }) seen front
+    → Standing far n b nodes₀ (record { words = words′; floats = floats; nodes = nodes; walk = w }) seen front
+standing-behind {far} {n} {b} {nodes₀} {nodes} {floats} {w} {seen} {front} words words′ same t = record {
   frontier = subst (Queue (frontRank far) n front) (moved (frontierAt n) (heldAt n) (omega arith)) (t .frontier);
   held = subst (Held far (min b n) (Rattle.def_walk.specs.KeepClosest.heldOf far b seen)) (moved (heldAt n) (heldEnd n b) (omega arith)) (t .held);
   held-count = t .held-count;
@@ -152,12 +169,12 @@ module _ (sizes : Sizes) (far : ℕ → Float) (count : ℕ) (list between : Lis
 
   pub gathered-in : (nodes₀ : List ℕ) (s : State) → freshEnd n ≤ length (m .words) → GatheringAll n list (m .words) between count → TakingIn sizes far count gathered m′
       → take (frontierAt n) (m′ .words) ≡ take (frontierAt n) between → ((v : ℕ) → v < n → getD (m .words) v 0 ≡ pick (has v (s .seen)) 1 0)
-      → Standing far n (sizes .places) nodes₀ (m .words) (m .nodes) (m .walk) (s .seen) (s .front) → Known far n (s .seen) (m .floats) → n ≤ length (m .floats)
+      → Standing far n (sizes .places) nodes₀ m (s .seen) (s .front) → Known far n (s .seen) (m .floats) → n ≤ length (m .floats)
       → Between sizes far nodes₀ m′ (expand (toFrontier far) s (within n list) .seen) (expand (toFrontier far) s (within n list) .front)
   unfolding pushed
   gathered-in nodes₀ s long gather taking frame marks t known room = record {
     marks = λ v h. same-mark n v between (m′ .words) h frame ∙ got .marks v h ∙ ap (λ (l : List ℕ). pick {X = ℕ} (has v l) 1 0) (sym (like .seen-is));
-    standing = subst (λ (z : State). Standing far n (sizes .places) nodes₀ (m′ .words) (m′ .nodes) (m′ .walk) (z .seen) (z .front)) (like .made) (taken .standing);
+    standing = subst (λ (z : State). Standing far n (sizes .places) nodes₀ m′ (z .seen) (z .front)) (like .made) (taken .standing);
     known = subst (λ (z : State). Known far n (z .seen) (m′ .floats)) (like .made) (taken .known);
     room = taken .room;
   }

@@ -21,12 +21,12 @@ use Rattle.words.specs.declared.ids.Node.{Node}
 use Rattle.beam_state.specs.declared.queues.Popped.{Popped}
 use Rattle.beam_state.specs.declared.queues.Popped.the-variants.{At, Empty}
 use Rattle.neighbours.specs.Gathering.{Linked}
-use Rattle.beam_state.specs.State.{part, frontierAt, heldAt, keysAt, wordsFor, heldEnd, frontierPart, AnswerHeld}
+use Rattle.beam_state.specs.State.{part, frontierAt, heldAt, keysAt, wordsFor, heldEnd, frontierPart, Memory, AnswerHeld}
 use Rattle.beam_state.specs.declared.Walk.{Walk}
 use Rattle.beam_state.proofs.Parts.{lay, lay-length, part-here, part-after, take-before}
 use Rattle.beam_search.specs.declared.Sizes.{Sizes}
 use Rattle.beam_search.specs.Search.{Reads, farOf, listsOf}
-use Rattle.beam_search.specs.Steps.{Memory, Between, walkOn, Stepping, Walking}
+use Rattle.beam_search.specs.Steps.{Between, walkOn, Stepping, Walking}
 use Rattle.beam_search.proofs.Taking.{same-mark, Expanding}
 use Rattle.beam_search.proofs.Full.{all-seen, same, walk-full, within-below}
 

@@ -12,8 +12,7 @@ use Rattle.def_walk.specs.Walk.{State, walk}
 use Rattle.def_walk.specs.Beam.{toFrontier, tooFar, tooMany}
 use Rattle.beam_state.specs.Queues.{Known}
 use Rattle.neighbours.specs.Gathering.{Linked}
-use Rattle.beam_state.specs.State.{frontierPart, heldPart, Standing, pushed}
-use Rattle.beam_state.specs.declared.Walk.{Walk}
+use Rattle.beam_state.specs.State.{Memory, frontierPart, heldPart, Standing, pushed}
 use Rattle.beam_search.specs.declared.Sizes.{Sizes}
 use Rattle.beam_search.specs.Search.{Reads, farOf, listsOf}
 
@@ -26,23 +25,16 @@ Linking n bridges links links′ =
     → ((i : ℕ) → i < length bridges → getD bridges i 0 < n)
     → Linked n bridges links′
 
--- What a walk writes: its two parts of scratch and the nodes of the answer; with its counts.
-pub record Memory : Type 0 where
-  pub words : List ℕ
-  pub floats : List Float
-  pub nodes : List ℕ
-  pub walk : Walk
-
 -- a walk between two expansions
 pub record Between (sizes : Sizes) (far : ℕ → Float) (nodes₀ : List ℕ) (m : Memory) (seen front : List ℕ) : Type 0 where
   pub marks : (v : ℕ) → v < sizes .n → getD (m .words) v 0 ≡ pick (has v seen) 1 0
-  pub standing : Standing far (sizes .n) (sizes .places) nodes₀ (m .words) (m .nodes) (m .walk) seen front
+  pub standing : Standing far (sizes .n) (sizes .places) nodes₀ m seen front
   pub known : Known far (sizes .n) seen (m .floats)
   pub room : sizes .n ≤ length (m .floats)
 
 -- fresh nodes scored and pushed
 pub record TakenIn (sizes : Sizes) (far : ℕ → Float) (nodes₀ : List ℕ) (m : Memory) (s : State) : Type 0 where
-  pub standing : Standing far (sizes .n) (sizes .places) nodes₀ (m .words) (m .nodes) (m .walk) (s .seen) (s .front)
+  pub standing : Standing far (sizes .n) (sizes .places) nodes₀ m (s .seen) (s .front)
   pub known : Known far (sizes .n) (s .seen) (m .floats)
   pub room : sizes .n ≤ length (m .floats)
 
@@ -56,7 +48,7 @@ TakingIn sizes far count m m′ =
     → Below (sizes .n) (pushed far fresh s .seen)
     → sizes .n ≤ length (m .floats)
     → Known far (sizes .n) (s .seen) (m .floats)
-    → Standing far (sizes .n) (sizes .places) nodes₀ (m .words) (m .nodes) (m .walk) (s .seen) (s .front)
+    → Standing far (sizes .n) (sizes .places) nodes₀ m (s .seen) (s .front)
     → TakenIn sizes far nodes₀ m′ (pushed far fresh s)
 
 -- the walk of the definition from where it stands, by at most `more` steps

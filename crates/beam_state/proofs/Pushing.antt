@@ -23,7 +23,7 @@ use Rattle.beam_state.specs.Queues.{frontRank, Queue, Held, Known, Enter
 use Rattle.beam_state.specs.declared.queues.Closest.{Closest}
 use Rattle.beam_state.proofs.queues.Laws.{in-insert}
 use Rattle.beam_state.proofs.queues.Holding.{hold-length}
-use Rattle.beam_state.specs.State.{part, frontierAt, heldAt, keysAt, wordsFor, heldEnd, frontierPart, keysPart, Standing, Pushing, PushingAll, pushed}
+use Rattle.beam_state.specs.State.{part, frontierAt, heldAt, keysAt, wordsFor, heldEnd, frontierPart, keysPart, Memory, Standing, Pushing, PushingAll, pushed}
 use Rattle.beam_state.specs.declared.Walk.{Walk}
 use Rattle.beam_state.proofs.Parts.{lay, lay-length, part-here, part-before, part-after, take-before}
 use Rattle.beam_state.proofs.Pushed.{pushed-append, pushed-keeps, pushed-once}
@@ -121,7 +121,8 @@ module _ (n b v : ℕ) (floats : List Float) (walk : Walk) (words nodes : List �
           → Keeping b (walk .held) d key (part (heldAt n) e w₁) y closest → d ≡ getD floats v (inf false) → key ≡ keyOf binary32 d
           → (r ≡ length (keptPairs (walk .kept) key v (keysPart n w₂) nodes)) × (z ≡ keptKeys (walk .kept) key v (keysPart n w₂) nodes) × (nodes′ ≡ keptIds (walk .kept) key v (keysPart n w₂) nodes)
           → length nodes′ ≡ length nodes → scored ≡ min (walk .scored + 1) 4294967295
-          → Pushing n b v floats words w₃ nodes nodes′ walk (record { scored = scored; held = closest .held; cutoff = closest .cutoff; kept = r })
+          → Pushing n b v (record { words = words; floats = floats; nodes = nodes; walk = walk })
+          (record { words = w₃; floats = floats; nodes = nodes′; walk = record { scored = scored; held = closest .held; cutoff = closest .cutoff; kept = r } })
       unfolding heldOf cutoffOf
       push-is closest d key r scored enter keep di ki first ln sc far nodes₀ seen front known low out s = record {
         frontier = subst (Queue (frontRank far) n (toFrontier far v front)) (sym front-is) (enter far n front (known .few) (known .f32s) same-key low (λ m. out (s .sub v m)) (s .frontier));
@@ -165,25 +166,26 @@ module _ (n b v : ℕ) (floats : List Float) (walk : Walk) (words nodes : List �
 
 -- ---- several
 
-pub record Going (n b count many : ℕ) (floats : List Float) (words₀ nodes₀ : List ℕ) (walk : Walk) (words nodes : List ℕ) (now : Walk) (i : ℕ) : Type 0 where
+-- the first i of the fresh nodes are pushed
+pub record Going (n b count many : ℕ) (m₀ m : Memory) (i : ℕ) : Type 0 where
   pub within : i ≤ many
-  pub words-kept : length words ≡ length words₀
-  pub nodes-kept : length nodes ≡ length nodes₀
-  pub frame : take (frontierAt n) words ≡ take (frontierAt n) words₀
-  pub so-far : (far : ℕ → Float) (old fresh : List ℕ) (s : State) → fresh ≡ take count (drop n words₀) → count ≡ length fresh → count ≤ n → NoDup (pushed far fresh s .seen)
-      → Below n (pushed far fresh s .seen) → Known far n (pushed far fresh s .seen) floats → Standing far n b old words₀ nodes₀ walk (s .seen) (s .front)
-      → Standing far n b old words nodes now (pushed far (take i fresh) s .seen) (pushed far (take i fresh) s .front)
+  pub words-kept : length (m .words) ≡ length (m₀ .words)
+  pub nodes-kept : length (m .nodes) ≡ length (m₀ .nodes)
+  pub frame : take (frontierAt n) (m .words) ≡ take (frontierAt n) (m₀ .words)
+  pub so-far : (far : ℕ → Float) (old fresh : List ℕ) (s : State) → fresh ≡ take count (drop n (m₀ .words)) → count ≡ length fresh → count ≤ n → NoDup (pushed far fresh s .seen)
+      → Below n (pushed far fresh s .seen) → Known far n (pushed far fresh s .seen) (m₀ .floats) → Standing far n b old m₀ (s .seen) (s .front)
+      → Standing far n b old m (pushed far (take i fresh) s .seen) (pushed far (take i fresh) s .front)
 
-pub going-none : (n b count many : ℕ) (floats : List Float) (words nodes : List ℕ) (walk : Walk) → Going n b count many floats words nodes walk words nodes walk 0
+pub going-none : (n b count many : ℕ) (m : Memory) → Going n b count many m m 0
 unfolding pushed
-going-none n b count many floats words nodes walk = record { within = omega arith; words-kept = refl; nodes-kept = refl; frame = refl; so-far = λ far old fresh s f c l d w k t. t }
+going-none n b count many m = record { within = omega arith; words-kept = refl; nodes-kept = refl; frame = refl; so-far = λ far old fresh s f c l d w k t. t }
 
-module _ {n b count many i : ℕ} {floats : List Float} {words₀ nodes₀ words nodes : List ℕ} {walk now : Walk} where
-  pub going-more : {words′ nodes′ : List ℕ} {r : Walk} → Going n b count many floats words₀ nodes₀ walk words nodes now i → many ≡ min count n → i < many → frontierAt n ≤ length words₀
-      → length words′ ≡ length words → length nodes′ ≡ length nodes → take (frontierAt n) words′ ≡ take (frontierAt n) words
-      → Pushing n b (getD words (n + i) 0) floats words words′ nodes nodes′ now r → Going n b count many floats words₀ nodes₀ walk words′ nodes′ r (i + 1)
+module _ {n b count many i : ℕ} {m₀ m : Memory} where
+  pub going-more : {m′ : Memory} → Going n b count many m₀ m i → m .floats ≡ m₀ .floats → many ≡ min count n → i < many → frontierAt n ≤ length (m₀ .words)
+      → length (m′ .words) ≡ length (m .words) → length (m′ .nodes) ≡ length (m .nodes) → take (frontierAt n) (m′ .words) ≡ take (frontierAt n) (m .words)
+      → Pushing n b (getD (m .words) (n + i) 0) m m′ → Going n b count many m₀ m′ (i + 1)
   unfolding pushed
-  going-more {words′} {nodes′} {r} g m h long lw ln f push = record {
+  going-more {m′} g same mi h long lw ln f push = record {
     within = omega arith;
     words-kept = lw ∙ g .words-kept;
     nodes-kept = ln ∙ g .nodes-kept;
@@ -191,20 +193,20 @@ module _ {n b count many i : ℕ} {floats : List Float} {words₀ nodes₀ words
     so-far = λ far old fresh s fi ci cn d w k t. one far old fresh s fi ci cn d w k (g .so-far far old fresh s fi ci cn d w k t);
   }
     where
-      one : (far : ℕ → Float) (old fresh : List ℕ) (s : State) → fresh ≡ take count (drop n words₀) → count ≡ length fresh → count ≤ n → NoDup (pushed far fresh s .seen)
-          → Below n (pushed far fresh s .seen) → Known far n (pushed far fresh s .seen) floats
-          → Standing far n b old words nodes now (pushed far (take i fresh) s .seen) (pushed far (take i fresh) s .front)
-          → Standing far n b old words′ nodes′ r (pushed far (take (i + 1) fresh) s .seen) (pushed far (take (i + 1) fresh) s .front)
+      one : (far : ℕ → Float) (old fresh : List ℕ) (s : State) → fresh ≡ take count (drop n (m₀ .words)) → count ≡ length fresh → count ≤ n → NoDup (pushed far fresh s .seen)
+          → Below n (pushed far fresh s .seen) → Known far n (pushed far fresh s .seen) (m₀ .floats)
+          → Standing far n b old m (pushed far (take i fresh) s .seen) (pushed far (take i fresh) s .front)
+          → Standing far n b old m′ (pushed far (take (i + 1) fresh) s .seen) (pushed far (take (i + 1) fresh) s .front)
       one far old fresh s fi ci cn d w k t =
-          subst (λ (q : State). Standing far n b old words′ nodes′ r (q .seen) (q .front)) (sym after)
+          subst (λ (q : State). Standing far n b old m′ (q .seen) (q .front)) (sym after)
           (push far old (before .seen) (before .front)
-          (subst (λ (y : ℕ). Known far n (y ∷ before .seen) floats) (sym node) known)
+          (subst (λ (l : List Float). Known far n (getD (m .words) (n + i) 0 ∷ before .seen) l) (sym same) (subst (λ (y : ℕ). Known far n (y ∷ before .seen) (m₀ .floats)) (sym node) known))
           (subst (λ (y : ℕ). y < n) (sym node) (w v (keeps v (here refl))))
           (subst (λ (y : ℕ). In y (before .seen) → ⊥) (sym node) (once .0))
           t)
         where
           at : i < length fresh
-          at = omega (arith, m)
+          at = omega (arith, mi)
 
           v : ℕ
           v = getD fresh i 0
@@ -224,24 +226,24 @@ module _ {n b count many i : ℕ} {floats : List Float} {words₀ nodes₀ words
           keeps : (x : ℕ) → In x (v ∷ before .seen) → In x (pushed far fresh s .seen)
           keeps x j = subst (λ (q : State). In x (q .seen)) (sym whole) (pushed-keeps far (drop (suc i) fresh) then x j)
 
-          known : Known far n (v ∷ before .seen) floats
+          known : Known far n (v ∷ before .seen) (m₀ .floats)
           known = record { few = k .few; f32s = k .f32s; there = λ x j. k .there x (keeps x j) }
 
-          node : getD words (n + i) 0 ≡ v
+          node : getD (m .words) (n + i) 0 ≡ v
           node =
-              sym (getD-take (frontierAt n) words (n + i) 0 (omega (arith, m)))
+              sym (getD-take (frontierAt n) (m .words) (n + i) 0 (omega (arith, mi)))
               ∙ ap (λ (l : List ℕ). getD l (n + i) 0) (g .frame)
-              ∙ getD-take (frontierAt n) words₀ (n + i) 0 (omega (arith, m))
-              ∙ sym (getD-drop n words₀ i 0)
-              ∙ sym (getD-take count (drop n words₀) i 0 (omega (arith, m)))
+              ∙ getD-take (frontierAt n) (m₀ .words) (n + i) 0 (omega (arith, mi))
+              ∙ sym (getD-drop n (m₀ .words) i 0)
+              ∙ sym (getD-take count (drop n (m₀ .words)) i 0 (omega (arith, mi)))
               ∙ ap (λ (l : List ℕ). getD l i 0) (sym fi)
 
-          after : pushed far (take (i + 1) fresh) s ≡ record { seen = getD words (n + i) 0 ∷ before .seen; front = toFrontier far (getD words (n + i) 0) (before .front) }
+          after : pushed far (take (i + 1) fresh) s ≡ record { seen = getD (m .words) (n + i) 0 ∷ before .seen; front = toFrontier far (getD (m .words) (n + i) 0) (before .front) }
           after =
               ap (λ (l : List ℕ). pushed far l s) (ap (λ (j : ℕ). take j fresh) (add-one i) ∙ take-suc fresh i 0 at)
               ∙ pushed-append far (take i fresh) (getD fresh i 0 ∷ []) s
               ∙ ap (λ (y : ℕ). record { seen = y ∷ before .seen; front = toFrontier far y (before .front) }) (sym node)
 
-  pub going-all : Going n b count many floats words₀ nodes₀ walk words nodes now i → many ≡ min count n → many ≤ i → PushingAll n b count floats words₀ words nodes₀ nodes walk now
-  going-all g m h long far old fresh s fi ci cn d w k t =
-      subst (λ (l : List ℕ). Standing far n b old words nodes now (pushed far l s .seen) (pushed far l s .front)) (take-all i fresh (omega (arith, m))) (g .so-far far old fresh s fi ci cn d w k t)
+  pub going-all : Going n b count many m₀ m i → many ≡ min count n → many ≤ i → PushingAll n b count m₀ m
+  going-all g mi h long far old fresh s fi ci cn d w k t =
+      subst (λ (l : List ℕ). Standing far n b old m (pushed far l s .seen) (pushed far l s .front)) (take-all i fresh (omega (arith, mi))) (g .so-far far old fresh s fi ci cn d w k t)

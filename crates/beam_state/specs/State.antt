@@ -13,7 +13,14 @@ use Rattle.def_walk.specs.Beam.{toFrontier}
 use Rattle.beam_state.specs.Queues.{frontRank, Queue, Held, Known}
 use Rattle.beam_state.specs.declared.Walk.{Walk}
 
--- the words from place a on, up to place e
+-- What a walk writes: its words and floats of scratch, the nodes of the answer, and its counts.
+pub record Memory : Type 0 where
+  pub words : List ℕ
+  pub floats : List Float
+  pub nodes : List ℕ
+  pub walk : Walk
+
+-- the words from index a on, up to index e
 abbrev pub part : ℕ → ℕ → List ℕ → List ℕ
 part a e words = take (e - a) (drop a words)
 
@@ -56,27 +63,27 @@ pub record AnswerHeld (far : ℕ → Float) (nodes₀ keys nodes : List ℕ) (ke
   pub kept-is : kept ≡ min (both keys nodes) (length seen)
   pub long : length nodes ≡ length nodes₀
 
--- Words, nodes and counts in which a walk over n nodes with b places stands that has seen these nodes, and has these in its frontier.
-pub record Standing (far : ℕ → Float) (n b : ℕ) (nodes₀ words nodes : List ℕ) (walk : Walk) (seen front : List ℕ) : Type 0 where
-  pub frontier : Queue (frontRank far) n front (frontierPart n words)
-  pub held : Held far (min b n) (heldOf far b seen) (heldPart n b words)
-  pub held-count : walk .held ≡ length (heldOf far b seen)
-  pub cutoff-is : walk .cutoff ≡ cutoffOf far b seen
-  pub answer : AnswerHeld far nodes₀ (keysPart n words) nodes (walk .kept) seen
-  pub scored-is : walk .scored ≡ length seen
+-- The memory of a walk over n nodes with b places that has seen these nodes, and has these in its frontier.
+pub record Standing (far : ℕ → Float) (n b : ℕ) (nodes₀ : List ℕ) (m : Memory) (seen front : List ℕ) : Type 0 where
+  pub frontier : Queue (frontRank far) n front (frontierPart n (m .words))
+  pub held : Held far (min b n) (heldOf far b seen) (heldPart n b (m .words))
+  pub held-count : m .walk .held ≡ length (heldOf far b seen)
+  pub cutoff-is : m .walk .cutoff ≡ cutoffOf far b seen
+  pub answer : AnswerHeld far nodes₀ (keysPart n (m .words)) (m .nodes) (m .walk .kept) seen
+  pub scored-is : m .walk .scored ≡ length seen
   pub once : NoDup seen
   pub inside : Below n seen
   pub sub : (x : ℕ) → In x front → In x seen
 
 -- one node more
-abbrev pub Pushing : ℕ → ℕ → ℕ → List Float → List ℕ → List ℕ → List ℕ → List ℕ → Walk → Walk → Type 0
-Pushing n b v floats words words′ nodes nodes′ walk r =
+abbrev pub Pushing : ℕ → ℕ → ℕ → Memory → Memory → Type 0
+Pushing n b v m m′ =
     (far : ℕ → Float) (nodes₀ seen front : List ℕ)
-    → Known far n (v ∷ seen) floats
+    → Known far n (v ∷ seen) (m .floats)
     → v < n
     → (In v seen → ⊥)
-    → Standing far n b nodes₀ words nodes walk seen front
-    → Standing far n b nodes₀ words′ nodes′ r (v ∷ seen) (toFrontier far v front)
+    → Standing far n b nodes₀ m seen front
+    → Standing far n b nodes₀ m′ (v ∷ seen) (toFrontier far v front)
 
 -- several, one after the other
 unfoldable pub pushed : (ℕ → Float) → List ℕ → State → State
@@ -85,15 +92,15 @@ pushed far [] s = s
 pushed far (v ∷ vs) s = pushed far vs (record { seen = v ∷ s .seen; front = toFrontier far v (s .front) })
 
 -- the first `count` of the fresh nodes, which are all different and all new, and have their distances
-abbrev pub PushingAll : ℕ → ℕ → ℕ → List Float → List ℕ → List ℕ → List ℕ → List ℕ → Walk → Walk → Type 0
-PushingAll n b count floats words words′ nodes nodes′ walk r =
-    wordsFor n ≤ length words →
-    (far : ℕ → Float) (nodes₀ fresh : List ℕ) (s : State)
-    → fresh ≡ take count (drop n words)
+abbrev pub PushingAll : ℕ → ℕ → ℕ → Memory → Memory → Type 0
+PushingAll n b count m m′ =
+    wordsFor n ≤ length (m .words)
+    → (far : ℕ → Float) (nodes₀ fresh : List ℕ) (s : State)
+    → fresh ≡ take count (drop n (m .words))
     → count ≡ length fresh
     → count ≤ n
     → NoDup (pushed far fresh s .seen)
     → Below n (pushed far fresh s .seen)
-    → Known far n (pushed far fresh s .seen) floats
-    → Standing far n b nodes₀ words nodes walk (s .seen) (s .front)
-    → Standing far n b nodes₀ words′ nodes′ r (pushed far fresh s .seen) (pushed far fresh s .front)
+    → Known far n (pushed far fresh s .seen) (m .floats)
+    → Standing far n b nodes₀ m (s .seen) (s .front)
+    → Standing far n b nodes₀ m′ (pushed far fresh s .seen) (pushed far fresh s .front)

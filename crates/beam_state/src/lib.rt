@@ -66,8 +66,9 @@ fn push(
 ) -> Walk
     requires { ⌜ wordsFor size ≤ length (now words) ⌝ }
     ensures marks { λ _. ⌜ take (frontierAt size) (now (words .exit)) ≡ take (frontierAt size) (now (words .entry)) ⌝ }
-    ensures pushed { λ r. ⌜ Pushing size places (node .0) (now (floats .entry))
-        (now (words .entry)) (now (words .exit)) (now (nodes .entry)) (now (nodes .exit)) walk r ⌝ }
+    ensures pushed { λ r. ⌜ Pushing size places (node .0)
+        (record { words = now (words .entry); floats = now (floats .entry); nodes = now (nodes .entry); walk = walk })
+        (record { words = now (words .exit); floats = now (floats .entry); nodes = now (nodes .exit); walk = r }) ⌝ }
 {
     let distance = queues::distance_of(floats, node);
     let key = order::key(distance);
@@ -104,8 +105,9 @@ pub fn push_all(
     count: usize,
 ) -> Walk
     ensures marks { λ _. ⌜ take (frontierAt size) (now (words .exit)) ≡ take (frontierAt size) (now (words .entry)) ⌝ }
-    ensures pushed { λ r. ⌜ PushingAll size places count (now (floats .entry))
-        (now (words .entry)) (now (words .exit)) (now (nodes .entry)) (now (nodes .exit)) walk r ⌝ }
+    ensures pushed { λ r. ⌜ PushingAll size places count
+        (record { words = now (words .entry); floats = now (floats .entry); nodes = now (nodes .entry); walk = walk })
+        (record { words = now (words .exit); floats = now (floats .entry); nodes = now (nodes .exit); walk = r }) ⌝ }
 {
     if words.len() / WORDS < size {
         return walk;

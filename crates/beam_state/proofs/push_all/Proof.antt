@@ -9,7 +9,8 @@ use Rattle.beam_state.proofs.push_all.Statement.{statement}
 use Rattle.beam_state.proofs.push_all.Tie as tie
 
 abbrev Inv-loop : tie.InvT-loop
-Inv-loop words₀ floats nodes₀ size places count many now₀ i₀ words nodes now i = Going size places count many floats words₀ nodes₀ now₀ words nodes now i
+Inv-loop words₀ floats nodes₀ size places count many now₀ i₀ words nodes now i =
+    Going size places count many (record { words = words₀; floats = floats; nodes = nodes₀; walk = now₀ }) (record { words = words; floats = floats; nodes = nodes; walk = now }) i
 
 abbrev μ-loop : tie.MeasureT-loop
 μ-loop words₀ floats nodes₀ size places count many now₀ i₀ words nodes now i = many - i
@@ -18,7 +19,7 @@ returns : tie.Need-returns Inv-loop μ-loop
 returns c = (refl, λ long. absurd (omega (arith, c .if1 .taken)))
 
 loop-holds : tie.Need-loop-holds Inv-loop μ-loop
-loop-holds c = let a = (c .before .before .before .before .before) .args in going-none (a .size) (a .places) (a .count) (c .lesser .result) (a .floats .now) (a .words .now) (a .nodes .now) (a .walk)
+loop-holds c = let a = (c .before .before .before .before .before) .args in going-none (a .size) (a .places) (a .count) (c .lesser .result) _
 
 add-node : tie.Need-add-t16 Inv-loop μ-loop
 add-node c = omega (arith, (c .before .before .before) .if1 .left, (c .before .before) .lesser .ensures, c .loop-test .taken)
@@ -27,7 +28,14 @@ push-requires : tie.Need-push-requires Inv-loop μ-loop
 push-requires c κs = let g = c .before .before .before .before .loop .inv .words-kept in omega (arith, (c .before .before .before .before .before .before) .if1 .left)
 
 loop-again : tie.Need-loop-again Inv-loop μ-loop
-loop-again c = let l = c .before .before .before .before .before .before .before .before .before .loop in let p = c .before .before .before .before .push in going-more (l .inv) (c .before .before .before .before .before .before .before .before .before .before .lesser .ensures) (c .before .before .before .before .before .before .before .before .loop-test .taken) (omega (arith, c .before .before .before .before .before .before .before .before .before .before .before .if1 .left)) (p .kept .0) (p .kept .1 .1 .0) (p .ensures .0) (p .ensures .1)
+loop-again c =
+    let at-push = c .before .before .before .before in
+    let at-loop-test = at-push .before .before .before .before in
+    let at-loop = at-loop-test .before in
+    let at-lesser = at-loop .before in
+    let p = at-push .push in
+    going-more {m′ = record { words = p .last .0; floats = _; nodes = p .last .1 .1 .0; walk = p .result }} (at-loop .loop .inv) refl (at-lesser .lesser .ensures)
+    (at-loop-test .loop-test .taken) (omega (arith, at-lesser .before .if1 .left)) (p .kept .0) (p .kept .1 .1 .0) (p .ensures .0) (p .ensures .1)
 
 same-length : tie.Need-same-length Inv-loop μ-loop
 same-length c = c .before .loop .inv .words-kept
