@@ -8,7 +8,7 @@ use native.Mathlib.Decide.{ℕ-discrete, decLt}
 use lib.ListN.{length, getD, set, replicate, length-set, length-replicate}
 use lib.Seq.{getD-set-same, getD-set-other, set-out}
 use Rattle.basics.specs.Nodes.{Below}
-use Rattle.basics.specs.Rows.{Rows}
+use Rattle.basics.specs.Inside.Rows.{Rows}
 
 empty-at : (n u : ℕ) → _≡_ {A = List ℕ} (getD (replicate n []) u []) []
 empty-at zero u = refl

@@ -4,4 +4,4 @@ pub mod Sum
 pub mod Nodes
 pub mod Lists
 pub mod Graph
-pub mod Rows
+pub mod Inside

@@ -20,21 +20,21 @@ use Rattle.basics.proofs.Counting.{at-most}
 use Rattle.sorting.specs.Sorting.{sortBy, both}
 use Rattle.sorting.proofs.Laws.{length-sort, first-in}
 use Rattle.sorting.proofs.Pairs.{none-kept}
-use Rattle.beam_state.specs.Tournament.{emptyRank, Tournament}
+use Rattle.beam_state.specs.Inside.Tournament.{emptyRank, Tournament}
 use Rattle.def_walk.specs.Walk.{State, visit, expand}
 use Rattle.def_walk.specs.KeepClosest.{keyAt, insertIn, heldOf, cutoffOf}
 use Rattle.def_walk.specs.Beam.{toFrontier, walked, beamSearch, answerOf}
 use Rattle.def_walk.proofs.beam.Reverse.{in-reverse}
-use Rattle.beam_state.specs.Queues.{frontRank}
+use Rattle.beam_state.specs.Inside.Queues.{frontRank}
 use Rattle.beam_state.proofs.queues.Laws.{empty-queue}
 use Rattle.beam_state.proofs.queues.Holding.{none-held}
-use Rattle.neighbours.specs.Gathering.{freshEnd, GatheringAll}
-use Rattle.beam_state.specs.State.{part, frontierAt, heldAt, keysAt, wordsFor, heldEnd, frontierPart, heldPart, keysPart, Memory, AnswerHeld, Standing}
+use Rattle.neighbours.specs.Inside.Gathering.{freshEnd, GatheringAll}
+use Rattle.beam_state.specs.Inside.State.{part, frontierAt, heldAt, keysAt, wordsFor, heldEnd, frontierPart, heldPart, keysPart, Memory, AnswerHeld, Standing}
 use Rattle.beam_state.specs.declared.Walk.{Walk}
 use Rattle.beam_state.proofs.Parts.{lay, lay-length, part-here, part-before, take-before}
 use Rattle.beam_search.specs.declared.Sizes.{Sizes}
-use Rattle.beam_search.specs.Search.{within, Reads, farOf, scoredBy, Searched}
-use Rattle.beam_search.specs.Steps.{Between, TakingIn, walkOn, Prepared, Starting, PutDistances}
+use Rattle.beam_search.specs.Inside.Search.{within, Reads, farOf, scoredBy, Searched}
+use Rattle.beam_search.specs.Inside.Steps.{Between, TakingIn, walkOn, Prepared, Starting, PutDistances}
 use Rattle.beam_search.proofs.Taking.{gathered-in, same-mark}
 
 -- ---- room

@@ -12,7 +12,7 @@ use Rattle.basics.specs.Choice.{pick, pick-ind, pick-yes}
 use Rattle.basics.specs.Nodes.{has, NoDup, Below}
 use Rattle.basics.proofs.Counting.{in-has, in-or-not, at-most}
 use Rattle.def_walk.specs.Walk.{State, visit, expand, walk}
-use Rattle.beam_search.specs.Search.{within}
+use Rattle.beam_search.specs.Inside.Search.{within}
 
 -- the entries of a graph's lists are nodes of it
 pub within-below : (n : ℕ) (l : List ℕ) → Below n (within n l)

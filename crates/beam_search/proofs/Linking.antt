@@ -11,12 +11,12 @@ use Rattle.basics.specs.Lists.{pieces}
 use Rattle.basics.proofs.Pieces.{length-pieces, pieces-more}
 use Rattle.store.specs.Layout.{word, bridgeSize}
 use Rattle.store.specs.View.{bridgeIn}
-use Rattle.lists.specs.Words.{blockAt}
+use Rattle.lists.specs.Inside.Words.{blockAt}
 use Rattle.lists.proofs.Reading.{block-word}
-use Rattle.lists.specs.Chains.{chainBridge, slotsFrom, Chained, bridgesIn}
+use Rattle.lists.specs.Inside.Chains.{chainBridge, slotsFrom, Chained, bridgesIn}
 use Rattle.lists.proofs.chains.Laws.{chain-more}
-use Rattle.neighbours.specs.Gathering.{Linked}
-use Rattle.beam_search.specs.Steps.{Linking}
+use Rattle.neighbours.specs.Inside.Gathering.{Linked}
+use Rattle.beam_search.specs.Inside.Steps.{Linking}
 
 -- bridge j of some words
 abbrev bridgeOf : ℕ → List ℕ → Bridge

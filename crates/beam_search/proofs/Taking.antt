@@ -16,18 +16,18 @@ use Rattle.basics.specs.Nodes.{has, NoDup, Below}
 use Rattle.basics.proofs.Counting.{at-most}
 use Rattle.def_walk.specs.Walk.{State, visit, expand}
 use Rattle.def_walk.specs.Beam.{toFrontier}
-use Rattle.beam_state.specs.Queues.{frontRank, Queue, Held, Known}
-use Rattle.neighbours.specs.Scoring.{scoredAt}
+use Rattle.beam_state.specs.Inside.Queues.{frontRank, Queue, Held, Known}
+use Rattle.neighbours.specs.Inside.Scoring.{scoredAt}
 use Rattle.neighbours.proofs.scoring.Laws.{scored-known, scored-keeps}
-use Rattle.lists.specs.Words.{rowLists, bridgeList}
-use Rattle.neighbours.specs.Gathering.{Fresh, visitOne, gatherFresh, freshEnd, FreshIn, GatheringAll, Linked, GatheringList}
-use Rattle.beam_state.specs.State.{part, frontierAt, heldAt, keysAt, wordsFor, heldEnd, Memory, AnswerHeld, Standing, PushingAll, pushed}
+use Rattle.lists.specs.Inside.Words.{rowLists, bridgeList}
+use Rattle.neighbours.specs.Inside.Gathering.{Fresh, visitOne, gatherFresh, freshEnd, FreshIn, GatheringAll, Linked, GatheringList}
+use Rattle.beam_state.specs.Inside.State.{part, frontierAt, heldAt, keysAt, wordsFor, heldEnd, Memory, AnswerHeld, Standing, PushingAll, pushed}
 use Rattle.beam_state.specs.declared.Walk.{Walk}
 use Rattle.beam_state.proofs.Parts.{part-behind}
 use Rattle.beam_state.proofs.Pushed.{pushed-append}
 use Rattle.beam_search.specs.declared.Sizes.{Sizes}
-use Rattle.beam_search.specs.Search.{within, Reads, farOf, listsOf}
-use Rattle.beam_search.specs.Steps.{Between, TakenIn, TakingIn}
+use Rattle.beam_search.specs.Inside.Search.{within, Reads, farOf, listsOf}
+use Rattle.beam_search.specs.Inside.Steps.{Between, TakenIn, TakingIn}
 
 -- what stands does not depend on the floats
 standing-in : {far : ℕ → Float} {n b : ℕ} {nodes₀ words nodes : List ℕ} {w : Walk} {seen front : List ℕ} (floats floats′ : List Float)

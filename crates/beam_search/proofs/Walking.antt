@@ -16,17 +16,17 @@ use Rattle.basics.proofs.Tests.{one-true, both-false}
 use Rattle.def_walk.specs.Walk.{State, expand, walk}
 use Rattle.def_walk.specs.KeepClosest.{heldOf}
 use Rattle.def_walk.specs.Beam.{stopFactor, stopMultiplier, toFrontier, tooFar, tooMany}
-use Rattle.beam_state.specs.Queues.{frontRank, Queue, Held, Taken, Popping}
+use Rattle.beam_state.specs.Inside.Queues.{frontRank, Queue, Held, Taken, Popping}
 use Rattle.words.specs.declared.ids.Node.{Node}
 use Rattle.beam_state.specs.declared.queues.Popped.{Popped}
 use Rattle.beam_state.specs.declared.queues.Popped.the-variants.{At, Empty}
-use Rattle.neighbours.specs.Gathering.{Linked}
-use Rattle.beam_state.specs.State.{part, frontierAt, heldAt, keysAt, wordsFor, heldEnd, frontierPart, Memory, AnswerHeld}
+use Rattle.neighbours.specs.Inside.Gathering.{Linked}
+use Rattle.beam_state.specs.Inside.State.{part, frontierAt, heldAt, keysAt, wordsFor, heldEnd, frontierPart, Memory, AnswerHeld}
 use Rattle.beam_state.specs.declared.Walk.{Walk}
 use Rattle.beam_state.proofs.Parts.{lay, lay-length, part-here, part-after, take-before}
 use Rattle.beam_search.specs.declared.Sizes.{Sizes}
-use Rattle.beam_search.specs.Search.{Reads, farOf, listsOf}
-use Rattle.beam_search.specs.Steps.{Between, walkOn, Stepping, Walking}
+use Rattle.beam_search.specs.Inside.Search.{Reads, farOf, listsOf}
+use Rattle.beam_search.specs.Inside.Steps.{Between, walkOn, Stepping, Walking}
 use Rattle.beam_search.proofs.Taking.{same-mark, Expanding}
 use Rattle.beam_search.proofs.Full.{all-seen, same, walk-full, within-below}
 

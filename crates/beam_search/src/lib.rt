@@ -7,7 +7,7 @@
 // left of the definition's walk finds nothing then. The answer is kept in order from the first
 // node on, so that nothing is sorted at the end.
 //
-// It computes the walk and the answer of `beam`; specs/Search says of which graph: the entries of the lists
+// It computes the walk and the answer of `beam`; specs/Inside/Search says of which graph: the entries of the lists
 // that are below the number of nodes. Scratch is 11 words (`beam_state` has their layout) and a float for each
 // node; what it held before has no effect. Before the walk goes on from the entry node, bridges, where there
 // are any, are linked (`chains`) in a local array of 16 KB, so that an expansion looks at its node's own
@@ -20,9 +20,9 @@ ghost use lib.Ieee.{binary32, mul, lt};
 ghost use lib.ListN.{length, take};
 ghost use Rattle.distance.specs.Vectors.{vectorsIn};
 ghost use Rattle.def_walk.specs.Beam.{farFrom, stopFactor, stopMultiplier};
-ghost use Rattle.beam_state.specs.State.{frontierAt, wordsFor};
-ghost use Rattle.beam_search.specs.Steps.{Linking, TakingIn, Stepping, Walking, WalkingLinked, Prepared, Starting, PutDistances};
-ghost use Rattle.beam_search.specs.Search.{Searching};
+ghost use Rattle.beam_state.specs.Inside.State.{frontierAt, wordsFor};
+ghost use Rattle.beam_search.specs.Inside.Steps.{Linking, TakingIn, Stepping, Walking, WalkingLinked, Prepared, Starting, PutDistances};
+ghost use Rattle.beam_search.specs.Inside.Search.{Searching};
 use beam_state::Walk;
 use beam_state::queues;
 use beam_state::queues::Popped;

@@ -10,7 +10,7 @@ use Rattle.sorting.specs.Sorting.{firstBy, pairs, keyIn, idIn, both, idsOf, kep
 use Rattle.sorting.proofs.Laws.{length-first, first-map}
 use Rattle.sorting.proofs.Pairs.{kept-are, pairs-put}
 use Rattle.def_walk.specs.KeepClosest.{keyAt}
-use Rattle.beam_state.specs.State.{pairOf, AnswerHeld}
+use Rattle.beam_state.specs.Inside.State.{pairOf, AnswerHeld}
 
 map-ids : (far : ℕ → Float) (l : List ℕ) → map idIn (map (pairOf far) l) ≡ l
 map-ids far [] = refl

@@ -5,7 +5,7 @@ use Prim.Native.Nat.{ℕ, _+_, _-_, _≤_}
 use native.Mathlib.Omega.{arith}
 use lib.ListN.{length, take, drop, length-append, length-drop, take-append-drop}
 use lib.Seq.{length-take-le, take-at, drop-at, take-append-le, drop-append-le, drop-append-add, drop-drop, take-take}
-use Rattle.beam_state.specs.State.{part}
+use Rattle.beam_state.specs.Inside.State.{part}
 
 -- words with a part written anew
 abbrev pub lay : ℕ → ℕ → List ℕ → List ℕ → List ℕ

@@ -7,7 +7,7 @@ use lib.Ieee.{Float}
 use Rattle.basics.specs.Nodes.{NoDup}
 use Rattle.def_walk.specs.Walk.{State}
 use Rattle.def_walk.specs.Beam.{toFrontier}
-use Rattle.beam_state.specs.State.{pushed}
+use Rattle.beam_state.specs.Inside.State.{pushed}
 
 module _ (far : ℕ → Float) where
   pub pushed-append : (xs ys : List ℕ) (s : State) → pushed far (xs ++ ys) s ≡ pushed far ys (pushed far xs s)

@@ -19,11 +19,11 @@ use Rattle.sorting.specs.Sorting.{keptPairs, keptKeys, keptIds}
 use Rattle.def_walk.specs.Walk.{State}
 use Rattle.def_walk.specs.KeepClosest.{keyAt, sooner, replaceWorst, keepClosest, heldOf, cutoffOf}
 use Rattle.def_walk.specs.Beam.{toFrontier}
-use Rattle.beam_state.specs.Queues.{frontRank, Queue, Held, Known, Entering, Keeping}
+use Rattle.beam_state.specs.Inside.Queues.{frontRank, Queue, Held, Known, Entering, Keeping}
 use Rattle.beam_state.specs.declared.queues.Closest.{Closest}
 use Rattle.beam_state.proofs.queues.Laws.{in-insert}
 use Rattle.beam_state.proofs.queues.Holding.{hold-length}
-use Rattle.beam_state.specs.State.{part, frontierAt, heldAt, keysAt, wordsFor, heldEnd, frontierPart, keysPart, Memory, Standing, Pushing, PushingAll, pushed}
+use Rattle.beam_state.specs.Inside.State.{part, frontierAt, heldAt, keysAt, wordsFor, heldEnd, frontierPart, keysPart, Memory, Standing, Pushing, PushingAll, pushed}
 use Rattle.beam_state.specs.declared.Walk.{Walk}
 use Rattle.beam_state.proofs.Parts.{lay, lay-length, part-here, part-before, part-after, take-before}
 use Rattle.beam_state.proofs.Pushed.{pushed-append, pushed-keeps, pushed-once}
@@ -130,9 +130,9 @@ module _ (n b v : ℕ) (floats : List Float) (walk : Walk) (words nodes : List �
             (subst (Held far (min b n) (keepClosest far b v (heldOf far b seen))) (sym held-is) (kept .stands));
         held-count = kept .count;
         cutoff-is = kept .cutoff;
-        answer = subst (λ (k : List ℕ). Rattle.beam_state.specs.State.AnswerHeld far nodes₀ k nodes′ r (v ∷ seen)) (sym keys-is)
+        answer = subst (λ (k : List ℕ). Rattle.beam_state.specs.Inside.State.AnswerHeld far nodes₀ k nodes′ r (v ∷ seen)) (sym keys-is)
             (answer-more far nodes₀ (keysPart n w₂) nodes (walk .kept) v key r seen z nodes′ same-key first lz ln
-            (subst (λ (k : List ℕ). Rattle.beam_state.specs.State.AnswerHeld far nodes₀ k nodes (walk .kept) seen) (sym keys-was) (s .answer)));
+            (subst (λ (k : List ℕ). Rattle.beam_state.specs.Inside.State.AnswerHeld far nodes₀ k nodes (walk .kept) seen) (sym keys-was) (s .answer)));
         scored-is = let few = known .few in let all = at-most n seen (s .once) (s .inside) in omega (arith, sc, s .scored-is);
         once = (out, s .once);
         inside = λ u m. below u (in-cons m);
@@ -153,7 +153,7 @@ module _ (n b v : ℕ) (floats : List Float) (walk : Walk) (words nodes : List �
           slot : length (heldOf far b seen) < b → length (heldOf far b seen) < min b n
           slot h = let f = held-few far b seen in let all = at-most n (v ∷ seen) (out, s .once) (λ u m. below u (in-cons m)) in omega arith
 
-          kept : Rattle.beam_state.specs.Queues.Kept far (min b n) b v (heldOf far b seen) y closest
+          kept : Rattle.beam_state.specs.Inside.Queues.Kept far (min b n) b v (heldOf far b seen) y closest
           kept = keep far v (min b n) (heldOf far b seen) (known .f32s) same-distance same-key (s .held-count) slot
               (subst (Held far (min b n) (heldOf far b seen)) (sym held-was) (subst (λ (i : ℕ). Held far (min b n) (heldOf far b seen) (part (heldAt n) i words)) (sym e-is) (s .held)))
 

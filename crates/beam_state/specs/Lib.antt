@@ -1,3 +1,1 @@
-pub mod State
-pub mod Tournament
-pub mod Queues
+pub mod Inside

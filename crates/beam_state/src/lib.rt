@@ -12,7 +12,7 @@
 //   KEYS * n      n      the keys of the answer's nodes
 //   WORDS * n            the end
 //
-// specs/State has the same names: `frontierAt`, `heldAt`, `keysAt`, `wordsFor`. The answer's nodes stand in the
+// specs/Inside/State  has the same names: `frontierAt`, `heldAt`, `keysAt`, `wordsFor`. The answer's nodes stand in the
 // slice that the caller wants them in, nearest first: `keep_first` keeps the first of what it is offered, as
 // many as that slice has room for, so that nothing is sorted at the end. Counts and the cutoff are a struct by
 // value.
@@ -22,7 +22,7 @@ pub mod tournament;
 ghost use mathlib.Core.Path.{_≡_};
 ghost use Prim.Native.Nat.{_+_, _≤_, min};
 ghost use lib.ListN.{length, take};
-ghost use Rattle.beam_state.specs.State.{frontierAt, wordsFor, Pushing, PushingAll};
+ghost use Rattle.beam_state.specs.Inside.State.{frontierAt, wordsFor, Pushing, PushingAll};
 use distance::order;
 use words::ids::Node;
 use words::slices;

@@ -7,7 +7,7 @@
 // distance's key, complemented so that the worst is first, and its place: a nearer node then takes the
 // worst's place, whichever node that was, since the cutoff is all that is asked of the held. The distances of
 // nodes stand in a slice of floats, each at its node. Every function is total; what it promises speaks of
-// trees that stand for some list of nodes (`Queue` and `Held` of specs/Queues), and of that list as the
+// trees that stand for some list of nodes (`Queue` and `Held` of specs/Inside/Queues), and of that list as the
 // definitions of `beam` change it.
 //
 // proofs/Laws     the frontier: empty, a node put in, the first taken out
@@ -17,8 +17,8 @@ ghost use mathlib.Core.Path.{_≡_};
 ghost use mathlib.Core.Bool.{false};
 ghost use lib.Ieee.{inf};
 ghost use lib.ListN.{getD};
-ghost use Rattle.beam_state.specs.Tournament.{Putting};
-ghost use Rattle.beam_state.specs.Queues.{Popping, Worst, Keeping, Entering, heldRank};
+ghost use Rattle.beam_state.specs.Inside.Tournament.{Putting};
+ghost use Rattle.beam_state.specs.Inside.Queues.{Popping, Worst, Keeping, Entering, heldRank};
 use super::tournament;
 use distance::order;
 use words::ids::Node;

@@ -8,12 +8,12 @@
 // which no pair comes after. A put goes up from its place to pair 1, a step for each halving of the size, and
 // takes the lesser of two in each step without a branch: id and key are one number of 64 bits, its rank.
 //
-// Every function is total. What a tree stands for is `Tournament` of specs/Tournament; proofs/Laws says that
+// Every function is total. What a tree stands for is `Tournament` of specs/Inside/Tournament; proofs/Laws says that
 // its first pair is one of the places' and that no place's comes before it.
 ghost use mathlib.Core.Path.{_≡_};
 ghost use Prim.Native.Nat.{_*_, _+_, _-_, _/_, _%_, _<_};
 ghost use lib.ListN.{length, replicate};
-ghost use Rattle.beam_state.specs.Tournament.{rankOf, rankAt, withPair, emptyRank, Tournament, firstOf, Putting, Climbing};
+ghost use Rattle.beam_state.specs.Inside.Tournament.{rankOf, rankAt, withPair, emptyRank, Tournament, firstOf, Putting, Climbing};
 use words::slices;
 
 const NOTHING: u32 = 0xffff_ffff;

@@ -20,14 +20,14 @@ use Rattle.def_walk.specs.Repair.{ensureConnectivity}
 use Rattle.store.specs.Layout.{word, builtState, stateAt, dimensionAt, nodesAt, degreeAt, entryAt, bridgeCountAt, capacityAt, rowsAt, rowSize, bridgesAt}
 use Rattle.store.specs.View.{view, rowBlock, bridgeBlock, paramsOf}
 use Rattle.store.proofs.Reading.{vectors-read}
-use Rattle.lists.specs.Words.{Blocks}
+use Rattle.lists.specs.Inside.Words.{Blocks}
 use Rattle.lists.proofs.Blocks.{blocks-length}
 use Rattle.lists.proofs.Parts.{rowPart, vectorPart, vectors-part}
 use Rattle.def_calls.specs.Graph.{settingsOf, graphOf, graphFor}
 use Rattle.def_calls.specs.Build.{laid, builtHeader, builtWords}
 use Rattle.def_calls.proofs.Laid.{laid-there}
 use Rattle.def_calls.proofs.Taken.{BuildTaken}
-use Rattle.build.specs.Fits.{RowsFit, shapeOf, RepairFits, RepairPut, withRepair}
+use Rattle.build.specs.Inside.Fits.{RowsFit, shapeOf, RepairFits, RepairPut, withRepair}
 use Rattle.build.proofs.Laid.{put-laid, set-laid}
 
 module _ (ws fs : ℕ) (w : List ℕ) (f : List Float) (taken : BuildTaken ws fs w f) where

@@ -13,27 +13,27 @@ use lib.Ieee.{Float}
 use borrow.Author.Tests.{le-leb, lt-leb}
 use Rattle.basics.specs.Choice.{pick-ind, pick-true, pick-false}
 use Rattle.basics.specs.Nodes.{Below}
-use Rattle.basics.specs.Rows.{Rows}
+use Rattle.basics.specs.Inside.Rows.{Rows}
 use mathlib.Core.List.{List·Memᴰ·append-cases as in-cases}
 use Rattle.params.specs.declared.PipnnParams.{PipnnParams}
 use Rattle.distance.specs.Vectors.{vectorsIn}
 use Rattle.def_graph.specs.Partition.{leavesOf}
-use Rattle.def_graph.specs.Occurrences.{weigh, entries}
+use Rattle.def_graph.specs.Inside.Occurrences.{weigh, entries}
 use Rattle.def_graph.proofs.partition.Laws.{entries-once, entries-twice, leaves-below}
 use Rattle.def_graph.specs.Leaf.{buildLeaves}
 use Rattle.def_graph.specs.Refine.{addReverseEdges}
-use Rattle.carving.specs.Carving.{nonEmpty, Laid, Partitioned}
+use Rattle.carving.specs.Inside.Carving.{nonEmpty, Laid, Partitioned}
 use Rattle.carving.proofs.Leaves.{flatten-full, length-full}
 use Rattle.carving.proofs.Build.{build-full}
 use Rattle.build_leaf.specs.declared.LeafParams.{LeafParams}
-use Rattle.build_leaf.specs.Built.{Sizes, LeavesIn, Built}
-use Rattle.finish.specs.Reversed.{Reversed}
+use Rattle.build_leaf.specs.Inside.Built.{Sizes, LeavesIn, Built}
+use Rattle.finish.specs.Inside.Reversed.{Reversed}
 use Rattle.def_graph.specs.Rows.{Settings, leafRows, reversedRows, rowsOf}
 use Rattle.def_graph.proofs.graph_rows.Laws.{leaf-bounds, prune-changes-nothing}
-use Rattle.lists.specs.Words.{Blocks}
+use Rattle.lists.specs.Inside.Words.{Blocks}
 use Rattle.lists.proofs.Blocks.{cleared-blocks}
 use Rattle.def_calls.specs.Graph.{settingsOf}
-use Rattle.build.specs.Fits.{leafEntries, leafOf, LeavesPut, RowsFit}
+use Rattle.build.specs.Inside.Fits.{leafEntries, leafOf, LeavesPut, RowsFit}
 use Rattle.build.proofs.Repairing.{vectors-many}
 
 pub entries-most : (n maxLeaf : ℕ) → leafEntries n maxLeaf ≤ 2 * n

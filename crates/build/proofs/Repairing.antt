@@ -20,11 +20,11 @@ use Rattle.def_walk.proofs.graph_utils.Laws.{repair-few}
 use Rattle.store.specs.Layout.{builtState, stateAt, entryAt, bridgeCountAt, bridgesAt, bridgeSize}
 use Rattle.store.specs.View.{bridgeBlock}
 use Rattle.store.proofs.Reading.{pairs-sized}
-use Rattle.lists.specs.Words.{rowLists, Blocks}
+use Rattle.lists.specs.Inside.Words.{rowLists, Blocks}
 use Rattle.lists.proofs.Blocks.{rows-read-back}
-use Rattle.graph_utils.specs.Connectivity.{Repairable, withBridges, Repairs}
+use Rattle.graph_utils.specs.Inside.Connectivity.{Repairable, withBridges, Repairs}
 use Rattle.def_calls.specs.Build.{laid}
-use Rattle.build.specs.Fits.{withRepair}
+use Rattle.build.specs.Inside.Fits.{withRepair}
 
 -- ---- the vectors of n nodes
 

@@ -13,14 +13,14 @@ use lib.Dec.{leb}
 use Rattle.basics.specs.Choice.{pick-ind}
 use Rattle.basics.proofs.Members.{in-getD, in-take, in-drop}
 use Rattle.random.specs.Hyperplanes.{planeNumbers}
-use Rattle.simhash.specs.Blocks.{planeBlocks}
+use Rattle.simhash.specs.Inside.Blocks.{planeBlocks}
 use Rattle.simhash.proofs.Blocks.{length-blocks}
 use Rattle.distance.specs.Vectors.{vectorsIn}
 use Rattle.def_graph.specs.Leaf.{buildLeaf, buildLeaves}
 use Rattle.def_graph.proofs.leaf.Laws.{build-append}
-use Rattle.lists.specs.Words.{Blocks}
+use Rattle.lists.specs.Inside.Words.{Blocks}
 use Rattle.build_leaf.specs.declared.LeafParams.{LeafParams}
-use Rattle.build_leaf.specs.Built.{Setting, LeafHeld, LeafBuilt, LeavesIn, LeavesBuilt, PlanesMade}
+use Rattle.build_leaf.specs.Inside.Built.{Setting, LeafHeld, LeafBuilt, LeavesIn, LeavesBuilt, PlanesMade}
 use Rattle.build_leaf.proofs.Rows.{places-length}
 
 -- ---- where leaves stand

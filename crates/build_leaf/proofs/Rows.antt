@@ -18,13 +18,13 @@ use Rattle.def_graph.specs.Leaf.{selected, merged, hashpruneInsert, candidatesA
 use Rattle.def_graph.proofs.leaf.Laws.{merged-short, candidates-in, candidates-few}
 use Rattle.store.specs.Layout.{rowSize}
 use Rattle.store.specs.View.{rowBlock}
-use Rattle.lists.specs.Words.{Blocks}
+use Rattle.lists.specs.Inside.Words.{Blocks}
 use Rattle.lists.proofs.Blocks.{block-length, blocks-length, nth-block, put-block}
-use Rattle.hashprune.specs.Hashprune.{Inserted}
-use Rattle.build_leaf.specs.Lanes.{Distances}
-use Rattle.build_leaf.specs.Candidates.{LaneFits, LaneReady, CandidatesAre, Candidates}
+use Rattle.hashprune.specs.Inside.Hashprune.{Inserted}
+use Rattle.build_leaf.specs.Inside.Lanes.{Distances}
+use Rattle.build_leaf.specs.Inside.Candidates.{LaneFits, LaneReady, CandidatesAre, Candidates}
 use Rattle.build_leaf.specs.declared.LeafParams.{LeafParams}
-use Rattle.build_leaf.specs.Built.{Sizes, Setting, RowPut, PlacePut, LeafHeld, PlacesPut, LeafBuilt}
+use Rattle.build_leaf.specs.Inside.Built.{Sizes, Setting, RowPut, PlacePut, LeafHeld, PlacesPut, LeafBuilt}
 
 -- where a row starts is a number that a word of the machine holds
 pub place-fits : (a b : ℕ) → a ≤ 4294967295 → b ≤ 65536 → a * b ≤ 4294967295 * 65536

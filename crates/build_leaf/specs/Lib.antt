@@ -1,3 +1,1 @@
-pub mod Built
-pub mod Lanes
-pub mod Candidates
+pub mod Inside

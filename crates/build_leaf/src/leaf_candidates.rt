@@ -5,12 +5,12 @@
 // what sorting and cutting leaves (`keep-more` of Rattle.sorting), and most are refused at the cost of
 // one comparison. The distances are those that `leaf_distances` leaves in one lane of its floats.
 //
-// specs/Candidates   what is offered, and what the candidates are
-// proofs/Laws        places for nodes: sorting sees both alike
+// specs/Inside/Candidates  what is offered, and what the candidates are
+// proofs/Laws              places for nodes: sorting sees both alike
 ghost use Prim.Native.Nat.{_+_, _-_, _*_, _≤_, _<_};
 ghost use lib.ListN.{length};
 ghost use Rattle.basics.specs.Nodes.{Below};
-ghost use Rattle.build_leaf.specs.Candidates.{Offered, NearestPlaces, NodesAt, Candidates, LanesSized, LaneFits};
+ghost use Rattle.build_leaf.specs.Inside.Candidates.{Offered, NearestPlaces, NodesAt, Candidates, LanesSized, LaneFits};
 use distance::order;
 use words::slices;
 

@@ -6,14 +6,14 @@
 // ways, at a quarter of their cost; and only eight rows of the table have to be kept. The distance of
 // place j to the eighth g stands at 8 · j + g, so the eight are written side by side.
 //
-// specs/Lanes   what is put where
-// proofs/Laws   lanes of a block: one written, the others kept
+// specs/Inside/Lanes  what is put where
+// proofs/Laws         lanes of a block: one written, the others kept
 ghost use mathlib.Core.Path.{_≡_};
 ghost use mathlib.Core.List.{_++_};
 ghost use Prim.Native.Nat.{_+_, _*_, _≤_, _<_};
 ghost use lib.ListN.{length, take, drop};
 ghost use Rattle.distance.specs.Vectors.{vectorsIn};
-ghost use Rattle.build_leaf.specs.Lanes.{eightList, LanePut, BlockTurned, LanesFilled, Distances};
+ghost use Rattle.build_leaf.specs.Inside.Lanes.{eightList, LanePut, BlockTurned, LanesFilled, Distances};
 use distance::vectors;
 use simd::Eight;
 use words::ids::Node;

@@ -6,15 +6,15 @@
 // its node (hashprune). The hyperplanes are made once a call. Every function is total; what is in the rows
 // afterwards is said of rows as a build makes them, where the sizes fit.
 //
-// specs/Built    what the functions leave of the rows
-// proofs/Rows    one row, one place, eight places, a leaf
-// proofs/Leaves  leaf after leaf
+// specs/Inside/Built  what the functions leave of the rows
+// proofs/Rows         one row, one place, eight places, a leaf
+// proofs/Leaves       leaf after leaf
 pub mod leaf_candidates;
 pub mod leaf_distances;
 
 ghost use Prim.Native.Nat.{_+_, _≤_, _<_};
 ghost use lib.ListN.{length};
-ghost use Rattle.build_leaf.specs.Built.{RowPut, PlacePut, PlacesPut, LeafBuilt, LeavesBuilt, PlanesMade, Built};
+ghost use Rattle.build_leaf.specs.Inside.Built.{RowPut, PlacePut, PlacesPut, LeafBuilt, LeavesBuilt, PlanesMade, Built};
 use hashprune::Point;
 use random::hyperplanes;
 use words::ids::Node;

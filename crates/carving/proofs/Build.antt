@@ -6,7 +6,7 @@ use Prim.Native.Nat.{ℕ}
 use lib.Ieee.{Float}
 use Rattle.basics.specs.Choice.{pick}
 use Rattle.def_graph.specs.Leaf.{buildLeaf, buildLeaves}
-use Rattle.carving.specs.Carving.{nonEmpty}
+use Rattle.carving.specs.Inside.Carving.{nonEmpty}
 use Rattle.carving.proofs.Leaves.{full-more}
 
 module _ (maxDegree bits dimension : ℕ) (vs : List (List Float)) where

@@ -14,11 +14,11 @@ use Rattle.basics.specs.Choice.{pick, pick-true, pick-false, pick-ind}
 use Rattle.random.specs.Leaders.{upTo}
 use Rattle.random.proofs.leaders.Draws.{length-upTo}
 use Rattle.def_graph.specs.Partition.{fanout, isLeaf, bucketsOf, carveSegment, carveBuckets, leavesOf, eachBy, segment-equation}
-use Rattle.dealing.specs.Marks.{run, marksOf}
-use Rattle.dealing.specs.Deal.{Fitting, Holding}
+use Rattle.dealing.specs.Inside.Marks.{run, marksOf}
+use Rattle.dealing.specs.Inside.Deal.{Fitting, Holding}
 use Rattle.dealing.proofs.Marks.{marks-one, flatten-one, length-run}
-use Rattle.carving.specs.Carving.{nonEmpty, Laid}
-use Rattle.carving.specs.Steps.{firstSize, Dealing, CarvesSegment}
+use Rattle.carving.specs.Inside.Carving.{nonEmpty, Laid}
+use Rattle.carving.specs.Inside.Steps.{firstSize, Dealing, CarvesSegment}
 use Rattle.carving.proofs.Leaves.{First, first-of, first-size, none-left, flatten-full}
 
 -- ---- the fanout

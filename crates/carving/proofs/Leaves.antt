@@ -10,10 +10,10 @@ use lib.Seq.{drop-cons, drop-at, drop-drop, take-all, take-suc-set, append-snoc}
 use borrow.Author.Tests.{eq-eqb, ne-eqb}
 use Rattle.basics.specs.Choice.{pick, pick-true, pick-false, pick-ind}
 use Rattle.def_graph.specs.Partition.{eachBy}
-use Rattle.dealing.specs.Marks.{run, marksOf}
+use Rattle.dealing.specs.Inside.Marks.{run, marksOf}
 use Rattle.dealing.proofs.Marks.{flatten-append, marks-append, length-run, length-marks}
-use Rattle.carving.specs.Carving.{nonEmpty}
-use Rattle.carving.specs.Steps.{zeroes, firstSize}
+use Rattle.carving.specs.Inside.Carving.{nonEmpty}
+use Rattle.carving.specs.Inside.Steps.{zeroes, firstSize}
 
 -- ---- zeroes, one at a time
 

@@ -1,2 +1,1 @@
-pub mod Carving
-pub mod Steps
+pub mod Inside

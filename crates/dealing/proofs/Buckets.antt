@@ -9,7 +9,7 @@ use lib.ListN.{length, getD, set, take, drop, length-append, length-take, take-a
 use lib.Seq.{take-suc, take-all, length-take-le}
 use Rattle.basics.specs.Choice.{pick, pick-true, pick-false}
 use Rattle.basics.proofs.Loops.{front-set, front-length}
-use Rattle.dealing.specs.Cards.{names, bucketAt}
+use Rattle.dealing.specs.Inside.Cards.{names, bucketAt}
 
 joined : (b : Bool) (x : ℕ) (all front back : List ℕ) → all ≡ front ++ back → pick b (x ∷ all) all ≡ pick b (x ∷ front) front ++ back
 unfolding pick

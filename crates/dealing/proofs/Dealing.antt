@@ -18,10 +18,10 @@ use Rattle.basics.proofs.Loops.{front-set}
 use Rattle.random.specs.Leaders.{upTo, drawn, drawStart, drawnInto, leaderCount, leaderPositions}
 use Rattle.random.proofs.leaders.Positions.{length-positions}
 use Rattle.def_graph.specs.Partition.{keep, nearestLeaders, dealt, leadersOf, gathered, bucketsOf, fanout}
-use Rattle.def_graph.specs.Occurrences.{entries}
+use Rattle.def_graph.specs.Inside.Occurrences.{entries}
 use Rattle.def_graph.proofs.partition.Dealing.{nearest-below, nearest-length, dealt-weight}
-use Rattle.dealing.specs.Deal.{Fitting}
-use Rattle.dealing.specs.Cards.{cardOf, names, bucketAt, bucketsBy}
+use Rattle.dealing.specs.Inside.Deal.{Fitting}
+use Rattle.dealing.specs.Inside.Cards.{cardOf, names, bucketAt, bucketsBy}
 use Rattle.dealing.proofs.Gathering.{ones}
 
 or-same : (a : Bool) → (a || a) ≡ (a || false)

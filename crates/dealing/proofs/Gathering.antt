@@ -14,11 +14,11 @@ use borrow.Author.Tests.{le-leb, lt-leb, eq-eqb, ne-eqb}
 use Rattle.basics.specs.Choice.{pick, pick-ind, pick-true, pick-false}
 use Rattle.random.specs.Leaders.{upTo}
 use Rattle.def_graph.specs.Partition.{Gathered, gatherOne, gatherAll, ontoLast, gathered}
-use Rattle.def_graph.specs.Occurrences.{weigh, entries}
+use Rattle.def_graph.specs.Inside.Occurrences.{weigh, entries}
 use Rattle.def_graph.proofs.partition.Gathering.{all-weight, weighAll-append}
-use Rattle.dealing.specs.Marks.{run, marksOf}
-use Rattle.dealing.specs.Cards.{bucketAt, bucketsBy}
-use Rattle.dealing.specs.Steps.{Holds, Gathers, Roomy, noneYet}
+use Rattle.dealing.specs.Inside.Marks.{run, marksOf}
+use Rattle.dealing.specs.Inside.Cards.{bucketAt, bucketsBy}
+use Rattle.dealing.specs.Inside.Steps.{Holds, Gathers, Roomy, noneYet}
 use Rattle.dealing.proofs.Marks.{length-run, length-marks, flatten-snoc, marks-snoc, marks-one}
 
 -- ---- a part put behind what is placed

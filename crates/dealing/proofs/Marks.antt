@@ -4,7 +4,7 @@ use mathlib.Core.List.{List, [], _∷_, _++_, flatten, append-assoc, append-nil}
 use Prim.Native.Nat.{ℕ, zero, suc, _≤_, _<_}
 use native.Mathlib.Omega.{arith}
 use lib.ListN.{length, set, replicate, length-append, length-replicate}
-use Rattle.dealing.specs.Marks.{run, marksOf}
+use Rattle.dealing.specs.Inside.Marks.{run, marksOf}
 
 pub length-run : (first n : ℕ) → length (run first n) ≡ n
 unfolding run

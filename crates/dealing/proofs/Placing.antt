@@ -7,7 +7,7 @@ use lib.ListN.{length, take, drop, length-drop, drop-of-length-le}
 use lib.Seq.{length-take-le, drop-drop}
 use borrow.Rule.Slice.PartMut.{putMid}
 use Rattle.words.proofs.slices.Laws.{copied-whole as whole-copy}
-use Rattle.dealing.specs.Marks.{run}
+use Rattle.dealing.specs.Inside.Marks.{run}
 
 -- as many words as there is room for
 pub copied-whole : (to from x : List ℕ) → length to ≡ length from → x ≡ take (length to) from ++ drop (length from) to → x ≡ from

@@ -1,4 +1,1 @@
-pub mod Marks
-pub mod Cards
-pub mod Steps
-pub mod Deal
+pub mod Inside

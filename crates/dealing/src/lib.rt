@@ -3,7 +3,7 @@
 //
 // `deal` draws leaders from a segment, finds for each node the nearest of them (at level 0 the two
 // nearest), and writes the buckets one after the other over `nodes`, where small ones have gathered, with
-// a mark at the first node of each. Equal to `bucketsOf` of the crate partition; specs/Marks says how
+// a mark at the first node of each. Equal to `bucketsOf` of the crate partition; specs/Inside/Marks says how
 // buckets stand in the two slices. It works in two slices of scratch that the caller passes, so that no
 // large array stands in its frame. Leans on `leaders` for the draws, on `vectors`, `distance` and `order`
 // for how near a leader is, on `sorting` for the nearest.
@@ -16,10 +16,10 @@ ghost use Rattle.basics.specs.Choice.{pick};
 ghost use Rattle.distance.specs.Vectors.{vectorsIn, rank};
 ghost use Rattle.random.specs.Leaders.{drawn, drawStart, upTo};
 ghost use Rattle.def_graph.specs.Partition.{fanout, nearestLeaders, gathered, gatherAll};
-ghost use Rattle.dealing.specs.Marks.{run, marksOf};
-ghost use Rattle.dealing.specs.Cards.{cardOf, names, bucketAt, bucketsBy};
-ghost use Rattle.dealing.specs.Deal.{Fitting, Holding, Deals, bucketsFor};
-ghost use Rattle.dealing.specs.Steps.{Holds, Gathers, Roomy, Dealt, noneYet};
+ghost use Rattle.dealing.specs.Inside.Marks.{run, marksOf};
+ghost use Rattle.dealing.specs.Inside.Cards.{cardOf, names, bucketAt, bucketsBy};
+ghost use Rattle.dealing.specs.Inside.Deal.{Fitting, Holding, Deals, bucketsFor};
+ghost use Rattle.dealing.specs.Inside.Steps.{Holds, Gathers, Roomy, Dealt, noneYet};
 use distance::order;
 use distance::vectors;
 use random::leaders;

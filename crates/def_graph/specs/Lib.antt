@@ -1,8 +1,8 @@
 pub mod Partition
-pub mod Occurrences
 pub mod Simhash
 pub mod Leaf
 pub mod Refine
 pub mod Rows
 pub mod Centroid
 pub mod Medoid
+pub mod Inside

@@ -14,21 +14,21 @@
 // final prune (`final_prune`) thins out rows of more than max_degree entries, of which there are none by then.
 // The entry node is the node nearest to the centroid (`compute_medoid`).
 //
-// specs/Partition          fanout, dealing, gathering, carveSegment and carveBuckets with their equations
-// specs/Occurrences        what the laws of carving count
-// specs/Simhash            the hash of a residual, a bit for each hyperplane
-// specs/Leaf               hash cells, one node's row, a leaf, all leaves
-// specs/Refine             reverse edges and the final prune, over rows as a list of lists
-// specs/Centroid, Medoid   the centroid of the vectors and the node nearest to it, the entry node
-// specs/Rows               Settings, `rowsOf` and `entryOf`: parts 1 to 6 as one definition of the lists and the entry node
-// proofs/partition/Laws    over all leaves each node occurs once if n <= max_leaf_size, else exactly twice; no
-//                          other number occurs; how many entries there are
-// proofs/leaf/Planes       a plane is a part of the first numbers of the stream
-// proofs/leaf/Cells        cells stand in strictly rising order and are no more than the candidates
-// proofs/leaf/Laws         n rows stay n rows, at most max_degree entries each, all of them nodes of the leaves
-// proofs/refine/Laws       both keep the rows within their bounds; the final prune leaves such rows as they are
-// proofs/graph_rows/Laws   what demand 3 needs: n rows, entries below n, at most max_degree a row, an
-//                          entry node below n; the final prune changes nothing
-// proofs/*/Examples        leaves and graphs that compute: 01's worked example, and others whose outcome is the Rust's
+// specs/Partition           fanout, dealing, gathering, carveSegment and carveBuckets with their equations
+// specs/Inside/Occurrences  what the laws of carving count
+// specs/Simhash             the hash of a residual, a bit for each hyperplane
+// specs/Leaf                hash cells, one node's row, a leaf, all leaves
+// specs/Refine              reverse edges and the final prune, over rows as a list of lists
+// specs/Centroid,           Medoid   the centroid of the vectors and the node nearest to it, the entry node
+// specs/Rows                Settings, `rowsOf` and `entryOf`: parts 1 to 6 as one definition of the lists and the entry node
+// proofs/partition/Laws     over all leaves each node occurs once if n <= max_leaf_size, else exactly twice; no
+//                           other number occurs; how many entries there are
+// proofs/leaf/Planes        a plane is a part of the first numbers of the stream
+// proofs/leaf/Cells         cells stand in strictly rising order and are no more than the candidates
+// proofs/leaf/Laws          n rows stay n rows, at most max_degree entries each, all of them nodes of the leaves
+// proofs/refine/Laws        both keep the rows within their bounds; the final prune leaves such rows as they are
+// proofs/graph_rows/Laws    what demand 3 needs: n rows, entries below n, at most max_degree a row, an
+//                           entry node below n; the final prune changes nothing
+// proofs/*/Examples         leaves and graphs that compute: 01's worked example, and others whose outcome is the Rust's
 //
 // Leans on `random` for the streams and on `sorting` and `distance` for the nearest.

@@ -7,7 +7,7 @@ use lib.Ieee.{Float, Format, binary32, inf, sub}
 use Rattle.basics.specs.Choice.{pick}
 use Rattle.basics.specs.Sum.{+one}
 use Rattle.simd.specs.Dot.{dotOf}
-use Rattle.simd.specs.Eight.{eightOf, eightIn}
+use Rattle.simd.specs.Inside.Eight.{eightOf, eightIn}
 use Rattle.simd.specs.declared.Eight.{Eight}
 
 unfoldable pub distanceOf : Format → List Float → List Float → Float

@@ -1,1 +1,1 @@
-pub mod Reversed
+pub mod Inside

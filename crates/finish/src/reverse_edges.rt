@@ -5,14 +5,14 @@
 // rows change: the turn does not change the node's own row, since a node that is in its own row is not added
 // to it again (`own-row` of proofs/Laws).
 //
-// specs/Reversed   what the functions leave of rows as a build makes them
-// proofs/Entry     one row: whether it holds a node, its words with the node at the end
-// proofs/Laws      a node's own row in its turn; what the words are after each step
+// specs/Inside/Reversed  what the functions leave of rows as a build makes them
+// proofs/Entry           one row: whether it holds a node, its words with the node at the end
+// proofs/Laws            a node's own row in its turn; what the words are after each step
 ghost use mathlib.Core.Path.{_≡_};
 ghost use lib.ListN.{length};
 ghost use Prim.Native.Nat.{_≤_};
 ghost use Rattle.basics.specs.Nodes.{has};
-ghost use Rattle.finish.specs.Reversed.{Reversed, Turned, BackAdded, EntryAdded};
+ghost use Rattle.finish.specs.Inside.Reversed.{Reversed, Turned, BackAdded, EntryAdded};
 use words::ids::Node;
 use words::slices;
 

@@ -14,19 +14,19 @@ use Rattle.basics.specs.Nodes.{has}
 use Rattle.basics.specs.Graph.{Bridge, listOf}
 use Rattle.basics.proofs.Loops.{front-set}
 use Rattle.store.specs.View.{bridgeBlock}
-use Rattle.lists.specs.Words.{rowLists}
-use Rattle.lists.specs.Chains.{clearedLinks, chainBridge, Chained, bridgesIn}
+use Rattle.lists.specs.Inside.Words.{rowLists}
+use Rattle.lists.specs.Inside.Chains.{clearedLinks, chainBridge, Chained, bridgesIn}
 use Rattle.lists.proofs.chains.Laws.{chain-none, chain-more, length-chained, chained-ends, laid-bridges}
 use Rattle.lists.specs.declared.Shape.{Shape}
-use Rattle.lists.specs.Lists.{listWords}
+use Rattle.lists.specs.Inside.Lists.{listWords}
 use Rattle.graph_utils.proofs.marking.Refining.{Marked, mark-marked}
-use Rattle.graph_utils.specs.Candidates.{startOf}
+use Rattle.graph_utils.specs.Inside.Candidates.{startOf}
 use Rattle.graph_utils.proofs.candidates.Refining.{start-refines}
 use Rattle.def_walk.specs.Repair.{markReachable, Repaired, bridgeTo, turn, turnsTo, ensureConnectivity}
 use Rattle.def_walk.proofs.graph_utils.Bridges.{Ends, AllEnds, list-below}
 use Rattle.def_walk.proofs.graph_utils.Laws.{Turned, turns-turned}
-use Rattle.graph_utils.specs.Connectivity.{withBridges, Repairable}
-use Rattle.graph_utils.specs.Turns.{Work, putBridge, bridged, turned, begun, turnedTo, repaired}
+use Rattle.graph_utils.specs.Inside.Connectivity.{withBridges, Repairable}
+use Rattle.graph_utils.specs.Inside.Turns.{Work, putBridge, bridged, turned, begun, turnedTo, repaired}
 
 -- ---- words of bridges
 

@@ -9,12 +9,12 @@ use lib.ListN.{getD}
 use lib.Ieee.{Float}
 use borrow.Author.Tests.{eq-eqb, ne-eqb}
 use Rattle.basics.specs.Choice.{pick-ind, pick-true, pick-false}
-use Rattle.lists.specs.Chains.{clearedLinks, chainBridge}
+use Rattle.lists.specs.Inside.Chains.{clearedLinks, chainBridge}
 use Rattle.lists.specs.declared.Shape.{Shape}
-use Rattle.lists.specs.Lists.{listWords}
-use Rattle.graph_utils.specs.Marking.{marked}
-use Rattle.graph_utils.specs.Candidates.{startOf}
-use Rattle.graph_utils.specs.Turns.{Work, work, putBridge, bridged, turned, begun, turnedTo}
+use Rattle.lists.specs.Inside.Lists.{listWords}
+use Rattle.graph_utils.specs.Inside.Marking.{marked}
+use Rattle.graph_utils.specs.Inside.Candidates.{startOf}
+use Rattle.graph_utils.specs.Inside.Turns.{Work, work, putBridge, bridged, turned, begun, turnedTo}
 
 module _ (h : Shape) (rows : List ℕ) (vs : List (List Float)) (entry : ℕ) where
   -- ---- a turn

@@ -1,4 +1,1 @@
-pub mod Turns
-pub mod Connectivity
-pub mod Marking
-pub mod Candidates
+pub mod Inside

@@ -3,12 +3,12 @@
 // that is reached, or the entry. The first n words of `state` are marks. A node's list is its row, then its
 // bridges' other ends; a cursor of `chains` goes along it. A node that is not reached is not scored.
 //
-// specs/Candidates   candidates on words, with the distance kept
-// proofs/Refining    it is `nearestReached` of the definition
+// specs/Inside/Candidates  candidates on words, with the distance kept
+// proofs/Refining          it is `nearestReached` of the definition
 ghost use mathlib.Core.Path.{_≡_};
-ghost use Rattle.lists.specs.Lists.{listWords};
+ghost use Rattle.lists.specs.Inside.Lists.{listWords};
 ghost use Rattle.distance.specs.Vectors.{vectorsIn};
-ghost use Rattle.graph_utils.specs.Candidates.{seeking, considered, consideredAll, around, aroundList, startOf};
+ghost use Rattle.graph_utils.specs.Inside.Candidates.{seeking, considered, consideredAll, around, aroundList, startOf};
 use distance::vectors;
 use lists::Shape;
 use lists::chains;

@@ -6,18 +6,18 @@
 // `ensure_connectivity` is total. On at most 1,024 nodes with entries among them it is the definition's
 // `ensureConnectivity`; what the scratch held does not show.
 //
-// specs/Connectivity   what it leaves behind
-// specs/Turns          the turns on words
-// proofs/Refining      they are the definition's turns
+// specs/Inside/Connectivity  what it leaves behind
+// specs/Inside/Turns         the turns on words
+// proofs/Refining            they are the definition's turns
 pub mod candidates;
 pub mod marking;
 
 ghost use mathlib.Core.Path.{_≡_};
 ghost use Prim.Native.Nat.{_≤_, _<_};
-ghost use Rattle.lists.specs.Words.{rowLists};
+ghost use Rattle.lists.specs.Inside.Words.{rowLists};
 ghost use Rattle.distance.specs.Vectors.{vectorsIn};
-ghost use Rattle.graph_utils.specs.Connectivity.{Repairs};
-ghost use Rattle.graph_utils.specs.Turns.{work, putBridge, turned, repaired};
+ghost use Rattle.graph_utils.specs.Inside.Connectivity.{Repairs};
+ghost use Rattle.graph_utils.specs.Inside.Turns.{work, putBridge, turned, repaired};
 use lists::Shape;
 use lists::chains;
 use words::ids::Node;

@@ -5,11 +5,11 @@
 // Every function is total and equal to its definition on words. On n nodes of which marks and stack are those
 // of a list of reached nodes, that is the definition of repair.
 //
-// specs/Marking     marking on words
-// proofs/Refining   it is the walk of the definition
+// specs/Inside/Marking  marking on words
+// proofs/Refining       it is the walk of the definition
 ghost use mathlib.Core.Path.{_≡_};
-ghost use Rattle.lists.specs.Lists.{listWords};
-ghost use Rattle.graph_utils.specs.Marking.{marks, visited, visitedAll, marked};
+ghost use Rattle.lists.specs.Inside.Lists.{listWords};
+ghost use Rattle.graph_utils.specs.Inside.Marking.{marks, visited, visitedAll, marked};
 use lists::Shape;
 use lists::chains;
 use words::ids::Node;

@@ -22,7 +22,7 @@ use Rattle.sorting.specs.Sorting.{pairs}
 use Rattle.def_graph.specs.Leaf.{Cell, nodesIn, putCell, cellsFrom}
 use Rattle.def_graph.proofs.leaf.Cells.{hashesIn, cells-in}
 use Rattle.hashprune.proofs.Lists.{length-inserted}
-use Rattle.hashprune.specs.Steps.{cellIn, cellsIn, AllBelow, Placed, insertedAt, firstPlaces}
+use Rattle.hashprune.specs.Inside.Steps.{cellIn, cellsIn, AllBelow, Placed, insertedAt, firstPlaces}
 
 -- ---- where a hash belongs
 

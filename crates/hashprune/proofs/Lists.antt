@@ -10,7 +10,7 @@ use lib.ListN.{length, getD, set, take, drop, length-take, length-drop, length-a
 use lib.Seq.{take-at, drop-cons, drop-length, getD-at, length-take-le}
 use lib.Ieee.{Float}
 use Rattle.words.proofs.slices.Laws.{copied, copied-more}
-use Rattle.hashprune.specs.Steps.{insertedAt}
+use Rattle.hashprune.specs.Inside.Steps.{insertedAt}
 
 pub length-inserted : (l : List ℕ) (j v : ℕ) → length (insertedAt j v l) ≡ suc (length l)
 length-inserted l j v = simp (length-append, length-take, length-drop) (omega arith)

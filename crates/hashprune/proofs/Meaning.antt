@@ -23,13 +23,13 @@ use Rattle.distance.specs.Vectors.{vectorsIn, vectorOf, between, rank}
 use Rattle.def_graph.specs.Simhash.{residual}
 use Rattle.def_graph.specs.Leaf.{Cell, nodesIn, putCell, cellsFrom, dedup, hashOf, selected, merged}
 use Rattle.def_graph.proofs.leaf.Cells.{cells-in}
-use Rattle.simhash.specs.Blocks.{blocksHash}
+use Rattle.simhash.specs.Inside.Blocks.{blocksHash}
 use Rattle.simhash.proofs.Residual.{length-residual}
 use Rattle.simhash.proofs.Laws.{hash-is-simhash}
 use Rattle.store.specs.View.{entriesIn, rowBlock}
 use Rattle.hashprune.specs.declared.Point.{Point}
-use Rattle.hashprune.specs.Steps.{farAt, hashAt, firstPlaces, cellsOf, rankedPlace, rankedNode, selectedPairs, oldPairs, mergedPairs, rowAfter}
-use Rattle.hashprune.specs.Hashprune.{Turn}
+use Rattle.hashprune.specs.Inside.Steps.{farAt, hashAt, firstPlaces, cellsOf, rankedPlace, rankedNode, selectedPairs, oldPairs, mergedPairs, rowAfter}
+use Rattle.hashprune.specs.Inside.Hashprune.{Turn}
 use Rattle.hashprune.proofs.Cells.{cells-below, places-below}
 
 -- ---- lists

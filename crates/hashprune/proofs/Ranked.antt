@@ -9,7 +9,7 @@ use Rattle.sorting.specs.Sorting.{sortBy, pairs, keyIn, idIn, keysOf, idsOf, so
 use Rattle.sorting.proofs.Laws.{length-sort, take-map}
 use Rattle.sorting.proofs.Pairs.{length-pairs, length-front, pairs-append, pairs-of, pairs-put}
 use Rattle.words.proofs.slices.Laws.{copied, copied-more}
-use Rattle.hashprune.specs.Steps.{Selected}
+use Rattle.hashprune.specs.Inside.Steps.{Selected}
 use Rattle.hashprune.proofs.Lists.{take-least}
 
 -- ---- the loop

@@ -15,7 +15,7 @@ use Rattle.basics.proofs.Tests.{both-true, one-false}
 use Rattle.def_graph.specs.Leaf.{startsWith, dedup}
 use Rattle.store.specs.View.{entriesIn, rowBlock}
 use Rattle.words.proofs.slices.Laws.{copied, copied-more}
-use Rattle.hashprune.specs.Steps.{rankedNode, oldPairs}
+use Rattle.hashprune.specs.Inside.Steps.{rankedNode, oldPairs}
 
 -- ---- entries
 

@@ -8,7 +8,7 @@
 // size are enough, and a call with more changes nothing.
 //
 // `hashprune_insert` is total. That its row is `merged .. (selected ..)` of Rattle.leaf holds where the
-// caller prepared what `Turn` of specs/Hashprune says, planes among it. specs/Steps has what the steps say of
+// caller prepared what `Turn` of specs/Inside/Hashprune says, planes among it. specs/Inside/Steps has what the steps say of
 // each other.
 ghost use mathlib.Core.Path.{_≡_};
 ghost use mathlib.Core.List.{map};
@@ -23,10 +23,10 @@ ghost use Rattle.distance.specs.Vectors.{vectorsIn, vectorOf};
 ghost use Rattle.sorting.specs.Sorting.{pairs, keysOf, idsOf, sortedKeys, sortedIds};
 ghost use Rattle.def_graph.specs.Leaf.{putCell, dedup};
 ghost use Rattle.store.specs.View.{rowBlock};
-ghost use Rattle.hashprune.specs.Steps.{cellIn, cellsIn, Placed, insertedAt, farAt, winner, ContestRoom, hashBy, cellsOf};
-ghost use Rattle.hashprune.specs.Steps.{CellRoom, PlaceRoom, RowRoom, SortRoom, SelectRoom, Selected, MergeRoom, TurnRoom, TurnScratch, rowAfter};
-ghost use Rattle.hashprune.specs.Steps.{rankedPlace, selectedPairs, oldPairs, mergedPairs};
-ghost use Rattle.hashprune.specs.Hashprune.{Inserted};
+ghost use Rattle.hashprune.specs.Inside.Steps.{cellIn, cellsIn, Placed, insertedAt, farAt, winner, ContestRoom, hashBy, cellsOf};
+ghost use Rattle.hashprune.specs.Inside.Steps.{CellRoom, PlaceRoom, RowRoom, SortRoom, SelectRoom, Selected, MergeRoom, TurnRoom, TurnScratch, rowAfter};
+ghost use Rattle.hashprune.specs.Inside.Steps.{rankedPlace, selectedPairs, oldPairs, mergedPairs};
+ghost use Rattle.hashprune.specs.Inside.Hashprune.{Inserted};
 use distance::order;
 use distance::vectors;
 use words::ids::Node;
@@ -378,7 +378,7 @@ fn insert_fitting(
 
 // The turn of a node: `row` is its row, a count and D entries with D at most 32, `candidates` are at most
 // 64 nodes in their order with their distances from it in `far`, and `planes` the blocks of hyperplanes.
-// It is promised for sizes that fit (`Turn` of specs/Hashprune); for others it is safe, and no more is said.
+// It is promised for sizes that fit (`Turn` of specs/Inside/Hashprune); for others it is safe, and no more is said.
 pub fn hashprune_insert(
     vectors: &[f32],
     point: Point,

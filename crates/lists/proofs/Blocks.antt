@@ -12,7 +12,7 @@ use Rattle.basics.proofs.Rows.{set-row, empty-rows}
 use Rattle.store.specs.Layout.{rowSize}
 use Rattle.store.specs.View.{entriesIn, rowBlock}
 use Rattle.store.proofs.Reading.{Short, blocks-sized, rows-back}
-use Rattle.lists.specs.Words.{rowLists, Blocks}
+use Rattle.lists.specs.Inside.Words.{rowLists, Blocks}
 use Rattle.lists.proofs.Flat.{flatten-at, flatten-set}
 
 short-all : (D : ℕ) (rows : List (List ℕ)) → ((u : ℕ) → length (getD rows u []) ≤ D) → Short D rows

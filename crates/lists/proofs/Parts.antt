@@ -9,7 +9,7 @@ use Rattle.basics.specs.Lists.{pieces}
 use Rattle.store.specs.Layout.{word, dimensionAt, nodesAt, degreeAt, bridgeCountAt, capacityAt, rowsAt, rowSize, bridgesAt, bridgeSize}
 use Rattle.store.specs.View.{view, rowWords, bridgeWords, entriesIn, bridgeIn}
 use Rattle.store.proofs.Sizes.{Room}
-use Rattle.lists.specs.Words.{rowLists, bridgeList}
+use Rattle.lists.specs.Inside.Words.{rowLists, bridgeList}
 use Rattle.lists.proofs.Flat.{front-pieces}
 
 module _ (w : List ℕ) (f : List Float) (r : Room w f) where

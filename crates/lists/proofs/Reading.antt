@@ -9,7 +9,7 @@ use Rattle.basics.specs.Lists.{pieces}
 use Rattle.basics.proofs.Whole.{whole-piece, no-piece}
 use Rattle.store.specs.Layout.{word, rowSize}
 use Rattle.store.specs.View.{entriesIn}
-use Rattle.lists.specs.Words.{blockAt, rowLists}
+use Rattle.lists.specs.Inside.Words.{blockAt, rowLists}
 
 pub block-word : (size i k : ℕ) (ws : List ℕ) → k < size → word (blockAt size i ws) k ≡ word ws (i * size + k)
 block-word size i k ws h = getD-take size (drop (i * size) ws) k 0 h ∙ getD-drop (i * size) ws k 0

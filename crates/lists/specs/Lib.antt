@@ -1,3 +1,1 @@
-pub mod Words
-pub mod Chains
-pub mod Lists
+pub mod Inside

@@ -8,15 +8,15 @@
 //
 // Every function is total. On any content each link leads to a larger one, so that a reader's loop ends.
 //
-// specs/Chains    what is read from a link on, how a bridge is appended, and when chains are those of bridges
-// specs/Lists     a node's list, and what is left of it from a cursor on
-// proofs/Reading  the equations of a chain's reader: none, one more
-// proofs/Cursors  the equations of a list's reader: none left, one more
-// proofs/Laws     chains with one bridge more; what a reader finds is the other ends, in order
+// specs/Inside/Chains  what is read from a link on, how a bridge is appended, and when chains are those of bridges
+// specs/Inside/Lists   a node's list, and what is left of it from a cursor on
+// proofs/Reading       the equations of a chain's reader: none, one more
+// proofs/Cursors       the equations of a list's reader: none left, one more
+// proofs/Laws          chains with one bridge more; what a reader finds is the other ends, in order
 ghost use mathlib.Core.Path.{_≡_};
 ghost use Prim.Native.Nat.{_-_, _<_, _^_};
-ghost use Rattle.lists.specs.Chains.{otherEndAt, firstLink, nextLink, clearedLinks, linkPlace, appendSlot, chainBridge};
-ghost use Rattle.lists.specs.Lists.{cursorAt, hasEntry, entryAt, nextCursor};
+ghost use Rattle.lists.specs.Inside.Chains.{otherEndAt, firstLink, nextLink, clearedLinks, linkPlace, appendSlot, chainBridge};
+ghost use Rattle.lists.specs.Inside.Lists.{cursorAt, hasEntry, entryAt, nextCursor};
 use words::ids::Node;
 use words::slices;
 

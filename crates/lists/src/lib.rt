@@ -13,16 +13,16 @@
 // touched by what writes them: `add_entry` of reverse_edges, which looks through the row that it adds to,
 // `write_row` of hashprune, `put_bridge` of connectivity, and build, which clears rows and copies bridges.
 //
-// specs/Words     a block of words, the rows and bridges that words stand for, the words a build makes of rows
-// proofs/Reading  a word of a block, and a row, from its block
-// proofs/Blocks   rows as a build leaves them: how long, what is read back, one row put in place
+// specs/Inside/Words  a block of words, the rows and bridges that words stand for, the words a build makes of rows
+// proofs/Reading      a word of a block, and a row, from its block
+// proofs/Blocks       rows as a build leaves them: how long, what is read back, one row put in place
 pub mod chains;
 
 ghost use mathlib.Core.Path.{_≡_};
 ghost use mathlib.Core.List.{[]};
 ghost use lib.ListN.{getD};
 ghost use Rattle.store.specs.Layout.{word, bridgeSize};
-ghost use Rattle.lists.specs.Words.{blockAt, rowLists};
+ghost use Rattle.lists.specs.Inside.Words.{blockAt, rowLists};
 use words::ids::Node;
 
 // The sizes of an index: n nodes, rows with room for `degree` entries, vectors of `dimension` floats.

@@ -9,8 +9,8 @@
 ghost use mathlib.Core.List.{[], _∷_};
 ghost use Prim.Native.Nat.{_≤_};
 ghost use lib.ListN.{length};
-ghost use Rattle.lists.specs.Chains.{firstLink, linkedEnds};
-ghost use Rattle.neighbours.specs.Gathering.{freshEnd, Gathering, GatheringAll, GatheringList};
+ghost use Rattle.lists.specs.Inside.Chains.{firstLink, linkedEnds};
+ghost use Rattle.neighbours.specs.Inside.Gathering.{freshEnd, Gathering, GatheringAll, GatheringList};
 use lists::chains;
 use words::ids::Node;
 

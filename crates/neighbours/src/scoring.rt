@@ -6,7 +6,7 @@ ghost use Prim.Native.Nat.{_+_, _≤_};
 ghost use lib.ListN.{length, set, take, drop};
 ghost use Rattle.distance.specs.Vectors.{vectorsIn};
 ghost use Rattle.def_walk.specs.Beam.{farFrom};
-ghost use Rattle.neighbours.specs.Scoring.{scoredAt, scoredEight, placedEight};
+ghost use Rattle.neighbours.specs.Inside.Scoring.{scoredAt, scoredEight, placedEight};
 use distance::vectors;
 use simd::Eight;
 use words::ids::Node;

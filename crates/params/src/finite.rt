@@ -6,14 +6,14 @@
 // tested first: where the sum of all is finite each component is, and only where it is not are the
 // components looked at one by one. It leans on nothing but the operators of floats.
 //
-// specs/Sums    one component more in each of some sums
-// proofs/Sums   what a finite sum says of its components
+// specs/Inside/Sums  one component more in each of some sums
+// proofs/Sums        what a finite sum says of its components
 ghost use mathlib.Core.Path.{_≡_};
 ghost use mathlib.Core.Bool.{true};
 ghost use lib.ListN.{length};
 ghost use lib.Ieee.Scale.{finite};
 ghost use Rattle.basics.specs.Lists.{every};
-ghost use Rattle.params.specs.Sums.{AddedUp};
+ghost use Rattle.params.specs.Inside.Sums.{AddedUp};
 
 // Whether x is finite.
 pub fn is_finite(x: f32) -> bool

@@ -6,7 +6,7 @@
 // Everything here is proved safe on every line and buffer, and nothing more: what is printed is compared with
 // recorded runs. It leans on `replay` and `io` for digits, on `bits` for floats.
 ghost use Prim.Native.Nat.{_+_};
-ghost use Rattle.probe_text.specs.Places.{EndsFrom};
+ghost use Rattle.probe_text.specs.Inside.Places.{EndsFrom};
 use words::bits;
 use words::ids::DocId;
 use words::ids::Node;

@@ -6,7 +6,7 @@
 ghost use Prim.Native.Nat.{_+_, _-_, _≤_, _<_};
 ghost use mathlib.Core.Path.{_≡_};
 ghost use lib.ListN.{length, take};
-ghost use Rattle.replay.specs.Bounds.{Advanced};
+ghost use Rattle.replay.specs.Inside.Bounds.{Advanced};
 use libc::STDIN_FILENO;
 use libc::STDOUT_FILENO;
 use words::bits;

@@ -20,7 +20,7 @@ use Rattle.store.proofs.Opened.{opening-numbered}
 use Rattle.def_walk.specs.Beam.{farFrom}
 use Rattle.def_calls.specs.Search.{ownSearchChecks, searchChecks, Reply, refused, farIn, scoredIn, foundIn, replyOf, searchWithEfSpec}
 use Rattle.def_calls.proofs.Taken.{SearchTaken, search-taken}
-use Rattle.search.specs.Reply.{Ready, replyBy}
+use Rattle.search.specs.Inside.Reply.{Ready, replyBy}
 
 -- ---- a query scaled at the front of a longer list
 

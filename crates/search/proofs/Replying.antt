@@ -32,11 +32,11 @@ use Rattle.def_walk.specs.Beam.{farFrom, placesFor, beamSearch, answerOf}
 use Rattle.def_walk.proofs.beam.Laws.{scored-nodes, scored-few, answer-few}
 use Rattle.beam_search.specs.declared.Sizes.{Sizes}
 use Rattle.beam_search.specs.declared.Walked.{Walked}
-use Rattle.beam_search.specs.Search.{within, listInWords, Reads, farOf, SearchFits, Searched, Searching}
+use Rattle.beam_search.specs.Inside.Search.{within, listInWords, Reads, farOf, SearchFits, Searched, Searching}
 use Rattle.def_calls.specs.Search.{Reply}
-use Rattle.search.specs.Docs.{docAt}
+use Rattle.search.specs.Inside.Docs.{docAt}
 use Rattle.search.specs.declared.Parts.{Parts}
-use Rattle.search.specs.Reply.{PartsIn, Ready, replyBy}
+use Rattle.search.specs.Inside.Reply.{PartsIn, Ready, replyBy}
 use Rattle.search.proofs.Answer.{answer-room}
 use Rattle.search.proofs.Inside.{lists-inside, bridge-words, bridge-nodes}
 

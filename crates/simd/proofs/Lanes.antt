@@ -7,7 +7,7 @@ use native.Mathlib.Omega.{arith}
 use lib.ListN.{length, getD, length-append, List·getD-append}
 use lib.Seq.{getD-at}
 use lib.Ieee.{Float, nan, binary32, add, mul}
-use Rattle.simd.specs.Eight.{laneOf, rowIn}
+use Rattle.simd.specs.Inside.Eight.{laneOf, rowIn}
 use Rattle.simd.proofs.Left.{Left, left-step}
 
 pub length-lane : (block : List Float) (j n : ℕ) → length (laneOf block j n) ≡ n

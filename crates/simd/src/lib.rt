@@ -11,7 +11,7 @@ ghost use Prim.Native.Nat.{_+_, _/_, _≤_};
 ghost use lib.ListN.{length};
 ghost use lib.Ieee.{binary32};
 ghost use Rattle.simd.specs.Dot.{dotOf};
-ghost use Rattle.simd.specs.Eight.{NoneShorter, dotsOf, fourFrom, fours, sumsFrom, blockDotsOf};
+ghost use Rattle.simd.specs.Inside.Eight.{NoneShorter, dotsOf, fourFrom, fours, sumsFrom, blockDotsOf};
 
 pub fn dot(a: &[f32], b: &[f32]) -> f32
     ensures { λ r. ⌜ r ≡ dotOf binary32 (now (a .entry)) (now (b .entry)) ⌝ }

@@ -6,7 +6,7 @@ use native.Mathlib.Nat.{pow-suc, mod-eq-of-lt, mul-zero, mul-add, add-mul-mod-se
 use native.Mathlib.Omega.{arith}
 use lib.Pow.{pow-add}
 use Rattle.basics.specs.Choice.{pick, pick-ind}
-use Rattle.simhash.specs.Blocks.{bitsOf}
+use Rattle.simhash.specs.Inside.Blocks.{bitsOf}
 
 pub bits-same : (f g : ℕ → Bool) (n : ℕ) → ((b : ℕ) → b < n → f b ≡ g b) → bitsOf f n ≡ bitsOf g n
 unfolding bitsOf

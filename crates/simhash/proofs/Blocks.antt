@@ -14,7 +14,7 @@ use lib.Ieee.{Float, nan}
 use Rattle.basics.specs.Choice.{pick-ind, pick-true, pick-false}
 use Rattle.basics.specs.Sum.{+zero}
 use Rattle.basics.proofs.Loops.{front-set}
-use Rattle.simhash.specs.Blocks.{planeAt, componentAt, blockNumber, planeBlocks}
+use Rattle.simhash.specs.Inside.Blocks.{planeAt, componentAt, blockNumber, planeBlocks}
 
 getD-past : (l : List Float) (i : ℕ) (z : Float) → length l ≤ i → getD l i z ≡ z
 getD-past [] i z h = refl

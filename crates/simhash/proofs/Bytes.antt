@@ -9,7 +9,7 @@ use native.Mathlib.Decide.{decLt}
 use lib.ListN.{length, take, drop, length-drop, drop-of-length-le}
 use lib.Seq.{take-all}
 use lib.Ieee.{Float}
-use Rattle.simhash.specs.Blocks.{bitsOf, sideOf, blockHash, bitIn, blocksHash}
+use Rattle.simhash.specs.Inside.Blocks.{bitsOf, sideOf, blockHash, bitIn, blocksHash}
 use Rattle.simhash.proofs.Bits.{bits-same, bits-below, bits-join}
 
 pub one-byte : (x : ℕ) (f : ℕ → Bool) → x ≡ bitsOf f 8 → x < 256

@@ -12,9 +12,9 @@ use Rattle.basics.specs.Sum.{+zero, sumOf, products}
 use Rattle.random.specs.Hyperplanes.{planeNumber, planeNumbers}
 use Rattle.def_graph.specs.Simhash.{residual, numbersFrom, planeOf, bitSet, simhashResidual}
 use Rattle.def_graph.proofs.leaf.Planes.{length-numbers, number-at}
-use Rattle.simd.specs.Eight.{rowIn}
+use Rattle.simd.specs.Inside.Eight.{rowIn}
 use Rattle.simd.proofs.Lanes.{length-lane, lane-at}
-use Rattle.simhash.specs.Blocks.{bitsOf, sideOf, bitIn, blocksHash, planeAt, componentAt, planeBlocks}
+use Rattle.simhash.specs.Inside.Blocks.{bitsOf, sideOf, bitIn, blocksHash, planeAt, componentAt, planeBlocks}
 use Rattle.simhash.proofs.Bits.{bits-same}
 use Rattle.simhash.proofs.Blocks.{within-planes, length-blocks, block-at}
 

@@ -9,9 +9,9 @@ use lib.Ieee.{Float, nan, binary32, add, mul, le}
 use Rattle.basics.specs.Choice.{pick}
 use Rattle.basics.specs.Sum.{+zero, sumFrom, sumOf, products}
 use Rattle.basics.proofs.Sums.{sum-step, sum-end-left, products-take}
-use Rattle.simd.specs.Eight.{rowIn}
+use Rattle.simd.specs.Inside.Eight.{rowIn}
 use Rattle.simd.proofs.Lanes.{length-lane, lane-at}
-use Rattle.simhash.specs.Blocks.{bitsOf, sideOf, blockHash}
+use Rattle.simhash.specs.Inside.Blocks.{bitsOf, sideOf, blockHash}
 
 abbrev pub sumIn : List Float → List Float → ℕ → Float
 sumIn r block j = sumOf binary32 (products binary32 r (rowIn block j))

@@ -1,1 +1,1 @@
-pub mod Blocks
+pub mod Inside

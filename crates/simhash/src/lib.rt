@@ -10,7 +10,7 @@ ghost use Prim.Native.Nat.{_+_, _*_, _/_, _%_, _^_, _≤_, min};
 ghost use lib.ListN.{length};
 ghost use lib.Ieee.{binary32};
 ghost use Rattle.def_graph.specs.Simhash.{residual};
-ghost use Rattle.simhash.specs.Blocks.{putFront, bitBy, blockHash, blocksHash, blockNumber, planeBlocks};
+ghost use Rattle.simhash.specs.Inside.Blocks.{putFront, bitBy, blockHash, blocksHash, blockNumber, planeBlocks};
 
 // The residual c − p at the front of `out`, as far as there is room.
 pub fn residual_into(c: &[f32], p: &[f32], out: &mut [f32])

@@ -2,7 +2,7 @@
 -- Assumes nothing.
 use mathlib.Core.List.{[], _∷_}
 use lib.ListN.{length}
-use Rattle.beam_search.specs.Search.{Reads}
+use Rattle.beam_search.specs.Inside.Search.{Reads}
 use Rattle.beam_search.proofs.Ending.{Room, has-room, no-room, searched}
 use native.Mathlib.Omega.{arith}
 use borrow.Author.Needs.{needs}

@@ -1,7 +1,7 @@
 -- `beam_search::link_bridges` meets its contract: the first j bridges are linked. The measure is how many are left. Assumes nothing.
 use mathlib.Core.Path.{ap₂, _∙_}
 use Prim.Native.Nat.{ℕ, _-_}
-use Rattle.lists.specs.Chains.{chainBridge}
+use Rattle.lists.specs.Inside.Chains.{chainBridge}
 use Rattle.beam_search.proofs.Linking.{Chaining, chaining-none, chaining-more, chaining-all}
 use borrow.Author.Needs.{needs}
 use Rattle.beam_search.proofs.link_bridges.Statement.{statement}

@@ -2,7 +2,7 @@
 use mathlib.Core.Path.{ap}
 use Prim.Native.Nat.{ℕ, _+_, _*_}
 use lib.ListN.{length-take}
-use Rattle.beam_state.specs.State.{heldAt}
+use Rattle.beam_state.specs.Inside.State.{heldAt}
 use Rattle.beam_search.proofs.Ending.{prepared}
 use native.Mathlib.Omega.{arith}
 use borrow.Author.Needs.{needs}

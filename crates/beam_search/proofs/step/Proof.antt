@@ -1,6 +1,6 @@
 -- `beam_search::step` meets its contract, by where it ends: an empty frontier, too far, or a node expanded. Assumes nothing.
-use Rattle.beam_search.specs.Search.{Reads}
-use Rattle.beam_state.specs.State.{Memory}
+use Rattle.beam_search.specs.Inside.Search.{Reads}
+use Rattle.beam_state.specs.Inside.State.{Memory}
 use Rattle.beam_search.proofs.Taking.{expanding}
 use Rattle.beam_search.proofs.Walking.{popped-to, popped-long, step-empty, step-far, step-on}
 use borrow.Author.Needs.{needs}

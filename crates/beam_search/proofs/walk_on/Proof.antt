@@ -1,6 +1,6 @@
 -- `beam_search::walk_on` meets its contract: the walk of the definition by the steps that are left is the whole. The measure is how many are left. Assumes nothing.
 use mathlib.Core.Path.{_∙_}
-use Rattle.beam_state.specs.State.{Memory}
+use Rattle.beam_state.specs.Inside.State.{Memory}
 use Rattle.beam_search.proofs.Walking.{Onward, onward-none, onward-more, onward-ends, onward-all}
 use borrow.Author.Needs.{needs}
 use native.Mathlib.Omega.{arith}

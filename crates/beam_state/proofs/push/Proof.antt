@@ -1,7 +1,7 @@
 -- `beam_state::push` meets its contract: three parts of the words are written one after the other, each by its own function. Assumes nothing.
 use mathlib.Core.Path.{ap}
 use Prim.Native.Nat.{ℕ, _+_, _*_}
-use Rattle.beam_state.specs.State.{heldAt}
+use Rattle.beam_state.specs.Inside.State.{heldAt}
 use Rattle.beam_state.proofs.Pushing.{push-frame, push-is}
 use borrow.Author.Needs.{needs}
 use Rattle.beam_state.proofs.push.Statement.{statement}

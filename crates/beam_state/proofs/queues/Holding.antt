@@ -15,11 +15,11 @@ use lib.Seq.{getD-set-same, getD-set-other, getD-append-seam}
 use lib.Ieee.{Float, binary32, fits}
 use Rattle.basics.specs.Choice.{pick, pick-true, pick-false}
 use Rattle.distance.proofs.order.Laws.{key-below}
-use Rattle.beam_state.specs.Tournament.{rankOf, rankAt, emptyRank, Tournament, Putting, firstOf}
+use Rattle.beam_state.specs.Inside.Tournament.{rankOf, rankAt, emptyRank, Tournament, Putting, firstOf}
 use Rattle.beam_state.specs.declared.tournament.Pair.{Pair}
 use Rattle.beam_state.proofs.tournament.Laws.{Winner, first-least, first-wins}
 use Rattle.def_walk.specs.KeepClosest.{keyAt, sooner, insertIn, hold}
-use Rattle.beam_state.specs.Queues.{heldRank, times, Falling, Held}
+use Rattle.beam_state.specs.Inside.Queues.{heldRank, times, Falling, Held}
 use Rattle.beam_state.proofs.queues.Laws.{in-insert, insert-length}
 use Rattle.beam_state.proofs.queues.Times.{once, times-more, times-set, times-insert, times-at, Place, place-of, times-key}
 

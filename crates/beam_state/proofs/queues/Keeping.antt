@@ -12,10 +12,10 @@ use lib.Ieee.{Float, binary32, fits, inf, lt}
 use Rattle.basics.specs.Choice.{pick-true, pick-false}
 use Rattle.distance.specs.Order.{valueOf}
 use Rattle.distance.proofs.order.Laws.{key-below, value-key}
-use Rattle.beam_state.specs.Tournament.{Putting, firstOf}
+use Rattle.beam_state.specs.Inside.Tournament.{Putting, firstOf}
 use Rattle.beam_state.specs.declared.tournament.Pair.{Pair}
 use Rattle.def_walk.specs.KeepClosest.{keyAt, hold, replaceWorst, keepClosest, worstOf}
-use Rattle.beam_state.specs.Queues.{heldRank, Held, Worst, Keeping}
+use Rattle.beam_state.specs.Inside.Queues.{heldRank, Held, Worst, Keeping}
 use Rattle.beam_state.proofs.queues.Holding.{hold-length, none-first, first-held, held-more, held-over}
 
 module _ (tree : List ℕ) (top : Pair) (first : top ≡ firstOf tree) (j : getD tree 3 0 < 4294967296) (k : getD tree 2 0 < 4294967296) where

@@ -15,10 +15,10 @@ use lib.Seq.{getD-set-same, getD-set-other}
 use Rattle.basics.specs.Choice.{pick, pick-ind, pick-true, pick-false}
 use Rattle.basics.specs.Nodes.{has}
 use Rattle.basics.proofs.Counting.{has-in, in-has}
-use Rattle.beam_state.specs.Tournament.{rankAt, emptyRank, Tournament, Putting}
+use Rattle.beam_state.specs.Inside.Tournament.{rankAt, emptyRank, Tournament, Putting}
 use Rattle.beam_state.proofs.tournament.Laws.{Winner, first-least, first-wins}
 use Rattle.def_walk.specs.KeepClosest.{insertIn}
-use Rattle.beam_state.specs.Queues.{Ordered, Queue}
+use Rattle.beam_state.specs.Inside.Queues.{Ordered, Queue}
 
 -- ---- membership
 

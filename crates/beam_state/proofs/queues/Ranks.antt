@@ -8,9 +8,9 @@ use borrow.Author.Tests.{eq-eqb, ne-eqb, lt-ltb, le-ltb}
 use lib.Dec.{T, eqb, ltb}
 use lib.Ieee.{Float, binary32, fits}
 use Rattle.distance.proofs.order.Laws.{key-below}
-use Rattle.beam_state.specs.Tournament.{rankOf, emptyRank}
+use Rattle.beam_state.specs.Inside.Tournament.{rankOf, emptyRank}
 use Rattle.def_walk.specs.KeepClosest.{keyAt, sooner}
-use Rattle.beam_state.specs.Queues.{frontRank}
+use Rattle.beam_state.specs.Inside.Queues.{frontRank}
 
 -- the order of pairs is that of their ranks
 by-rank : (a b v w : ℕ) → v < 4294967296 → w < 4294967296 → (ltb a b || (eqb a b && ltb v w)) ≡ ltb (rankOf a v) (rankOf b w)

@@ -10,12 +10,12 @@ use borrow.Author.Tests.{lt-ltb, le-ltb}
 use lib.ListN.{length, getD}
 use lib.Ieee.{Float, inf}
 use Rattle.basics.specs.Choice.{pick-true, pick-false}
-use Rattle.beam_state.specs.Tournament.{rankOf, emptyRank, Putting, firstOf}
+use Rattle.beam_state.specs.Inside.Tournament.{rankOf, emptyRank, Putting, firstOf}
 use Rattle.beam_state.specs.declared.tournament.Pair.{Pair}
 use Rattle.beam_state.proofs.tournament.Laws.{rank-id}
 use Rattle.def_walk.specs.KeepClosest.{keyAt, sooner}
 use Rattle.def_walk.specs.Beam.{toFrontier}
-use Rattle.beam_state.specs.Queues.{frontRank, Queue, Known, Entering, Popping}
+use Rattle.beam_state.specs.Inside.Queues.{frontRank, Queue, Known, Entering, Popping}
 use Rattle.words.specs.declared.ids.Node.{Node}
 use Rattle.beam_state.specs.declared.queues.Popped.the-variants.{At, Empty}
 use Rattle.beam_state.proofs.queues.Laws.{put-in, take-out, first-node, none-first, queue-size}

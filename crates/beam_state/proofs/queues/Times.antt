@@ -9,7 +9,7 @@ use lib.Dec.{eqb}
 use lib.ListN.{length, getD, set}
 use Rattle.basics.specs.Choice.{pick, pick-ind, pick-true, pick-false}
 use Rattle.def_walk.specs.KeepClosest.{insertIn}
-use Rattle.beam_state.specs.Queues.{times}
+use Rattle.beam_state.specs.Inside.Queues.{times}
 
 -- one for the number itself
 abbrev pub once : ℕ → ℕ → ℕ

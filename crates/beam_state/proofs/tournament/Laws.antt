@@ -5,7 +5,7 @@ use Prim.Native.Nat.{ℕ, zero, suc, _+_, _*_, _-_, _/_, _≤_, _<_, min}
 use native.Mathlib.Omega.{arith}
 use native.Mathlib.Decide.{ℕ-discrete, decLt}
 use lib.ListN.{length, getD}
-use Rattle.beam_state.specs.Tournament.{rankOf, rankAt, emptyRank, Tournament}
+use Rattle.beam_state.specs.Inside.Tournament.{rankOf, rankAt, emptyRank, Tournament}
 
 -- some place has this rank
 pub record Winner (leaves : List ℕ) (rank : ℕ) : Type 0 where

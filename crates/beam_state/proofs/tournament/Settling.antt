@@ -6,7 +6,7 @@ use native.Mathlib.Omega.{arith}
 use native.Mathlib.Decide.{ℕ-discrete, decLt}
 use lib.ListN.{length, getD, set, replicate, length-set, length-replicate, getD-replicate}
 use lib.Seq.{getD-set-same, getD-set-other}
-use Rattle.beam_state.specs.Tournament.{rankOf, rankAt, withPair, emptyRank, Tournament, Open}
+use Rattle.beam_state.specs.Inside.Tournament.{rankOf, rankAt, withPair, emptyRank, Tournament, Open}
 
 -- ---- a pair written
 

@@ -4,7 +4,7 @@ use mathlib.Core.List.{List}
 use Prim.Native.Nat.{ℕ, _-_, _*_, _≤_}
 use lib.ListN.{length, take, drop}
 use lib.Seq.{length-take-le}
-use Rattle.lists.specs.Words.{Blocks}
+use Rattle.lists.specs.Inside.Words.{Blocks}
 use Rattle.store.specs.Layout.{rowsAt, rowSize}
 use Rattle.store.proofs.Sizes.{product-le}
 use Rattle.def_calls.specs.Build.{laid}

@@ -4,7 +4,7 @@ use native.Mathlib.Omega.{arith}
 use mathlib.Core.Path.{_≡_, refl, subst, _∙_}
 use Prim.Native.Nat.{ℕ, _+_, _-_, _≤_}
 use lib.ListN.{length, getD, take, drop}
-use Rattle.build_leaf.specs.Built.{LeafBuilt}
+use Rattle.build_leaf.specs.Inside.Built.{LeafBuilt}
 use Rattle.build_leaf.proofs.Leaves.{LeavesTo, leaves-none, leaves-more, leaves-cut, leaves-last}
 use Rattle.build_leaf.proofs.build_each.Statement.{statement}
 use Rattle.build_leaf.proofs.build_each.Tie as tie

@@ -4,7 +4,7 @@ use native.Mathlib.Omega.{arith}
 use mathlib.Core.Path.{_≡_, refl, subst, _∙_}
 use Prim.Native.Nat.{ℕ, _-_, _≤_}
 use lib.ListN.{length}
-use Rattle.build_leaf.specs.Lanes.{Distances}
+use Rattle.build_leaf.specs.Inside.Lanes.{Distances}
 use Rattle.build_leaf.proofs.Rows.{LeafTo, leaf-single, leaf-first, leaf-more, leaf-last}
 use Rattle.build_leaf.proofs.build_leaf.Statement.{statement}
 use Rattle.build_leaf.proofs.build_leaf.Tie as tie

@@ -4,7 +4,7 @@ use native.Mathlib.Omega.{arith}
 use mathlib.Core.Path.{_≡_, refl, subst, _∙_}
 use Prim.Native.Nat.{ℕ, _-_, _≤_}
 use lib.ListN.{length}
-use Rattle.build_leaf.specs.Built.{PlacesPut}
+use Rattle.build_leaf.specs.Inside.Built.{PlacesPut}
 use Rattle.build_leaf.proofs.Rows.{places-none, places-more}
 use Rattle.build_leaf.proofs.each_place.Statement.{statement}
 use Rattle.build_leaf.proofs.each_place.Tie as tie

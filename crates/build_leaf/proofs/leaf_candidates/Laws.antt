@@ -18,7 +18,7 @@ use Rattle.sorting.proofs.Laws.{first-map, first-in}
 use Rattle.sorting.proofs.Pairs.{front-ids}
 use Rattle.distance.specs.Vectors.{between, rank}
 use Rattle.def_graph.specs.Leaf.{candidatesAt}
-use Rattle.build_leaf.specs.Candidates.{LaneFits, nodeIn, farInLane, placesFrom, offer, otherPlaces, NearestPlaces, NodesAt, LaneReady, CandidatesAre, Candidates}
+use Rattle.build_leaf.specs.Inside.Candidates.{LaneFits, nodeIn, farInLane, placesFrom, offer, otherPlaces, NearestPlaces, NodesAt, LaneReady, CandidatesAre, Candidates}
 
 map-same-in : {A : Type 0} (f g : ℕ → A) (l : List ℕ) → ((j : ℕ) → In j l → f j ≡ g j) → map f l ≡ map g l
 map-same-in f g [] h = refl

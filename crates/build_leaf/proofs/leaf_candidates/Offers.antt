@@ -10,7 +10,7 @@ use lib.Ieee.{Float}
 use Rattle.basics.proofs.Loops.{front-set, front-length}
 use Rattle.sorting.specs.Sorting.{firstBy, pairs, keyIn, both, keptPairs, keptKeys, keptIds, insertedPairs}
 use Rattle.sorting.proofs.Pairs.{kept-are, none-kept}
-use Rattle.build_leaf.specs.Candidates.{placesFrom, offer, Offered, NearestPlaces}
+use Rattle.build_leaf.specs.Inside.Candidates.{placesFrom, offer, Offered, NearestPlaces}
 
 -- ---- offering
 

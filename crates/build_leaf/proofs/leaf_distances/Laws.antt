@@ -12,12 +12,12 @@ use lib.Seq.{sets-eq, take-suc, take-all, getD-set-same, getD-set-other, getD-ta
 use lib.Ieee.{Float, binary32, nan}
 use Rattle.basics.proofs.Members.{in-getD}
 use Rattle.basics.proofs.Pieces.{nth-piece, length-pieces}
-use Rattle.simd.specs.Eight.{laneOf, rowIn}
+use Rattle.simd.specs.Inside.Eight.{laneOf, rowIn}
 use Rattle.simd.specs.declared.Eight.{Eight}
 use Rattle.distance.specs.Distance.{distanceOf, blockDistancesOf}
 use Rattle.distance.specs.Vectors.{vectorsIn, vectorOf, between}
 use Rattle.distance.proofs.vectors.Laws.{between-sym}
-use Rattle.build_leaf.specs.Lanes.{eightList, nodeAt, LanePut, BlockTurned, LanesFilled, Distances}
+use Rattle.build_leaf.specs.Inside.Lanes.{eightList, nodeAt, LanePut, BlockTurned, LanesFilled, Distances}
 
 -- ---- a write
 

@@ -12,7 +12,7 @@ use borrow.Fn.Kinds.{In}
 use borrow.Fn.PlainCycle.{Measures, is, falls, and}
 use Rattle.distance.specs.Vectors.{vectorsIn}
 use Rattle.def_graph.specs.Partition.{bucketsOf}
-use Rattle.dealing.specs.Deal.{Holding}
+use Rattle.dealing.specs.Inside.Deal.{Holding}
 use Rattle.carving.proofs.Leaves.{NextSize, next-size}
 use Rattle.carving.proofs.Carving.{fan-some, leaf-small, leaf-deep, leaf-stays, dealt-down, Partly, partly-none, partly-more, partly-done}
 use Rattle.carving.proofs.carve_buckets.Reads as carve-buckets

@@ -8,7 +8,7 @@ use Rattle.distance.specs.Vectors.{vectorsIn}
 use Rattle.random.specs.Leaders.{upTo}
 use Rattle.random.proofs.leaders.Draws.{length-upTo}
 use Rattle.def_graph.specs.Partition.{bucketsOf}
-use Rattle.dealing.specs.Marks.{run, marksOf}
+use Rattle.dealing.specs.Inside.Marks.{run, marksOf}
 use Rattle.carving.proofs.Carving.{positions-all, positions-front, top-leaf, top-dealt, fitting-top}
 use native.Mathlib.Omega.{arith}
 use borrow.Author.Needs.{needs}

@@ -6,7 +6,7 @@ use lib.ListN.{length, take, drop}
 use lib.Seq.{length-take-le, take-at}
 use Rattle.distance.specs.Vectors.{vectorsIn}
 use Rattle.def_graph.specs.Partition.{bucketsOf}
-use Rattle.dealing.specs.Deal.{Holding}
+use Rattle.dealing.specs.Inside.Deal.{Holding}
 use Rattle.dealing.proofs.Placing.{copied-whole}
 use Rattle.carving.proofs.Carving.{fitting-down}
 use native.Mathlib.Omega.{arith}

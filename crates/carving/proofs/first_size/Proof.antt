@@ -3,7 +3,7 @@ use mathlib.Core.Path.{_≡_, refl}
 use mathlib.Core.List.{List}
 use Prim.Native.Nat.{ℕ, _+_, _-_}
 use lib.ListN.{length, drop}
-use Rattle.carving.specs.Steps.{zeroes, firstSize}
+use Rattle.carving.specs.Inside.Steps.{zeroes, firstSize}
 use Rattle.carving.proofs.Leaves.{more-zero, found-mark, no-mark}
 use borrow.Author.Needs.{needs}
 use native.Mathlib.Omega.{arith}

@@ -7,7 +7,7 @@ use lib.ListN.{length, drop, replicate, length-append, length-drop}
 use lib.Seq.{length-take-le, take-append-le}
 use Rattle.distance.specs.Vectors.{vectorsIn}
 use Rattle.def_graph.specs.Partition.{leavesOf}
-use Rattle.carving.specs.Carving.{nonEmpty, Laid, Asked}
+use Rattle.carving.specs.Inside.Carving.{nonEmpty, Laid, Asked}
 use Rattle.carving.proofs.Carving.{Front, front-back, lent-rest, both-back, laid}
 use native.Mathlib.Omega.{arith}
 use borrow.Author.Needs.{needs}

@@ -4,7 +4,7 @@ use mathlib.Core.Path.{_≡_, refl, _∙_}
 use mathlib.Core.List.{List}
 use Prim.Native.Nat.{ℕ, _-_, _≤_}
 use lib.ListN.{length, length-set}
-use Rattle.dealing.specs.Marks.{marksOf}
+use Rattle.dealing.specs.Inside.Marks.{marksOf}
 use Rattle.carving.proofs.Leaves.{Listed, listed-none, listed-more, listed-done, NextSize, next-size}
 use borrow.Author.Needs.{needs}
 use native.Mathlib.Omega.{arith}

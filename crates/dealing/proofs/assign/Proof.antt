@@ -5,7 +5,7 @@ use Prim.Native.Nat.{ℕ, _-_, _≤_}
 use lib.ListN.{length, set, take, drop, length-set}
 use Rattle.distance.specs.Vectors.{vectorsIn}
 use Rattle.def_graph.specs.Partition.{nearestLeaders}
-use Rattle.dealing.specs.Cards.{cardOf}
+use Rattle.dealing.specs.Inside.Cards.{cardOf}
 use Rattle.dealing.proofs.Dealing.{written-more, written-end}
 use borrow.Author.Needs.{needs}
 use native.Mathlib.Omega.{arith}

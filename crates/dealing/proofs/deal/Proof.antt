@@ -4,7 +4,7 @@ use mathlib.Core.Path.{refl, sym, ap, _∙_}
 use Prim.Native.Nat.{ℕ, _*_, _≤_}
 use native.Mathlib.Nat.{mul-le-mul}
 use lib.ListN.{length}
-use Rattle.dealing.specs.Deal.{Fitting}
+use Rattle.dealing.specs.Inside.Deal.{Fitting}
 use Rattle.dealing.proofs.Dealing.{few-ids, fan-most}
 use native.Mathlib.Omega.{arith}
 use borrow.Author.Needs.{needs}

@@ -9,9 +9,9 @@ use lib.Ieee.{Float}
 use Rattle.distance.specs.Vectors.{vectorsIn}
 use Rattle.random.specs.Leaders.{drawn, drawStart, upTo}
 use Rattle.def_graph.specs.Partition.{nearestLeaders, gathered, bucketsOf}
-use Rattle.def_graph.specs.Occurrences.{entries}
-use Rattle.dealing.specs.Marks.{marksOf}
-use Rattle.dealing.specs.Cards.{cardOf, bucketsBy}
+use Rattle.def_graph.specs.Inside.Occurrences.{entries}
+use Rattle.dealing.specs.Inside.Marks.{marksOf}
+use Rattle.dealing.specs.Inside.Cards.{cardOf, bucketsBy}
 use Rattle.dealing.proofs.Dealing.{few-ids, fan-most, deal-is, deal-entries}
 use native.Mathlib.Omega.{arith}
 use borrow.Author.Needs.{needs}

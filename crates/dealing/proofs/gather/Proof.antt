@@ -5,7 +5,7 @@ use mathlib.Core.List.{List}
 use Prim.Native.Nat.{ℕ, _+_, _≤_}
 use lib.ListN.{length}
 use lib.Seq.{length-take-le}
-use Rattle.dealing.specs.Cards.{bucketsBy}
+use Rattle.dealing.specs.Inside.Cards.{bucketsBy}
 use Rattle.dealing.proofs.Gathering.{so-far-all, gathered-nodes, gathered-marks}
 use native.Mathlib.Omega.{arith}
 use borrow.Author.Needs.{needs}

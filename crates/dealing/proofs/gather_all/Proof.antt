@@ -3,7 +3,7 @@
 use mathlib.Core.Path.{_≡_, refl, sym, subst, _∙_}
 use Prim.Native.Nat.{ℕ, _-_, _≤_}
 use lib.ListN.{length}
-use Rattle.dealing.specs.Steps.{Holds}
+use Rattle.dealing.specs.Inside.Steps.{Holds}
 use Rattle.dealing.proofs.Gathering.{soFar, so-far-none, so-far-room, so-far-more}
 use borrow.Author.Needs.{needs}
 use native.Mathlib.Omega.{arith}

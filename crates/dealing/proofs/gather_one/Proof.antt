@@ -4,7 +4,7 @@ use mathlib.Core.List.{List}
 use Prim.Native.Nat.{ℕ}
 use lib.ListN.{length-take}
 use lib.Seq.{length-take-le}
-use Rattle.dealing.specs.Cards.{bucketAt}
+use Rattle.dealing.specs.Inside.Cards.{bucketAt}
 use Rattle.dealing.proofs.Gathering.{gathers-large, gathers-joined, gathers-small}
 use borrow.Author.Needs.{needs}
 use native.Mathlib.Omega.{arith}

@@ -7,7 +7,7 @@ use Prim.Native.Nat.{ℕ, _≤_, _<_}
 use lib.ListN.{length, getD}
 use lib.Ieee.{Float}
 use Rattle.basics.specs.Choice.{pick-ind}
-use Rattle.basics.specs.Rows.{Rows}
+use Rattle.basics.specs.Inside.Rows.{Rows}
 use Rattle.basics.proofs.Rows.{empty-rows}
 use Rattle.def_graph.proofs.partition.Laws.{leaves-below}
 use Rattle.def_graph.proofs.leaf.Laws.{leaves-rows}

@@ -11,7 +11,7 @@ use lib.ListN.{length, getD, take, drop, length-take}
 use lib.Ieee.{Float, Format}
 use Rattle.basics.specs.Choice.{pick-ind}
 use Rattle.basics.specs.Nodes.{Below}
-use Rattle.basics.specs.Rows.{Rows}
+use Rattle.basics.specs.Inside.Rows.{Rows}
 use Rattle.basics.proofs.Members.{in-take, in-drop}
 use Rattle.basics.proofs.Rows.{set-rows}
 use Rattle.sorting.specs.Sorting.{sortBy}

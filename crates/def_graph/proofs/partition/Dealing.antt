@@ -20,7 +20,7 @@ use Rattle.random.specs.Leaders.{upTo}
 use Rattle.random.proofs.leaders.Draws.{length-upTo}
 use Rattle.random.proofs.leaders.Positions.{in-upTo, upTo-below, nodup-upTo}
 use Rattle.def_graph.specs.Partition.{keep, nearestLeaders, dealt}
-use Rattle.def_graph.specs.Occurrences.{weigh, weighAll}
+use Rattle.def_graph.specs.Inside.Occurrences.{weigh, weighAll}
 
 -- ---- those of a list for which a test holds
 

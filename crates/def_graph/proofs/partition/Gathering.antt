@@ -7,7 +7,7 @@ use lib.Dec.{leb, eqb, eqb→eq}
 use lib.ListN.{length}
 use Rattle.basics.specs.Choice.{pick-ind}
 use Rattle.def_graph.specs.Partition.{Gathered, gatherOne, gatherAll, ontoLast, gathered}
-use Rattle.def_graph.specs.Occurrences.{weigh, weighAll}
+use Rattle.def_graph.specs.Inside.Occurrences.{weigh, weighAll}
 
 module _ (w : ℕ → ℕ) where
   pub weigh-append : (a b : List ℕ) → weigh w (a ++ b) ≡ weigh w a + weigh w b

@@ -20,7 +20,7 @@ use Rattle.random.specs.Leaders.{leaderCount, leaderPositions, upTo}
 use Rattle.random.proofs.leaders.Draws.{length-upTo}
 use Rattle.random.proofs.leaders.Positions.{length-positions}
 use Rattle.def_graph.specs.Partition.{fanout, leadersOf, dealt, isLeaf, above-is-leaf, bucketsOf, carveSegment, carveBuckets, leavesOf, segment-equation, buckets-none, buckets-more}
-use Rattle.def_graph.specs.Occurrences.{weigh, weighAll, occurrences, entries}
+use Rattle.def_graph.specs.Inside.Occurrences.{weigh, weighAll, occurrences, entries}
 use Rattle.def_graph.proofs.partition.Dealing.{dealt-weight}
 use Rattle.def_graph.proofs.partition.Gathering.{weigh-append, weighAll-append, gathered-weight}
 

@@ -13,7 +13,7 @@ use lib.Ieee.{Float}
 use mir.Facts.{yes-leb}
 use Rattle.basics.specs.Choice.{pick-ind, pick-yes}
 use Rattle.basics.specs.Nodes.{has}
-use Rattle.basics.specs.Rows.{Rows}
+use Rattle.basics.specs.Inside.Rows.{Rows}
 use Rattle.basics.proofs.Members.{both-right}
 use Rattle.basics.proofs.Rows.{set-rows}
 use Rattle.def_graph.specs.Refine.{takes, addBack, addBacks, reverseTo, addReverseEdges, pruneRow, pruneTo, finalPrune}

@@ -7,7 +7,7 @@ use borrow.Author.Tests.{eq-eqb, ne-eqb}
 use lib.Dec.{eqb}
 use lib.ListN.{length}
 use lib.Ieee.{Float, binary32, ofBits, nanBits}
-use Rattle.simd.specs.Eight.{rowIn}
+use Rattle.simd.specs.Inside.Eight.{rowIn}
 use Rattle.simd.specs.declared.Eight.{Eight}
 use Rattle.simd.proofs.Lanes.{length-lane}
 use Rattle.distance.proofs.Laws.{from-dot, unlike-lengths}

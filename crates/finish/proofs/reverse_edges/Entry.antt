@@ -15,7 +15,7 @@ use Rattle.basics.proofs.Members.{both-right}
 use Rattle.store.specs.View.{rowBlock}
 use Rattle.lists.proofs.Blocks.{block-length}
 use Rattle.def_graph.specs.Refine.{takes}
-use Rattle.finish.specs.Reversed.{EntryAdded}
+use Rattle.finish.specs.Inside.Reversed.{EntryAdded}
 
 -- ---- the search for a node
 

@@ -15,16 +15,16 @@ use lib.Seq.{set-getD, getD-set-other, take-suc, take-all, drop-drop}
 use borrow.Rule.Slice.PartMut.{putMid}
 use Rattle.basics.specs.Choice.{pick, pick-ind, pick-false}
 use Rattle.basics.specs.Nodes.{has, Below}
-use Rattle.basics.specs.Rows.{Rows}
+use Rattle.basics.specs.Inside.Rows.{Rows}
 use Rattle.basics.proofs.Counting.{in-has}
 use Rattle.basics.proofs.Members.{in-getD, in-take}
 use Rattle.store.specs.Layout.{rowSize}
 use Rattle.store.specs.View.{rowBlock}
-use Rattle.lists.specs.Words.{rowLists, Blocks}
+use Rattle.lists.specs.Inside.Words.{rowLists, Blocks}
 use Rattle.lists.proofs.Blocks.{blocks-length, blocks-count, nth-block, put-block, rows-read-back}
 use Rattle.def_graph.specs.Refine.{takes, addBack, addBacks, reverseTo, addReverseEdges}
 use Rattle.def_graph.proofs.refine.Laws.{reverse-rows}
-use Rattle.finish.specs.Reversed.{EntryAdded, BackAdded, Turned, Reversed}
+use Rattle.finish.specs.Inside.Reversed.{EntryAdded, BackAdded, Turned, Reversed}
 use Rattle.finish.proofs.reverse_edges.Entry.{takes-had, takes-room}
 
 true-of : (b : Bool) → T b → b ≡ true

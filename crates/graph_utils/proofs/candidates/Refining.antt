@@ -15,7 +15,7 @@ use Rattle.distance.specs.Vectors.{vectorOf, between}
 use Rattle.def_walk.specs.Repair.{listsOf, withLists, candidatesFor, nearestReached}
 use Rattle.graph_utils.proofs.marking.Refining.{Marked}
 use Rattle.graph_utils.specs.declared.candidates.Nearest.{Nearest}
-use Rattle.graph_utils.specs.Candidates.{Seeking, nearest, distanceFrom, considered, consideredAll, around, aroundAll, aroundList, startOf}
+use Rattle.graph_utils.specs.Inside.Candidates.{Seeking, nearest, distanceFrom, considered, consideredAll, around, aroundAll, aroundList, startOf}
 use Rattle.graph_utils.proofs.candidates.Steps.{both-lists}
 
 -- ---- the nearest

@@ -9,7 +9,7 @@ use lib.Ieee.{Float, lt}
 use Rattle.basics.specs.Choice.{pick-true, pick-false}
 use Rattle.distance.specs.Vectors.{vectorOf}
 use Rattle.graph_utils.specs.declared.candidates.Nearest.{Nearest}
-use Rattle.graph_utils.specs.Candidates.{Seeking, nearest, distanceFrom, considered, consideredAll, around, aroundAll, aroundList, startOf}
+use Rattle.graph_utils.specs.Inside.Candidates.{Seeking, nearest, distanceFrom, considered, consideredAll, around, aroundAll, aroundList, startOf}
 
 module _ (k : Seeking) where
   -- ---- one candidate

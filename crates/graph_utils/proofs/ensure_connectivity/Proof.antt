@@ -11,10 +11,10 @@ use Rattle.basics.specs.Lists.{pieces}
 use Rattle.basics.proofs.Pieces.{length-pieces}
 use Rattle.store.specs.Layout.{rowSize}
 use Rattle.store.specs.View.{entriesIn}
-use Rattle.lists.specs.Words.{rowLists}
+use Rattle.lists.specs.Inside.Words.{rowLists}
 use Rattle.distance.specs.Vectors.{vectorsIn}
 use Rattle.graph_utils.proofs.marking.Refining.{Marked}
-use Rattle.graph_utils.specs.Turns.{work}
+use Rattle.graph_utils.specs.Inside.Turns.{work}
 use Rattle.graph_utils.proofs.Refining.{all-repaired}
 use borrow.Author.Needs.{needs}
 use Rattle.graph_utils.proofs.ensure_connectivity.Statement.{statement}

@@ -18,7 +18,7 @@ use Rattle.basics.specs.Nodes.{has, NoDup, Below}
 use Rattle.basics.proofs.Counting.{hasn't, at-most}
 use Rattle.def_walk.specs.Walk.{State, visit, expand, walk}
 use Rattle.def_walk.specs.Repair.{stack, markReachable}
-use Rattle.graph_utils.specs.Marking.{Marks, marks, visited, visitedAll, markedFrom, marked}
+use Rattle.graph_utils.specs.Inside.Marking.{Marks, marks, visited, visitedAll, markedFrom, marked}
 
 -- ---- the words of a list of reached nodes, and of a frontier
 

@@ -9,7 +9,7 @@ use lib.ListN.{getD, set}
 use borrow.Author.Tests.{ltb-true}
 use Rattle.basics.proofs.Tests.{both-true}
 use Rattle.basics.specs.Choice.{pick-true, pick-false}
-use Rattle.graph_utils.specs.Marking.{Marks, marks, visited, visitedAll, markedFrom}
+use Rattle.graph_utils.specs.Inside.Marking.{Marks, marks, visited, visitedAll, markedFrom}
 
 -- ---- one node
 

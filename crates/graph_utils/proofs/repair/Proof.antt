@@ -3,7 +3,7 @@ use mathlib.Core.Path.{_≡_, refl, ap, _∙_}
 use Prim.Native.Nat.{ℕ, _-_, _≤_}
 use lib.ListN.{length}
 use Rattle.distance.specs.Vectors.{vectorsIn}
-use Rattle.graph_utils.specs.Turns.{Work, work, turnedTo}
+use Rattle.graph_utils.specs.Inside.Turns.{Work, work, turnedTo}
 use Rattle.graph_utils.proofs.Steps.{turned-count, no-turn, one-turn, begin-is}
 use borrow.Author.Needs.{needs}
 use native.Mathlib.Omega.{arith}

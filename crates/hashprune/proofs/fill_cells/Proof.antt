@@ -6,7 +6,7 @@ use lib.ListN.{length, getD}
 use lib.Ieee.{Float}
 use Rattle.distance.specs.Vectors.{vectorsIn, vectorOf}
 use Rattle.def_graph.specs.Leaf.{cellsFrom}
-use Rattle.hashprune.specs.Steps.{farAt, hashBy, hashAt, firstPlaces}
+use Rattle.hashprune.specs.Inside.Steps.{farAt, hashBy, hashAt, firstPlaces}
 use Rattle.hashprune.proofs.Cells.{Came, came-none, came-below, came-more}
 use borrow.Author.Needs.{needs}
 use native.Mathlib.Omega.{arith}

@@ -4,7 +4,7 @@ use mathlib.Core.List.{List}
 use Prim.Native.Nat.{min}
 use lib.Ieee.{Float, binary32}
 use Rattle.def_graph.specs.Simhash.{residual}
-use Rattle.simhash.specs.Blocks.{blocksHash}
+use Rattle.simhash.specs.Inside.Blocks.{blocksHash}
 use Rattle.simhash.proofs.Residual.{length-residual}
 use Rattle.hashprune.proofs.Lists.{residual-cut}
 use lib.ListN.{length-take, length-append, length-drop}

@@ -1,6 +1,6 @@
 -- The vector of the node, and its hash. Assumes nothing.
 use mathlib.Core.Path.{ap, _∙_}
-use Rattle.hashprune.specs.Steps.{hashBy}
+use Rattle.hashprune.specs.Inside.Steps.{hashBy}
 use borrow.Author.Needs.{needs}
 use Rattle.hashprune.proofs.hash_of_node.Statement.{statement}
 use Rattle.hashprune.proofs.hash_of_node.Tie as tie

@@ -8,7 +8,7 @@ use borrow.Author.Needs.{needs}
 use lib.ListN.{length, take, length-take, length-drop}
 use lib.Ieee.{Float}
 use Rattle.store.specs.View.{rowBlock}
-use Rattle.hashprune.specs.Steps.{oldPairs, selectedPairs, mergedPairs}
+use Rattle.hashprune.specs.Inside.Steps.{oldPairs, selectedPairs, mergedPairs}
 use Rattle.hashprune.proofs.Rows.{old-few}
 use Rattle.hashprune.proofs.Ranked.{joined}
 use Rattle.hashprune.proofs.insert_with.Statement.{statement}

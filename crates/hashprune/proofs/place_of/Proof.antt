@@ -1,7 +1,7 @@
 -- The invariant: all hashes passed are below the one to place. The measure is how many are left. Assumes nothing.
 use Prim.Native.Nat.{_-_, _≤_}
 use lib.ListN.{length, take}
-use Rattle.hashprune.specs.Steps.{AllBelow}
+use Rattle.hashprune.specs.Inside.Steps.{AllBelow}
 use Rattle.hashprune.proofs.Cells.{below-next}
 use borrow.Author.Needs.{needs}
 use native.Mathlib.Omega.{arith}

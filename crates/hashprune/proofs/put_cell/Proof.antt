@@ -7,7 +7,7 @@ use native.Mathlib.Nat.{le-of-lt}
 use native.Mathlib.Omega.{arith}
 use borrow.Author.Needs.{needs}
 use lib.ListN.{length, drop, length-take}
-use Rattle.hashprune.specs.Steps.{farAt}
+use Rattle.hashprune.specs.Inside.Steps.{farAt}
 use Rattle.hashprune.proofs.Cells.{at-within, at-inside, taken-cells, new-cells, holder-inside}
 use Rattle.hashprune.proofs.put_cell.Statement.{statement}
 use Rattle.hashprune.proofs.put_cell.Tie as tie

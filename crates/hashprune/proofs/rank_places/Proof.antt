@@ -3,7 +3,7 @@ use mathlib.Core.Path.{refl}
 use Prim.Native.Nat.{_-_}
 use lib.ListN.{length, getD}
 use Rattle.basics.proofs.Members.{in-getD}
-use Rattle.hashprune.specs.Steps.{rankedPlace}
+use Rattle.hashprune.specs.Inside.Steps.{rankedPlace}
 use Rattle.hashprune.proofs.Ranked.{Ranking, ranking-none, ranking-more, ranking-end}
 use borrow.Author.Needs.{needs}
 use native.Mathlib.Omega.{arith}

@@ -6,7 +6,7 @@ use Prim.Native.Nat.{ℕ, _-_, _≤_}
 use lib.ListN.{length, length-map}
 use Rattle.sorting.specs.Sorting.{keysOf, idsOf}
 use Rattle.lists.proofs.Reading.{one-row}
-use Rattle.hashprune.specs.Steps.{rankedNode}
+use Rattle.hashprune.specs.Inside.Steps.{rankedNode}
 use Rattle.hashprune.proofs.Rows.{length-entries}
 use Rattle.hashprune.proofs.Ranked.{Ranking, ranking-none, ranking-more, ranking-end}
 use borrow.Author.Needs.{needs}

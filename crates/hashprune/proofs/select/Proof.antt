@@ -3,7 +3,7 @@ use mathlib.Core.Path.{_≡_, subst}
 use mathlib.Core.List.{List·Memᴰ as In}
 use Prim.Native.Nat.{_≤_}
 use lib.ListN.{length, take, length-take}
-use Rattle.hashprune.specs.Steps.{farAt, hashAt, rankedPlace}
+use Rattle.hashprune.specs.Inside.Steps.{farAt, hashAt, rankedPlace}
 use Rattle.hashprune.proofs.Cells.{cells-below, places-are}
 use Rattle.hashprune.proofs.Ranked.{put-sorted}
 use native.Mathlib.Omega.{arith}

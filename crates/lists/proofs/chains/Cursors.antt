@@ -13,8 +13,8 @@ use borrow.Author.Tests.{ltb-true, ltb-false, eqb-true, eqb-false, not-true, not
 use Rattle.basics.specs.Choice.{pick, pick-true, pick-false}
 use Rattle.basics.proofs.Tests.{both-false}
 use Rattle.lists.specs.declared.chains.Cursor.{Cursor}
-use Rattle.lists.specs.Chains.{otherEndAt, nextLink, linkedEnds}
-use Rattle.lists.specs.Lists.{cursorAt, listFrom, hasEntry, entryAt, nextCursor}
+use Rattle.lists.specs.Inside.Chains.{otherEndAt, nextLink, linkedEnds}
+use Rattle.lists.specs.Inside.Lists.{cursorAt, listFrom, hasEntry, entryAt, nextCursor}
 use Rattle.lists.proofs.chains.Reading.{linked-none, linked-step, next-place}
 
 module _ (n : ℕ) (row bridges links : List ℕ) (at : Cursor) where

@@ -17,7 +17,7 @@ use Rattle.basics.specs.Choice.{pick, pick-ind, pick-true, pick-false}
 use Rattle.basics.specs.Graph.{Bridge, otherEnd, otherEnds}
 use Rattle.basics.specs.Lists.{pieces}
 use Rattle.store.specs.View.{bridgeIn, bridgeBlock}
-use Rattle.lists.specs.Chains.{otherSlot, otherEndAt, firstLink, nextLink, linkedEnds, clearedLinks, linkPlace, appendSlot, chainBridge, slotAt, slotsFrom, Path, lastLink, Chains, Chained, bridgesIn}
+use Rattle.lists.specs.Inside.Chains.{otherSlot, otherEndAt, firstLink, nextLink, linkedEnds, clearedLinks, linkPlace, appendSlot, chainBridge, slotAt, slotsFrom, Path, lastLink, Chains, Chained, bridgesIn}
 use Rattle.lists.proofs.chains.Reading.{next-cases, linked-none, linked-more}
 
 -- ---- the next link, by the word that holds it

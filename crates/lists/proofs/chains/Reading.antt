@@ -10,7 +10,7 @@ use lib.Dec.{ltb, leb, ltb→lt, leb→le}
 use lib.ListN.{length, getD}
 use Rattle.basics.specs.Choice.{pick-ind}
 use Rattle.basics.proofs.Members.{both-left, both-right}
-use Rattle.lists.specs.Chains.{otherEndAt, firstLink, nextLink, endsFrom, linkedEnds}
+use Rattle.lists.specs.Inside.Chains.{otherEndAt, firstLink, nextLink, endsFrom, linkedEnds}
 
 -- ---- links have places
 

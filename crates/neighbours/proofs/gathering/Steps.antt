@@ -21,11 +21,11 @@ use Rattle.basics.proofs.Counting.{in-has, at-most}
 use Rattle.basics.proofs.Pieces.{length-pieces}
 use Rattle.store.specs.Layout.{bridgeSize}
 use Rattle.store.specs.View.{bridgeIn}
-use Rattle.lists.specs.Words.{bridgeList}
-use Rattle.lists.specs.Chains.{otherEndAt, firstLink, nextLink, linkedEnds, bridgesIn}
+use Rattle.lists.specs.Inside.Words.{bridgeList}
+use Rattle.lists.specs.Inside.Chains.{otherEndAt, firstLink, nextLink, linkedEnds, bridgesIn}
 use Rattle.lists.proofs.chains.Reading.{first-place, next-place, linked-none, linked-step}
 use Rattle.lists.proofs.chains.Laws.{chained-ends}
-use Rattle.neighbours.specs.Gathering.{Fresh, visitOne, gatherFresh, freshEnd, FreshIn, Gathering, Linked}
+use Rattle.neighbours.specs.Inside.Gathering.{Fresh, visitOne, gatherFresh, freshEnd, FreshIn, Gathering, Linked}
 
 pub at-most-one : (b : Bool) → boolByte b ≤ 1
 at-most-one true = omega arith

@@ -11,7 +11,7 @@ use native.Mathlib.Decide.{ℕ-discrete}
 use lib.ListN.{length, getD, set, take, drop, length-set}
 use lib.Seq.{drop-cons, getD-set-same, getD-set-other}
 use lib.Ieee.{Float}
-use Rattle.neighbours.specs.Scoring.{scoredAt, scoredEight, placedEight}
+use Rattle.neighbours.specs.Inside.Scoring.{scoredAt, scoredEight, placedEight}
 
 module _ (far : ℕ → Float) where
   pub scored-append : (xs ys : List ℕ) (floats : List Float) → scoredAt far (xs ++ ys) floats ≡ scoredAt far ys (scoredAt far xs floats)

@@ -12,7 +12,7 @@ use lib.Ieee.Scale.{finite}
 use Rattle.basics.specs.Lists.{every}
 use Rattle.basics.proofs.Pieces.{every-at}
 use Rattle.basics.proofs.EqualParts.{parts-none, parts-all}
-use Rattle.params.specs.Sums.{AddedUp}
+use Rattle.params.specs.Inside.Sums.{AddedUp}
 
 infinite : (b s : Bool) → finite (cond b (inf s) nan) ≡ true → ⊥
 infinite true s e = false≢true e

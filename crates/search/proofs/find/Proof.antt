@@ -7,7 +7,7 @@ use lib.Seq.{length-take-le}
 use lib.Ieee.{Float}
 use Rattle.store.specs.View.{view}
 use Rattle.def_walk.specs.Beam.{farFrom}
-use Rattle.search.specs.Reply.{replyBy}
+use Rattle.search.specs.Inside.Reply.{replyBy}
 use Rattle.search.proofs.Replies.{query-short, room-is, room-long, room-length, ready, reply-is}
 use native.Mathlib.Omega.{arith}
 use borrow.Author.Needs.{needs}

@@ -8,7 +8,7 @@ use native.Mathlib.Numerals.{add-one}
 use lib.ListN.{length, getD, take, drop, set, length-set, length-map}
 use lib.Seq.{take-suc, length-take-le}
 use Rattle.basics.proofs.Loops.{front-set}
-use Rattle.search.specs.Docs.{docAt}
+use Rattle.search.specs.Inside.Docs.{docAt}
 use Rattle.search.proofs.put_docs.Statement.{statement}
 use Rattle.search.proofs.put_docs.Tie as tie
 

@@ -8,7 +8,7 @@ use Prim.Native.Nat.{_-_, _≤_, _<_}
 use lib.ListN.{length, drop}
 use lib.Ieee.{Float, binary32}
 use Rattle.basics.specs.Sum.{sumFrom, products}
-use Rattle.simd.specs.Eight.{fours}
+use Rattle.simd.specs.Inside.Eight.{fours}
 use Rattle.simd.proofs.Left.{Rest, left-step, left-end}
 use Rattle.simd.proofs.dot8_rest.Statement.{statement}
 use Rattle.simd.proofs.dot8_rest.Tie as tie

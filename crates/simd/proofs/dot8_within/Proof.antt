@@ -5,7 +5,7 @@ use mathlib.Core.Path.{_≡_, refl, sym, subst, _∙_}
 use Prim.Native.Nat.{_+_, _-_, _%_, _≤_}
 use lib.ListN.{length}
 use lib.Ieee.{Float, ofBits}
-use Rattle.simd.specs.Eight.{fours}
+use Rattle.simd.specs.Inside.Eight.{fours}
 use Rattle.simd.proofs.Left.{Left, left-start, left-four}
 use Rattle.simd.proofs.dot8_within.Statement.{statement}
 use Rattle.simd.proofs.dot8_within.Tie as tie

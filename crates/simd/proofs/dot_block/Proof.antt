@@ -9,7 +9,7 @@ use lib.Ieee.{Float, binary32}
 use Rattle.basics.specs.Sum.{sumOf, products}
 use Rattle.basics.proofs.Sums.{products-take}
 use Rattle.simd.specs.Dot.{dotOf}
-use Rattle.simd.specs.Eight.{rowIn}
+use Rattle.simd.specs.Inside.Eight.{rowIn}
 use Rattle.simd.proofs.Lanes.{length-lane}
 use borrow.Author.Needs.{needs}
 use Rattle.simd.proofs.dot_block.Statement.{statement}

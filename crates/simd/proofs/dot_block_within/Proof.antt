@@ -6,7 +6,7 @@ use mathlib.Core.Path.{_≡_}
 use Prim.Native.Nat.{_*_, _-_, _+_, _≤_, _<_}
 use lib.ListN.{length}
 use lib.Ieee.{ofBits}
-use Rattle.simd.specs.Eight.{rowIn}
+use Rattle.simd.specs.Inside.Eight.{rowIn}
 use Rattle.simd.proofs.Left.{Left, left-start, left-end}
 use Rattle.simd.proofs.Lanes.{block-step}
 use Rattle.simd.proofs.dot_block_within.Statement.{statement}

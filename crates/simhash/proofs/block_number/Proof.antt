@@ -6,7 +6,7 @@ use Prim.Native.Nat.{ℕ, _*_, _/_, _^_, _≤_, _<_}
 use native.Mathlib.Nat.{div-le-self, mod-lt, mul-le-mul}
 use native.Mathlib.Omega.{arith}
 use lib.Ieee.{ofBits}
-use Rattle.simhash.specs.Blocks.{planeAt}
+use Rattle.simhash.specs.Inside.Blocks.{planeAt}
 use Rattle.simhash.proofs.Blocks.{no-dimension, past-planes, past-numbers, within-planes}
 use Rattle.simhash.proofs.block_number.Statement.{statement}
 use Rattle.simhash.proofs.block_number.Tie as tie

@@ -4,7 +4,7 @@ use mathlib.Core.Path.{sym, _∙_}
 use lib.ListN.{length-take}
 use lib.Seq.{length-take-le}
 use Rattle.simhash.proofs.Sums.{cut-side}
-use Rattle.simhash.specs.Blocks.{sideOf}
+use Rattle.simhash.specs.Inside.Blocks.{sideOf}
 use Rattle.simhash.proofs.Bits.{bits-same}
 use lib.ListN.{length, take}
 use Prim.Native.Nat.{_/_}

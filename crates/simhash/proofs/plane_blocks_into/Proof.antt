@@ -6,7 +6,7 @@ use mathlib.Core.List.{_++_, append-nil}
 use Prim.Native.Nat.{_-_, _≤_}
 use lib.ListN.{length, drop, length-set}
 use lib.Seq.{drop-length}
-use Rattle.simhash.specs.Blocks.{planeBlocks}
+use Rattle.simhash.specs.Inside.Blocks.{planeBlocks}
 use Rattle.simhash.proofs.Blocks.{blocks-set}
 use Rattle.simhash.proofs.plane_blocks_into.Statement.{statement}
 use Rattle.simhash.proofs.plane_blocks_into.Tie as tie

@@ -3,7 +3,7 @@ use borrow.Author.Needs.{needs}
 use mathlib.Core.Path.{ap, _∙_}
 use Prim.Native.Nat.{ℕ, _%_, _^_, min}
 use native.Mathlib.Omega.{arith}
-use Rattle.simhash.specs.Blocks.{bitIn}
+use Rattle.simhash.specs.Inside.Blocks.{bitIn}
 use Rattle.simhash.proofs.Bits.{bits-cut}
 use Rattle.simhash.proofs.Bytes.{one-byte, low-byte, two-bytes}
 use Rattle.simhash.proofs.simhash_residual.Statement.{statement}

@@ -1,7 +1,7 @@
 -- `queues::keep_closest` meets its contract, by its four cases: a free slot, no slot at all, the worst leaves, it stays. Assumes nothing.
 use mathlib.Core.Path.{refl}
 use lib.Ieee.{ofBits, nanBits}
-use Rattle.beam_state.specs.Tournament.{firstOf}
+use Rattle.beam_state.specs.Inside.Tournament.{firstOf}
 use Rattle.beam_state.proofs.queues.Keeping.{kept-free, kept-none, kept-new, kept-same}
 use native.Mathlib.Omega.{arith}
 use borrow.Author.Needs.{needs}

@@ -4,7 +4,7 @@ use mathlib.Core.Path.{_≡_, refl, sym, ap, _∙_, subst}
 use Prim.Native.Nat.{ℕ, _-_, _/_, _≤_}
 use lib.ListN.{length, replicate}
 use Rattle.words.proofs.slices.Laws.{filled, filled-more, filled-length, filled-end}
-use Rattle.beam_state.specs.Tournament.{emptyRank, Tournament}
+use Rattle.beam_state.specs.Inside.Tournament.{emptyRank, Tournament}
 use Rattle.beam_state.proofs.tournament.Settling.{all-empty}
 use native.Mathlib.Omega.{arith}
 use Rattle.beam_state.proofs.tournament.clear.Statement.{statement}

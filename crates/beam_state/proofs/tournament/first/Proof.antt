@@ -2,7 +2,7 @@
 use mathlib.Core.Path.{sym}
 use borrow.Author.Tests.{lt-ltb, le-ltb}
 use Rattle.basics.specs.Choice.{pick-true, pick-false}
-use Rattle.beam_state.specs.Tournament.{firstOf}
+use Rattle.beam_state.specs.Inside.Tournament.{firstOf}
 use borrow.Author.Needs.{needs}
 use Rattle.beam_state.proofs.tournament.first.Statement.{statement}
 use Rattle.beam_state.proofs.tournament.first.Tie as tie

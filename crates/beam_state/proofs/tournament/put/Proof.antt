@@ -3,7 +3,7 @@ use mathlib.Core.Path.{_∙_, ap, sym, subst}
 use mathlib.Core.List.{List}
 use Prim.Native.Nat.{ℕ, _+_, _/_}
 use lib.ListN.{length, set}
-use Rattle.beam_state.specs.Tournament.{rankAt, withPair, Open}
+use Rattle.beam_state.specs.Inside.Tournament.{rankAt, withPair, Open}
 use Rattle.beam_state.proofs.tournament.Settling.{open-put, laid-here, laid-length}
 use native.Mathlib.Omega.{arith}
 use borrow.Author.Needs.{needs}

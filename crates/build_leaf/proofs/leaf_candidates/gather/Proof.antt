@@ -6,7 +6,7 @@ use mathlib.Core.Path.{_≡_, refl, _∙_}
 use Prim.Native.Nat.{_-_, _≤_, _<_}
 use lib.ListN.{length, getD, length-set}
 use Rattle.basics.proofs.Members.{in-getD}
-use Rattle.build_leaf.specs.Candidates.{nodeIn, farInLane}
+use Rattle.build_leaf.specs.Inside.Candidates.{nodeIn, farInLane}
 use Rattle.build_leaf.proofs.leaf_candidates.Offers.{Copied, copied-none, copied-more, copied-all}
 use Rattle.build_leaf.proofs.leaf_candidates.gather.Statement.{statement}
 use Rattle.build_leaf.proofs.leaf_candidates.gather.Tie as tie

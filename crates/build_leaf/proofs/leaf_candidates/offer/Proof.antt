@@ -4,7 +4,7 @@ use native.Mathlib.Omega.{arith}
 use mathlib.Core.Path.{_≡_, refl, subst, _∙_}
 use Prim.Native.Nat.{ℕ, _+_, _-_, _≤_}
 use lib.ListN.{length}
-use Rattle.build_leaf.specs.Candidates.{Offered}
+use Rattle.build_leaf.specs.Inside.Candidates.{Offered}
 use Rattle.build_leaf.proofs.leaf_candidates.Offers.{offered-none, offered-more}
 use Rattle.build_leaf.proofs.leaf_candidates.offer.Statement.{statement}
 use Rattle.build_leaf.proofs.leaf_candidates.offer.Tie as tie

@@ -9,7 +9,7 @@ use lib.ListN.{length}
 use lib.Ieee.{Float}
 use Rattle.distance.specs.Distance.{blockDistancesOf}
 use Rattle.distance.specs.Vectors.{vectorsIn}
-use Rattle.build_leaf.specs.Lanes.{LanesFilled}
+use Rattle.build_leaf.specs.Inside.Lanes.{LanesFilled}
 use Rattle.build_leaf.proofs.leaf_distances.Laws.{filled-none, filled-more, filled-all}
 use Rattle.build_leaf.proofs.leaf_distances.distance_rows.Statement.{statement}
 use Rattle.build_leaf.proofs.leaf_distances.distance_rows.Tie as tie

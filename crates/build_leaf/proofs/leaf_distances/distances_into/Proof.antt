@@ -8,7 +8,7 @@ use lib.ListN.{length, take, length-take, length-drop, length-append}
 use lib.Seq.{take-at}
 use lib.Ieee.{Float}
 use Rattle.distance.specs.Vectors.{vectorsIn}
-use Rattle.build_leaf.specs.Lanes.{BlockTurned, LanesFilled, Distances}
+use Rattle.build_leaf.specs.Inside.Lanes.{BlockTurned, LanesFilled, Distances}
 use Rattle.build_leaf.proofs.leaf_distances.Laws.{distances-are}
 use borrow.Author.Needs.{needs}
 use Rattle.build_leaf.proofs.leaf_distances.distances_into.Statement.{statement}

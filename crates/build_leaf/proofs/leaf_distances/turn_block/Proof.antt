@@ -5,7 +5,7 @@ use mathlib.Core.Path.{_≡_, refl, ap, subst, _∙_}
 use Prim.Native.Nat.{ℕ, _-_, _≤_}
 use lib.ListN.{length, getD}
 use Rattle.distance.specs.Vectors.{vectorsIn}
-use Rattle.build_leaf.specs.Lanes.{BlockTurned}
+use Rattle.build_leaf.specs.Inside.Lanes.{BlockTurned}
 use Rattle.build_leaf.proofs.leaf_distances.Laws.{turned-none, turned-more, vector-short}
 use Rattle.build_leaf.proofs.leaf_distances.turn_block.Statement.{statement}
 use Rattle.build_leaf.proofs.leaf_distances.turn_block.Tie as tie

@@ -3,7 +3,7 @@ use mathlib.Core.Path.{ap, _∙_}
 use lib.Ieee.{binary32}
 use Rattle.distance.specs.Vectors.{vectorsIn}
 use Rattle.distance.specs.Distance.{distanceOf}
-use Rattle.lists.specs.Lists.{listWords}
+use Rattle.lists.specs.Inside.Lists.{listWords}
 use Rattle.graph_utils.proofs.candidates.Steps.{start-is}
 use borrow.Author.Needs.{needs}
 use Rattle.graph_utils.proofs.candidates.bridge_start.Statement.{statement}

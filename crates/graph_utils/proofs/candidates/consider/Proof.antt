@@ -2,7 +2,7 @@
 use mathlib.Core.Path.{ap, _∙_}
 use lib.Ieee.{binary32}
 use Rattle.distance.specs.Distance.{distanceOf}
-use Rattle.graph_utils.specs.Candidates.{Seeking, seeking}
+use Rattle.graph_utils.specs.Inside.Candidates.{Seeking, seeking}
 use Rattle.graph_utils.proofs.candidates.Steps.{not-reached, is-nearer, not-nearer}
 use borrow.Author.Needs.{needs}
 use Rattle.graph_utils.proofs.candidates.consider.Statement.{statement}

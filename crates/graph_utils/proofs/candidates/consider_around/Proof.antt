@@ -2,8 +2,8 @@
 use mathlib.Core.Path.{ap, _∙_}
 use mathlib.Core.List.{List}
 use Prim.Native.Nat.{ℕ}
-use Rattle.lists.specs.Lists.{listWords}
-use Rattle.graph_utils.specs.Candidates.{Seeking, seeking, consideredAll}
+use Rattle.lists.specs.Inside.Lists.{listWords}
+use Rattle.graph_utils.specs.Inside.Candidates.{Seeking, seeking, consideredAll}
 use Rattle.graph_utils.proofs.candidates.Steps.{around-own, around-not}
 use borrow.Author.Needs.{needs}
 use Rattle.graph_utils.proofs.candidates.consider_around.Statement.{statement}

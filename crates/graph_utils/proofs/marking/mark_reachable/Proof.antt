@@ -8,8 +8,8 @@ use lib.ListN.{length}
 use lib.Dec.{ltb}
 use borrow.Author.Tests.{ltb-true, ltb-false}
 use Rattle.basics.proofs.Tests.{both-true, one-false}
-use Rattle.lists.specs.Lists.{listWords}
-use Rattle.graph_utils.specs.Marking.{Marks, marks, visited, markedFrom, marked}
+use Rattle.lists.specs.Inside.Lists.{listWords}
+use Rattle.graph_utils.specs.Inside.Marking.{Marks, marks, visited, markedFrom, marked}
 use Rattle.graph_utils.proofs.marking.Steps.{walk-step, walk-end, walk-end-fuel}
 use borrow.Author.Needs.{needs}
 use native.Mathlib.Omega.{arith}

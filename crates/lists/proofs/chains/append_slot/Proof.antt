@@ -3,7 +3,7 @@ use mathlib.Core.Path.{ap, _∙_}
 use mathlib.Core.List.{List}
 use Prim.Native.Nat.{ℕ, _+_, _*_}
 use lib.ListN.{set}
-use Rattle.lists.specs.Chains.{linkPlace, appendSlot}
+use Rattle.lists.specs.Inside.Chains.{linkPlace, appendSlot}
 use borrow.Author.Needs.{needs}
 use Rattle.lists.proofs.chains.append_slot.Statement.{statement}
 use Rattle.lists.proofs.chains.append_slot.Tie as tie

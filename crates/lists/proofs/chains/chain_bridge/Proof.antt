@@ -4,7 +4,7 @@ use mathlib.Core.Path.{sym, ap, _∙_}
 use Prim.Native.Nat.{_+_, _*_, _^_}
 use borrow.Author.Tests.{eq-eqb, ne-eqb, lt-ltb, le-ltb}
 use Rattle.basics.specs.Choice.{pick-true, pick-false}
-use Rattle.lists.specs.Chains.{appendSlot, chainBridge}
+use Rattle.lists.specs.Inside.Chains.{appendSlot, chainBridge}
 use borrow.Author.Needs.{needs}
 use Rattle.lists.proofs.chains.chain_bridge.Statement.{statement}
 use Rattle.lists.proofs.chains.chain_bridge.Tie as tie

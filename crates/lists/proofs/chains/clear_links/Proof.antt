@@ -6,7 +6,7 @@ use Prim.Native.Nat.{ℕ, _-_, _*_, _≤_, min}
 use native.Mathlib.Decide.{decLe}
 use lib.ListN.{length, take, drop, replicate, drop-of-length-le}
 use lib.Seq.{length-take-le, drop-length}
-use Rattle.lists.specs.Chains.{clearedLinks}
+use Rattle.lists.specs.Inside.Chains.{clearedLinks}
 use borrow.Author.Needs.{needs}
 use Rattle.lists.proofs.chains.clear_links.Statement.{statement}
 use Rattle.lists.proofs.chains.clear_links.Tie as tie

@@ -6,7 +6,7 @@ use Prim.Native.Nat.{ℕ, _+_, _*_}
 use lib.Dec.{leb}
 use lib.ListN.{length}
 use Rattle.basics.specs.Choice.{pick, pick-true, pick-false}
-use Rattle.lists.specs.Chains.{firstLink}
+use Rattle.lists.specs.Inside.Chains.{firstLink}
 use borrow.Author.Needs.{needs}
 use Rattle.lists.proofs.chains.first_link.Statement.{statement}
 use Rattle.lists.proofs.chains.first_link.Tie as tie

@@ -3,7 +3,7 @@ use mathlib.Core.Path.{sym, _∙_}
 use lib.ListN.{length}
 use borrow.Author.Tests.{lt-ltb, le-ltb}
 use Rattle.basics.specs.Choice.{pick-true, pick-false}
-use Rattle.lists.specs.Lists.{entryAt}
+use Rattle.lists.specs.Inside.Lists.{entryAt}
 use borrow.Author.Needs.{needs}
 use Rattle.lists.proofs.chains.list_entry.Statement.{statement}
 use Rattle.lists.proofs.chains.list_entry.Tie as tie

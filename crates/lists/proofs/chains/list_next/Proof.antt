@@ -3,7 +3,7 @@ use mathlib.Core.Path.{sym, ap, _∙_}
 use lib.ListN.{length}
 use borrow.Author.Tests.{lt-ltb, le-ltb}
 use Rattle.basics.specs.Choice.{pick-true, pick-false}
-use Rattle.lists.specs.Lists.{cursorAt, nextCursor}
+use Rattle.lists.specs.Inside.Lists.{cursorAt, nextCursor}
 use borrow.Author.Needs.{needs}
 use Rattle.lists.proofs.chains.list_next.Statement.{statement}
 use Rattle.lists.proofs.chains.list_next.Tie as tie

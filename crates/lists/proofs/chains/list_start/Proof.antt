@@ -1,6 +1,6 @@
 -- The first link is the definition's. Assumes nothing.
 use mathlib.Core.Path.{ap}
-use Rattle.lists.specs.Lists.{cursorAt}
+use Rattle.lists.specs.Inside.Lists.{cursorAt}
 use borrow.Author.Needs.{needs}
 use Rattle.lists.proofs.chains.list_start.Statement.{statement}
 use Rattle.lists.proofs.chains.list_start.Tie as tie

@@ -5,7 +5,7 @@ use Prim.Native.Nat.{ℕ, _+_, _*_}
 use lib.Dec.{ltb, leb}
 use lib.ListN.{length, getD}
 use Rattle.basics.specs.Choice.{pick, pick-true, pick-false}
-use Rattle.lists.specs.Chains.{nextLink}
+use Rattle.lists.specs.Inside.Chains.{nextLink}
 use borrow.Author.Needs.{needs}
 use Rattle.lists.proofs.chains.next_link.Statement.{statement}
 use Rattle.lists.proofs.chains.next_link.Tie as tie

@@ -5,9 +5,9 @@ use mathlib.Core.List.{List}
 use Prim.Native.Nat.{ℕ, _+_, _-_, _*_, _/_, _%_}
 use lib.ListN.{getD}
 use Rattle.store.specs.Layout.{word, bridgeSize}
-use Rattle.lists.specs.Words.{blockAt}
+use Rattle.lists.specs.Inside.Words.{blockAt}
 use Rattle.lists.proofs.Reading.{block-word}
-use Rattle.lists.specs.Chains.{otherSlot, otherEndAt}
+use Rattle.lists.specs.Inside.Chains.{otherSlot, otherEndAt}
 use borrow.Author.Needs.{needs}
 use Rattle.lists.proofs.chains.other_end.Statement.{statement}
 use Rattle.lists.proofs.chains.other_end.Tie as tie

@@ -4,8 +4,8 @@ use mathlib.Core.List.{List, []}
 use Prim.Native.Nat.{ℕ}
 use lib.ListN.{getD}
 use Rattle.basics.specs.Graph.{otherEnds, listOf}
-use Rattle.lists.specs.Words.{rowLists, bridgeList}
-use Rattle.neighbours.specs.Gathering.{Gathering}
+use Rattle.lists.specs.Inside.Words.{rowLists, bridgeList}
+use Rattle.neighbours.specs.Inside.Gathering.{Gathering}
 use Rattle.neighbours.proofs.gathering.Steps.{gathering-then, linked-ends}
 use native.Mathlib.Omega.{arith}
 use borrow.Author.Needs.{needs}

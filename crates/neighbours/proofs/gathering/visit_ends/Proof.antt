@@ -1,7 +1,7 @@
 -- `gathering::visit_ends` meets its contract: what is gathered from a link on is gathered from the first one on. The measure is how many ends are
 -- left. Assumes nothing.
 use lib.ListN.{length}
-use Rattle.lists.specs.Chains.{linkedEnds}
+use Rattle.lists.specs.Inside.Chains.{linkedEnds}
 use Rattle.neighbours.proofs.gathering.Steps.{Followed, followed-none, followed-more, followed-less, followed-all}
 use borrow.Author.Needs.{needs}
 use native.Mathlib.Omega.{arith}

@@ -3,7 +3,7 @@ use mathlib.Core.Path.{ap, _∙_}
 use Rattle.simd.specs.declared.Eight.{Eight}
 use Rattle.distance.specs.Vectors.{vectorsIn}
 use Rattle.def_walk.specs.Beam.{farFrom}
-use Rattle.neighbours.specs.Scoring.{placedEight}
+use Rattle.neighbours.specs.Inside.Scoring.{placedEight}
 use Rattle.neighbours.proofs.scoring.Laws.{eight-are}
 use borrow.Author.Needs.{needs}
 use Rattle.neighbours.proofs.scoring.score_eight.Statement.{statement}

@@ -1,0 +1,3 @@
+pub mod Built
+pub mod Candidates
+pub mod Lanes

@@ -1,0 +1,2 @@
+pub mod Carving
+pub mod Steps

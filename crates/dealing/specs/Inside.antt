@@ -1,0 +1,4 @@
+pub mod Cards
+pub mod Deal
+pub mod Marks
+pub mod Steps

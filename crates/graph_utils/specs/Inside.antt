@@ -1,0 +1,4 @@
+pub mod Candidates
+pub mod Connectivity
+pub mod Marking
+pub mod Turns

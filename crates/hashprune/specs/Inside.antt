@@ -1,0 +1,2 @@
+pub mod Hashprune
+pub mod Steps
