@@ -31,7 +31,7 @@ unfolding firstRefusal
 none-turned [] p = refl
 none-turned (c ∷ cs) p = none-turned cs (p .1) ∙ sym (pick-false (c .number) (firstRefusal cs) (p .0))
 
--- a second list counts where the first turns nothing back
+-- a second list counts where the first refuses nothing
 pub then-second : (first second : List Check) → Numbered first → firstRefusal first ≡ 0 → firstRefusal (first ++ second) ≡ firstRefusal second
 unfolding firstRefusal
 then-second [] second k = λ e. refl
@@ -48,14 +48,14 @@ then-first (c ∷ cs) second =
     (λ t n. pick-yes (c .fails) (c .number) (firstRefusal (cs ++ second)) t)
     (λ t n. pick-no (c .fails) (c .number) (firstRefusal (cs ++ second)) t ∙ then-first cs second n)
 
--- a list that turns nothing back passes check by check
+-- a list that refuses nothing passes check by check
 pub passes : (cs : List Check) → Numbered cs → firstRefusal cs ≡ 0 → Pass cs
 unfolding firstRefusal
 passes [] k = λ e. tt
 passes (c ∷ cs) k =
     pick-ind (λ (x : ℕ). x ≡ 0 → Pass (c ∷ cs)) (c .fails) (λ t e. absurd (omega (arith, k .0))) (λ t e. (is-false (c .fails) t, passes cs (k .1) e))
 
--- two lists that turn nothing back together turn nothing back each
+-- two lists that refuse nothing together refuse nothing each
 pub both-none : (first second : List Check) → Numbered first → firstRefusal (first ++ second) ≡ 0 → (firstRefusal first ≡ 0) × (firstRefusal second ≡ 0)
 unfolding firstRefusal
 both-none [] second k = λ e. (refl, e)

@@ -1,4 +1,4 @@
--- A node's list (01, "Records"): its row, then for each bridge in order the other end, if the node is one end.
+-- A node's list (scope, Records): its row, then for each bridge in order the other end, if the node is one end.
 use mathlib.Core.List.{List, [], _∷_, _++_}
 use Prim.Native.Nat.{ℕ}
 use lib.Dec.{eqb}

@@ -1,10 +1,10 @@
--- What a call turns back, and with which number: its checks in their order, and the number of the first that fails.
+-- What a call refuses, and with which number: its checks in their order, and the number of the first that fails.
 use mathlib.Core.Bool.{Bool}
 use mathlib.Core.List.{List, [], _∷_}
 use Prim.Native.Nat.{ℕ, _<_}
 use Rattle.basics.specs.Choice.{pick}
 
--- a test that turns the call back where it is true, and 01's number for it
+-- a test that refuses the call where it is true, and the number of that refusal
 pub record Check : Type 0 where
   pub fails : Bool
   pub number : ℕ

@@ -1,4 +1,4 @@
--- Sums of floats (01, part 1): numbers are added from the first on, each step rounded once, starting at +0. Over any format.
+-- Sums of floats (scope, part 1): numbers are added from the first on, each step rounded once, starting at +0. Over any format.
 use mathlib.Core.Bool.{false}
 use mathlib.Core.List.{List, [], _∷_}
 use lib.IntN.{pos}

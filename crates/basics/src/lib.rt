@@ -9,7 +9,7 @@
 // specs/Inside/Rows  n rows of at most d entries below n, which every step of a build keeps
 // proofs/Loops       what a loop that reads or rewrites a slice has done so far
 // proofs/Every       what a loop that gathers a test over a slice has gathered so far
-// proofs/Refusals    which check's number a list of checks gives
+// proofs/Refusals    which check's number a list of checks returns
 // proofs/Tests       what tests joined by `&` and `|` say of each
 // proofs/Counting    how many different nodes below n there can be
 // proofs/Sums        a sum of products, one step and the end

@@ -1,11 +1,11 @@
-// The walk of a search (01, part 8): `beam_search` of src/pipnn/mod.rs, with its answer.
+// The walk of a search (scope, part 8): `beam_search` of src/pipnn/mod.rs, with its answer.
 //
 // The walk starts at the entry node and goes on from the nearest node whose list it has not looked at. What
 // is fresh in a list is marked and gathered, then scored eight at a time, then pushed in order: into the
-// frontier, among the held, into the answer. It ends where everything left lies well beyond the cutoff,
-// where many nodes are scored, or where the frontier is empty; and where all nodes are scored, since what is
-// left of the definition's walk finds nothing then. The answer is kept in order from the first
-// node on, so that nothing is sorted at the end.
+// frontier, among the held, into the answer. It ends when everything left is well beyond the cutoff, when
+// many nodes are scored, or when the frontier is empty; and when all nodes are scored, since what is left of
+// the definition's walk then finds nothing. The answer is kept in order from the first node on, so that
+// nothing is sorted at the end.
 //
 // It computes the walk and the answer of `beam`; specs/Inside/Search says of which graph: the entries of the lists
 // that are below the number of nodes. Scratch is 11 words (`beam_state` has their layout) and a float for each
@@ -33,7 +33,7 @@ use neighbours::scoring;
 use words::ids::Node;
 use words::slices;
 
-// 01's two numbers for the stops.
+// The two stop numbers of part 8.
 const STOP_FACTOR: f32 = 1.5;
 
 const STOP_MULTIPLIER: u64 = 10;

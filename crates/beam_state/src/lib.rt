@@ -1,4 +1,4 @@
-// What a search's walk keeps between its steps (01, part 8), and scored nodes pushed into it: into the
+// What a search's walk keeps between its steps (scope, part 8), and scored nodes pushed into it: into the
 // frontier, among the held, into the answer. The body of the inner loop of `beam_search` in
 // src/pipnn/mod.rs.
 //

@@ -1,5 +1,5 @@
-// The two queues of a search's walk (01, part 8): the frontier, whose nearest node is taken next, and the
-// nodes held for the cutoff, of which the worst leaves first. `frontier.pop()` of `beam_search` and
+// The two queues of a search's walk (scope, part 8): the frontier, whose nearest node is taken next, and
+// the nodes held for the cutoff, of which the worst leaves first. `frontier.pop()` of `beam_search` and
 // `keep_closest` of src/graph_utils.rs.
 //
 // Both are tournaments. The frontier's places are the nodes, and a pair is a node's key and the node, so that
@@ -11,7 +11,7 @@
 // definitions of `beam` change it.
 //
 // proofs/Laws     the frontier: empty, a node put in, the first taken out
-// proofs/Holding  the held: none, one more, the worst's place taken, which pair is first
+// proofs/Holding  the held: none, one more, the worst's slot taken, which pair is first
 // proofs/Keeping  the cases of `keep_closest`
 ghost use mathlib.Core.Path.{_≡_};
 ghost use mathlib.Core.Bool.{false};

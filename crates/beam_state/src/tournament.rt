@@ -1,15 +1,15 @@
-// A tournament: places 0 up, each empty or with a pair of a key and an id, and the first of all the pairs at
-// hand at any time. The Rust's `BinaryHeap` of src/pipnn/mod.rs and src/graph_utils.rs; here the places are
-// node numbers, so that a pair is put, replaced and removed by its place.
+// A tournament: slots 0 up (`place` in code), each empty or with a pair of a key and an id, and the first of
+// all the pairs at hand at any time. The Rust's `BinaryHeap` of src/pipnn/mod.rs and src/graph_utils.rs;
+// here a slot's number can be a node's, so that a pair is put, replaced and removed by its slot.
 //
-// A slice of u32 holds it, four words a place: with `size` places, pair p stands at words 2p and 2p + 1, its id
-// and then its key, and the pair of place i is pair size + i. Every pair p from 1 to size - 1 is the lesser of
-// pairs 2p and 2p + 1, by key and then id, so that pair 1 is the first of all. An empty place has all ones,
-// which no pair comes after. A put goes up from its place to pair 1, a step for each halving of the size, and
+// A slice of u32 holds it, four words for each slot: with `size` slots, pair p is at words 2p and 2p + 1, its
+// id and then its key, and the pair of slot i is pair size + i. Every pair p from 1 to size - 1 is the lesser
+// of pairs 2p and 2p + 1, by key and then id, so that pair 1 is the first of all. An empty slot has all ones,
+// which no pair comes after. A put goes up from its slot to pair 1, a step for each halving of the size, and
 // takes the lesser of two in each step without a branch: id and key are one number of 64 bits, its rank.
 //
 // Every function is total. What a tree stands for is `Tournament` of specs/Inside/Tournament; proofs/Laws says that
-// its first pair is one of the places' and that no place's comes before it.
+// its first pair is that of a slot and that no slot's comes before it.
 ghost use mathlib.Core.Path.{_≡_};
 ghost use Prim.Native.Nat.{_*_, _+_, _-_, _/_, _%_, _<_};
 ghost use lib.ListN.{length, replicate};

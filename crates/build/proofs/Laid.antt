@@ -1,4 +1,4 @@
--- Parts of the word store that were lent and written: what the store then is, as words laid over others. Assumes nothing.
+-- Parts of the word store that were passed on and written: what the store then is, as words laid over others. Assumes nothing.
 use mathlib.Core.Path.{_≡_, sym, ap, ap₂, _∙_}
 use mathlib.Core.List.{List, _++_}
 use Prim.Native.Nat.{ℕ, _+_, _≤_, _<_}

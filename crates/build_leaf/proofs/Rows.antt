@@ -1,4 +1,4 @@
--- One row's block lent and back, and the places of a leaf one after the other. Assumes nothing.
+-- One row's block passed on and returned, and the places of a leaf one after the other. Assumes nothing.
 use mathlib.Core.Path.{_≡_, refl, sym, ap, ap₂, subst, _∙_}
 use mathlib.Core.List.{List, [], _++_, map}
 use Prim.Native.Nat.{ℕ, zero, suc, _+_, _-_, _*_, _/_, _≤_, _<_, min}

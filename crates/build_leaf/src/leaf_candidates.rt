@@ -1,12 +1,12 @@
-// The candidates of one place of a leaf (01, part 5), as the Rust's `build_leaf` takes them: the nearest
-// of the other places, of equally near ones the earlier place.
+// The candidates of one position of a leaf (scope, part 5), as the Rust's `build_leaf` takes them: the
+// nearest of the other positions, of equally near ones the earlier.
 //
-// The Rust sorts all other places. Here they are offered one by one to the first few so far, which is
-// what sorting and cutting leaves (`keep-more` of Rattle.sorting), and most are refused at the cost of
-// one comparison. The distances are those that `leaf_distances` leaves in one lane of its floats.
+// The Rust sorts all other positions. Here they are offered one by one to the first few so far, which is
+// what sorting and cutting leaves (`keep-more` of Rattle.sorting), and most are refused at the cost of one
+// comparison. The distances are those that `leaf_distances` leaves in one lane of its floats.
 //
 // specs/Inside/Candidates  what is offered, and what the candidates are
-// proofs/Laws              places for nodes: sorting sees both alike
+// proofs/Laws              positions in place of nodes: sorting orders both in the same way
 ghost use Prim.Native.Nat.{_+_, _-_, _*_, _≤_, _<_};
 ghost use lib.ListN.{length};
 ghost use Rattle.basics.specs.Nodes.{Below};

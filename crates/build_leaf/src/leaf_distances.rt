@@ -1,10 +1,10 @@
-// The distances within a leaf (01, part 5), of which the Rust's `build_leaf` makes a whole table.
+// The distances within a leaf (scope, part 5), of which the Rust's `build_leaf` makes a whole table.
 //
-// Here they are worked out for eight places of the leaf at a time: the eight places' vectors are turned
-// into a block, in which each component's eight numbers stand together, and one pass over the leaf takes
-// each place's distances to all eight. The bits are those of single distances, which are the same both
-// ways, at a quarter of their cost; and only eight rows of the table have to be kept. The distance of
-// place j to the eighth g stands at 8 · j + g, so the eight are written side by side.
+// Here they are computed for eight positions of the leaf at a time: the eight vectors are transposed into a
+// block, in which each component's eight numbers are adjacent, and one pass over the leaf computes each
+// position's distances to all eight. The bits are those of single distances, which are the same both ways,
+// at a quarter of their cost; and only eight rows of the table have to be kept. The distance of position j
+// to number g of the eight is at 8 · j + g, so the eight are written side by side.
 //
 // specs/Inside/Lanes  what is put where
 // proofs/Laws         lanes of a block: one written, the others kept

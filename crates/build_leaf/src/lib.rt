@@ -1,13 +1,13 @@
-// Leaf lists (01, part 5), as the Rust's `build_leaf` writes them into the rows of a build: leaf after
-// leaf, each place of a leaf offers its node the nearest of the other places.
+// Leaf lists (scope, part 5), as the Rust's `build_leaf` writes them into the rows of a build: leaf after
+// leaf, each position of a leaf offers its node the nearest of the other positions.
 //
-// Eight places are taken at a time: their distances to the whole leaf are worked out together
-// (leaf_distances), then place by place its candidates are found (leaf_candidates) and go to the row of
-// its node (hashprune). The hyperplanes are made once a call. Every function is total; what is in the rows
-// afterwards is said of rows as a build makes them, where the sizes fit.
+// Eight positions are taken at a time: their distances to the whole leaf are computed together
+// (leaf_distances), then for each position its candidates are found (leaf_candidates) and go to the row of
+// its node (hashprune). The hyperplanes are made once for each call. Every function is total; what is in
+// the rows afterwards is said of rows as a build makes them, where the sizes fit.
 //
 // specs/Inside/Built  what the functions leave of the rows
-// proofs/Rows         one row, one place, eight places, a leaf
+// proofs/Rows         one row, one position, eight positions, a leaf
 // proofs/Leaves       leaf after leaf
 pub mod leaf_candidates;
 pub mod leaf_distances;

@@ -53,7 +53,7 @@ fitting-down level part nodes marks ids room cards d e cards′ f =
       cards-size = f ∙ sym same;
     }
 
--- ---- a part of a slice, lent and come back
+-- ---- a part of a slice, passed on and returned
 
 module _ (xs part : List ℕ) (at end : ℕ) (starts : at ≤ end) (ends : end ≤ length xs) (same : length part ≡ length (take (end - at) (drop at xs))) where
   part-size : length part ≡ end - at
@@ -171,7 +171,7 @@ module _ (maxLeaf minLeaf : ℕ) (fraction : Float) (vs : List (List Float)) whe
         held : Holding (carved level (f .bucket)) n₁ m₁
         held = subst (λ (l : List ℕ). Holding (carved level l) n₁ m₁) bucket-nodes (one bucket-marks)
 
--- ---- a front part and the rest of a slice, lent one after the other
+-- ---- a front part and the rest of a slice, passed on one after the other
 
 pub record Front (xs front : List ℕ) (size : ℕ) : Type 0 where
   pub within : size ≤ length xs

@@ -1,4 +1,4 @@
--- The first bucket that marks tell, empty ones passed over; and the leaves that hold a node. Assumes nothing.
+-- The first bucket that marks show, empty ones skipped; and the leaves that hold a node. Assumes nothing.
 use mathlib.Core.Path.{_≡_, refl, sym, ap, ap₂, _∙_}
 use mathlib.Core.List.{List, [], _∷_, _++_, map, map-append, flatten, append-nil}
 use Prim.Native.Nat.{ℕ, zero, suc, _+_, _-_, _≤_, _<_}

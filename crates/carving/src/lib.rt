@@ -1,13 +1,13 @@
-// Carving (01, part 4): the leaves of an index, as `partition` of src/pipnn/mod.rs makes them.
+// Carving (scope, part 4): the leaves of an index, as `partition` of src/pipnn/mod.rs makes them.
 //
-// `partition` leaves, in the words that it is lent, the nodes of all leaves that hold a node, leaf after
+// `partition` leaves, in the words that are passed in, the nodes of all leaves that hold a node, leaf after
 // leaf, and behind them the leaves' sizes: equal to `leavesOf` of the crate partition. Segments are
-// permuted in place. A slice of marks beside the nodes says where buckets begin, so that no list of
-// pending buckets is kept: `carve_segment` deals a segment that is no leaf to its leaders (crate dealing)
-// over its own place, and `carve_buckets` goes through its buckets in a loop and carves each, one level
-// down. So calls stand one inside the other once a level, 21 times at most. The arrays that dealing works
-// in are made once, above all levels, and passed down as slices: a level's own frame is small
-// (bindings/stack adds them up). Leans on `dealing` for one level, on `leaders` for the first segment.
+// permuted in place. A slice of marks beside the nodes says where buckets begin, so that no list of pending
+// buckets is kept: `carve_segment` deals a segment that is not a leaf to its leaders (crate dealing), in
+// place, and `carve_buckets` goes through its buckets in a loop and carves each, one level down. So calls
+// are nested once for each level, 21 times at most. The arrays that dealing works in are made once, above
+// all levels, and passed down as slices: a level's own frame is small (bindings/stack adds them up). It
+// uses `dealing` for one level and `leaders` for the first segment.
 ghost use mathlib.Core.Path.{_≡_};
 ghost use Prim.Native.Nat.{_*_, _≤_};
 ghost use lib.ListN.{length};

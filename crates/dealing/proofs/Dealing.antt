@@ -1,4 +1,4 @@
--- Cards tell where nodes go: a bucket for each leader by cards is the definition's bucket. Assumes nothing.
+-- Cards say where nodes go: a bucket for each leader by cards is the definition's bucket. Assumes nothing.
 use mathlib.Core.Path.{_≡_, refl, sym, ap, ap₂, _∙_}
 use mathlib.Core.Bool.{Bool, true, false, _||_}
 use mathlib.Core.List.{List, [], _∷_, _++_, map, map-append, append-nil}

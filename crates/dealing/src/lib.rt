@@ -1,12 +1,12 @@
-// Dealing a segment to its leaders (01, part 4): the part of the Rust's `partition` between drawing
+// Dealing a segment to its leaders (scope, part 4): the part of the Rust's `partition` between drawing
 // leaders and going one level down.
 //
 // `deal` draws leaders from a segment, finds for each node the nearest of them (at level 0 the two
 // nearest), and writes the buckets one after the other over `nodes`, where small ones have gathered, with
 // a mark at the first node of each. Equal to `bucketsOf` of the crate partition; specs/Inside/Marks says how
 // buckets stand in the two slices. It works in two slices of scratch that the caller passes, so that no
-// large array stands in its frame. Leans on `leaders` for the draws, on `vectors`, `distance` and `order`
-// for how near a leader is, on `sorting` for the nearest.
+// large array stands in its frame. It uses `leaders` for the draws, on `vectors`, `distance` and `order` for
+// how near a leader is, on `sorting` for the nearest.
 ghost use mathlib.Core.Path.{_≡_};
 ghost use mathlib.Core.List.{map, flatten, _++_};
 ghost use Prim.Native.Nat.{ℕ, _+_, _≤_};

@@ -1,4 +1,4 @@
--- 01's worked example, computed from `new` on by the definitions of the calls: every word that build leaves, the lists, the finds, a query that is scaled, and
+-- The worked example, computed from `new` on by the definitions of the calls: every word that build leaves, the lists, the finds, a query that is scaled, and
 -- refusals in their order. Assumes nothing.
 use mathlib.Core.Path.{_≡_, refl, ap}
 use mathlib.Core.List.{List, [], _∷_, _++_, map}
@@ -108,7 +108,7 @@ room-for-all = refl
 
 -- ---- after repair a list can have more than 2·D entries
 
--- two nodes with D = 0: both rows are empty, and the one bridge gives each node an entry
+-- two nodes with D = 0: both rows are empty, and the one bridge adds an entry for each node
 abbrev flat : Graph
 flat = graphOf (settingsOf 1 (record {
   «max_leaf_size» = 256;

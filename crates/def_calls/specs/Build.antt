@@ -1,5 +1,5 @@
--- `build` (01, "Records" and "Turned back"): the graph of parts 1 to 7 goes into the word store, and the store is built. On a built store it is
--- success, and nothing changes.
+-- `build` (scope, Records and Refusals): the graph of parts 1 to 7 goes into the word store, and the store is built. On a built store it is success,
+-- and nothing changes.
 use mathlib.Core.List.{List, [], _∷_, _++_, map, flatten}
 use Prim.Native.Nat.{ℕ, _+_}
 use lib.Dec.{eqb}
@@ -20,7 +20,7 @@ use Rattle.def_calls.specs.Graph.{Graph, graphOf, graphFor}
 unfoldable pub ownBuildChecks : List ℕ → List Check
 ownBuildChecks w = check (eqb (word w nodesAt) 0) emptyIndex ∷ []
 
--- scratch of ws words and fs floats is lent
+-- scratch of ws words and fs floats is passed in
 unfoldable pub buildChecks : (ws fs : ℕ) → List ℕ → List Float → List Check
 unfolding opening ownBuildChecks
 buildChecks ws fs w f = opening (Scratch ws fs) w f ++ ownBuildChecks w

@@ -1,4 +1,4 @@
--- 01's worked example ("The program probe"): three phones in an index of two features, from `new` to the answers.
+-- The worked example (scope, Checked values): three phones in an index of two features, from `new` to the answers.
 use mathlib.Core.Bool.{true}
 use mathlib.Core.List.{List, [], _∷_, map}
 use Prim.Native.Nat.{ℕ}
@@ -37,7 +37,7 @@ lists = map (listIn (view (exampleBuilt .1) (exampleBuilt .2))) (0 ∷ 1 ∷ 2 �
 abbrev pub asked : ℕ → ℕ → List Float → Reply
 asked k ef query = searchWithEfSpec 512 384 (exampleBuilt .1) (exampleBuilt .2) query k ef (replicate 4 7) (replicate 4 minusOne)
 
--- what it tells: number, count, scored, the doc ids, the distances' bits
+-- what it returns: number, count, scored, the doc ids, the distances' bits
 abbrev pub Printed : Type 0
 Printed = ℕ × ℕ × ℕ × List ℕ × List ℕ
 

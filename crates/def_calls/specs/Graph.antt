@@ -1,5 +1,5 @@
--- The graph that a build makes of an index's parameters and its stored vectors: parts 1 to 6 of 01 give the rows and the entry node, part 7 the
--- bridges.
+-- The graph that a build makes of an index's parameters and its stored vectors: parts 1 to 6 of the scope make the rows and the entry node, part 7
+-- the bridges.
 use mathlib.Core.List.{List}
 use Prim.Native.Nat.{ℕ}
 use lib.Ieee.{Float}

@@ -1,5 +1,5 @@
--- `search_with_ef` and `search` (01, part 8 and "Turned back"): the first k of what the walk scored (all, if fewer), as doc ids and distances in
--- the two outputs, with their number and the scored count. The stores stay as they are.
+-- `search_with_ef` and `search` (scope, part 8 and Refusals): the first k of what the walk scored (all, if fewer), as doc ids and distances in the
+-- two outputs, with their number and the scored count. The stores stay as they are.
 use mathlib.Core.Bool.{not, _||_}
 use mathlib.Core.List.{List, [], _∷_, _++_, map}
 use Prim.Native.Nat.{ℕ, min}
@@ -45,7 +45,7 @@ module _ (w : List ℕ) (query : List Float) (k ef : ℕ) (docs : List ℕ) (dis
       askingChecks w query k ef
       ++ (check (ltb (length docs) (min k (word w nodesAt)) || ltb (length distances) (min k (word w nodesAt))) outputTooShort ∷ [])
 
-  -- scratch of ws words and fs floats is lent
+  -- scratch of ws words and fs floats is passed in
   unfoldable pub searchChecks : (ws fs : ℕ) → List Float → List Check
   unfolding opening ownSearchChecks
   searchChecks ws fs f = opening (Scratch ws fs) w f ++ ownSearchChecks
@@ -67,7 +67,7 @@ unfoldable pub foundIn : View → List Float → ℕ → ℕ → List ℕ
 unfolding answerOf farIn scoredIn
 foundIn v query k ef = answerOf (farIn v query) k (scoredIn v query k ef)
 
--- ---- what it leaves: its number, how many nodes it gives and how many it scored, both outputs whole
+-- ---- what it leaves: its number, how many nodes it returns and how many it scored, both outputs whole
 
 pub record Reply : Type 0 where
   pub number : ℕ
@@ -76,11 +76,11 @@ pub record Reply : Type 0 where
   pub docs : List ℕ
   pub distances : List Float
 
--- a refusal gives counts 0 and writes nothing
+-- a refusal returns counts 0 and writes nothing
 abbrev pub refused : ℕ → List ℕ → List Float → Reply
 refused refusal docs distances = record { number = refusal; count = 0; scored = 0; docs = docs; distances = distances }
 
--- nothing is written past the nodes given
+-- nothing is written past the answer
 unfoldable pub replyOf : View → List Float → ℕ → ℕ → List ℕ → List Float → Reply
 unfolding farIn scoredIn foundIn
 replyOf v query k ef docs distances =

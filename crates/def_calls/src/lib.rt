@@ -1,4 +1,4 @@
-// The calls build and search (01, "Records", "Turned back", parts 7 and 8), as `build`, `search_with_ef` and
+// The calls build and search (scope, Records, Refusals, parts 7 and 8), as `build`, `search_with_ef` and
 // `search` of src/pipnn/mod.rs. Definitions and laws.
 //
 // Each is one definition of everything that the call leaves: its number, both stores or both outputs whole,
@@ -10,5 +10,5 @@
 // proofs/Taken     what a build and a search that are accepted have passed
 // proofs/Graph     what that graph promises, and a search along its lists
 // proofs/Laid      words laid over others: what stays before and behind them
-// proofs/Views     what the view gives after an accepted build
-// proofs/Examples  01's worked example, from `new` to the answers
+// proofs/Views     the view after an accepted build
+// proofs/Examples  the worked example, from `new` to the answers

@@ -1,4 +1,4 @@
--- The centroid of the stored vectors (01, part 6, `compute_medoid`): components summed node by node, then divided by n as f32.
+-- The centroid of the stored vectors (scope, part 6, `compute_medoid`): components summed node by node, then divided by n as f32.
 use mathlib.Core.List.{List, [], _∷_, map}
 use Prim.Native.Nat.{ℕ, _/_, min}
 use lib.IntN.{pos}

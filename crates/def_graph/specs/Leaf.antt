@@ -1,6 +1,6 @@
--- Leaf lists (01, part 5; `build_leaf`, `hashprune_insert`). Each place of a leaf offers its node the nearest of the other places. These go
--- into hash cells, one node a cell; the nearest of the nodes that hold cells are merged with what the node's row has from earlier leaves.
--- Leaves are processed in order, places in order, each seeing the rows as those before left them. Rows are a list of lists, node by node.
+-- Leaf lists (scope, part 5; `build_leaf`, `hashprune_insert`). Each position of a leaf offers its node the nearest of the other positions. These go
+-- into hash cells, one node to a cell; the nearest of the nodes that hold cells are merged with what the node's row has from earlier leaves. Leaves
+-- are processed in order, positions in order, each seeing the rows as those before left them. Rows are a list of lists, node by node.
 --
 -- A node's distances are from it to the other: the Rust writes the earlier place's vector first and uses the number both ways, which is the
 -- same (`between-sym` of Rattle.distance.proofs.vectors.Laws). Its stop at 2·max_degree filled cells never comes before the candidates end, of which

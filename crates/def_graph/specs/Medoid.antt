@@ -1,4 +1,4 @@
--- The entry node (01, part 6; `compute_medoid`): the node nearest to the centroid, the lowest of equally near ones. A distance is near by the
+-- The entry node (scope, part 6; `compute_medoid`): the node nearest to the centroid, the lowest of equally near ones. A distance is near by the
 -- comparison of numbers, from infinity down: a NaN never is, and 0 is the entry if no distance is below infinity.
 use mathlib.Core.Bool.{false}
 use mathlib.Core.List.{List, []}

@@ -1,6 +1,6 @@
--- Carving (01, part 4; `partition`). A segment of at most max_leaf_size nodes is a leaf, and above level 20 a segment of any size is. Any other
--- is dealt to its leaders: at level 0 each node goes to the buckets of its two nearest leaders, at levels 1 to 20 to its nearest one only. Small
--- buckets gather, and each bucket that results is carved in its turn, by the same steps one level down.
+-- Carving (scope, part 4; `partition`). A segment of at most max_leaf_size nodes is a leaf, and above level 20 a segment of any size is. Any other is
+-- dealt to its leaders: at level 0 each node goes to the buckets of its two nearest leaders, at levels 1 to 20 to its nearest one only. Small buckets
+-- gather, and each bucket that results is carved in its turn, by the same steps one level down.
 --
 -- `segment-equation`, `buckets-none` and `buckets-more` are how carveSegment and carveBuckets call each other; nothing after them looks at how
 -- many levels are left.
@@ -110,7 +110,7 @@ above-is-leaf maxLeaf level ids h =
     subst T (sym (ap (λ (fan : ℕ). leb (length ids) maxLeaf || eqb fan 0) (fanout-above level h) ∙ or-true (leb (length ids) maxLeaf))) tt
 
 module _ (maxLeaf minLeaf : ℕ) (fraction : Float) (vs : List (List Float)) where
-  -- `left` levels are left. Whether the segment is a leaf is an argument, so that what is under the other case is not worked out.
+  -- `left` levels are left. Whether the segment is a leaf is an argument, so that the other case is not computed.
   carveFrom : ℕ → Bool → ℕ → List ℕ → List (List ℕ)
   unfolding eachBy isLeaf bucketsOf
   carveFrom zero leaf level ids = ids ∷ []

@@ -1,4 +1,4 @@
--- Reverse edges and the final prune (01, part 6; `add_reverse_edges`, `final_prune`). Rows are a list of lists, node by node.
+-- Reverse edges and the final prune (scope, part 6; `add_reverse_edges`, `final_prune`). Rows are a list of lists, node by node.
 use mathlib.Core.Bool.{Bool, false, not, _&&_, _||_}
 use mathlib.Core.List.{List, [], _∷_, _++_}
 use Prim.Native.Nat.{ℕ, zero, suc}

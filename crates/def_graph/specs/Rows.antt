@@ -1,4 +1,4 @@
--- The graph before repair: what parts 1 to 6 of 01 give for an index's parameters and its vectors as they are stored, node by node. `build` of
+-- The graph before repair: what parts 1 to 6 of the scope make of an index's parameters and its vectors as they are stored, node by node. `build` of
 -- src/pipnn/mod.rs, steps 1 to 5.
 use mathlib.Core.Bool.{Bool}
 use mathlib.Core.List.{List, []}

@@ -1,4 +1,4 @@
--- The hash of a residual (01, part 5; `simhash_residual`): a bit for each hyperplane, by which side of it the residual c − p lies on. Over any
+-- The hash of a residual (scope, part 5; `simhash_residual`): a bit for each hyperplane, by which side of it the residual c − p lies on. Over any
 -- format.
 use mathlib.Core.Bool.{Bool}
 use mathlib.Core.List.{List, [], _∷_}

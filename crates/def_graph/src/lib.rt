@@ -1,9 +1,9 @@
-// The graph before repair (01, parts 4 to 6), as steps 1 to 5 of `build` of src/pipnn/mod.rs make it.
+// The graph before repair (scope, parts 4 to 6), as steps 1 to 5 of `build` of src/pipnn/mod.rs make it.
 // Definitions and laws; no code.
 //
 // Carving puts the nodes of an index into small overlapping leaves (`partition`). A segment is dealt to leaders
-// drawn from it, small buckets gather, and each bucket is carved one level down, until a segment fits a leaf or
-// 20 levels are passed. The first level deals each node to two leaders, so that leaves overlap.
+// drawn from it, small buckets are gathered, and each bucket is carved one level down, until a segment fits a
+// leaf or 20 levels are passed. The first level deals each node to two leaders, so that leaves overlap.
 //
 // In a leaf each node gets its nearest, spread over directions (`build_leaf`, `hashprune_insert`,
 // `simhash_residual`). Each position of a leaf offers its node the nearest of the other positions. They compete
@@ -24,11 +24,11 @@
 // proofs/partition/Laws     over all leaves each node occurs once if n <= max_leaf_size, else exactly twice; no
 //                           other number occurs; how many entries there are
 // proofs/leaf/Planes        a plane is a part of the first numbers of the stream
-// proofs/leaf/Cells         cells stand in strictly rising order and are no more than the candidates
+// proofs/leaf/Cells         cells are in strictly rising order and are no more than the candidates
 // proofs/leaf/Laws          n rows stay n rows, at most max_degree entries each, all of them nodes of the leaves
 // proofs/refine/Laws        both keep the rows within their bounds; the final prune leaves such rows as they are
 // proofs/graph_rows/Laws    what demand 3 needs: n rows, entries below n, at most max_degree a row, an
 //                           entry node below n; the final prune changes nothing
-// proofs/*/Examples         leaves and graphs that compute: 01's worked example, and others whose outcome is the Rust's
+// proofs/*/Examples         leaves and graphs that compute: the worked example, and others whose outcome is the Rust's
 //
-// Leans on `random` for the streams and on `sorting` and `distance` for the nearest.
+// It uses `random` for the streams and on `sorting` and `distance` for the nearest.

@@ -1,4 +1,4 @@
--- The walk of a search and its answer (01, part 8; `beam_search`). A node is scored when the walk works out its distance to the query, the entry
+-- The walk of a search and its answer (scope, part 8; `beam_search`). A node is scored when the walk computes its distance to the query, the entry
 -- node too, each at most once.
 use mathlib.Core.Bool.{Bool, false, _&&_}
 use mathlib.Core.List.{List, [], _∷_, reverse}
@@ -26,7 +26,7 @@ unfoldable pub farFrom : List Float → List (List Float) → ℕ → Float
 unfolding distanceOf
 farFrom query vs v = distanceOf binary32 query (vectorOf vs v)
 
--- a search for k nodes by a beam of ef has so many places
+-- how many nodes a search for k nodes by a beam of ef keeps: b
 abbrev pub placesFor : ℕ → ℕ → ℕ
 placesFor ef k = max ef k
 

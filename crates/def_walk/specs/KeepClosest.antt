@@ -1,6 +1,6 @@
--- The nodes held for the cutoff (01, part 8; `keep_closest`). A walk has b places, in which it holds the closest of what it has scored, the
--- worst first. The cutoff is what the last node gave: infinity where it went to a free place, also the last free one, and after that the worst
--- distance held. With b = 0 there is no place, and the cutoff stays infinite.
+-- The nodes held for the cutoff (scope, part 8; `keep_closest`). A walk holds the b closest of what it has scored, the worst first. The cutoff is
+-- what the last node led to: infinity where it went to a free slot, also the last free one, and after that the worst distance held. With b = 0 none
+-- is held, and the cutoff stays infinite.
 use mathlib.Core.Bool.{Bool, false, _&&_, _||_}
 use mathlib.Core.List.{List, [], _∷_}
 use Prim.Native.Nat.{ℕ}

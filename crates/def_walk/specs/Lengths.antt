@@ -1,4 +1,4 @@
--- The lengths of the lists of the nodes below n, repeats counted (01, "Demand 3, its words").
+-- The lengths of the lists of the nodes below n, repeats counted (scope, demand 3).
 use mathlib.Core.List.{List}
 use Prim.Native.Nat.{ℕ, zero, suc, _+_, max}
 use lib.ListN.{length}

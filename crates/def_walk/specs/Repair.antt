@@ -1,4 +1,4 @@
--- Repair (01, part 7; `ensure_connectivity`). Each node that is not reached at its turn gets a bridge from a reached one: near is that one, far
+-- Repair (scope, part 7; `ensure_connectivity`). Each node that is not reached at its turn gets a bridge from a reached one: near is that one, far
 -- the node newly reached. Lists include the bridges built so far. A bridge may repeat an entry, and lists may then exceed D.
 use mathlib.Core.Bool.{false, _&&_}
 use mathlib.Core.List.{List, [], _∷_, _++_}

@@ -1,5 +1,5 @@
--- A search along out-edges (01, parts 7 and 8). A node's list is `list i`. What is seen stands latest first, so that its length counts it, and
--- the frontier's next node stands first.
+-- A search along out-edges (scope, parts 7 and 8). A node's list is `list i`. What is seen is listed latest first, so that its length counts it, and
+-- the frontier's next node comes first.
 use mathlib.Core.Bool.{Bool}
 use mathlib.Core.List.{List, [], _∷_}
 use mathlib.Core.List.{List·Memᴰ as In}
@@ -7,7 +7,7 @@ use Prim.Native.Nat.{ℕ, zero, suc}
 use Rattle.basics.specs.Choice.{pick}
 use Rattle.basics.specs.Nodes.{has}
 
--- The entry node is reached, and so is whatever an out-edge of a reached node leads to; nothing else is (01, "Demand 3, its words").
+-- The entry node is reached, and so is whatever an out-edge of a reached node leads to; nothing else is (scope, demand 3).
 pub data Reach (list : ℕ → List ℕ) (entry : ℕ) : ℕ → Type 0 where
   start : Reach list entry entry
   along : {u v : ℕ} → Reach list entry u → In v (list u) → Reach list entry v
@@ -27,7 +27,7 @@ unfolding visit
 expand push s [] = s
 expand push s (v ∷ vs) = expand push (visit push v s) vs
 
--- The walk, by at most so many expansions. `tooFar seen u` stops it before u is expanded, `tooMany seen` after. It gives what it has seen.
+-- The walk, by at most this many expansions. `tooFar seen u` stops it before u is expanded, `tooMany seen` after. It returns what it has seen.
 module _ (list : ℕ → List ℕ) (push : ℕ → List ℕ → List ℕ) (tooFar : List ℕ → ℕ → Bool) (tooMany : List ℕ → Bool) where
   unfoldable pub walk : ℕ → List ℕ → List ℕ → List ℕ
   unfolding pick expand

@@ -1,19 +1,19 @@
-// A search of a graph along out-edges, and its two cases: repair (01, part 7) and the walk of a search (part 8).
-// Definitions and laws; no code.
+// A search of a graph along out-edges, and its two cases: repair (scope, part 7) and the walk of a search (part
+// 8). Definitions and laws; no code.
 //
-// A walk keeps the nodes seen, latest first, and a frontier of those whose lists are still to be looked at.
-// It takes the frontier's first node, looks at its list, and puts what is new to both. Where a new node goes
-// in the frontier, and when to stop, is the caller's: before a node is expanded, or after.
+// A walk keeps the nodes seen, latest first, and a frontier of those whose lists are still to be read. It
+// takes the frontier's first node, reads its list, and adds what is new to both. Where a new node goes in
+// the frontier, and when to stop, before a node is expanded or after, is the caller's to say.
 //
 // Repair is `mark_reachable` and `ensure_connectivity` of src/graph_utils.rs. A search follows out-edges from the
-// entry node, so a node that no chain of them leads to would never be found. Repair goes through the nodes in
+// entry node, so a node to which no path of them leads would never be found. Repair goes through the nodes in
 // order and builds a bridge to each that is not reached by then, from the nearest reached node of a few that are
 // cheap to look at. A bridge is an entry in both its ends' lists. The rows are not touched: repair returns the
 // bridges, in order.
 //
 // The walk of a search is `beam_search` of src/pipnn/mod.rs and `keep_closest` of src/graph_utils.rs. It starts
 // at the entry node and always goes on from the nearest node whose list it has not looked at. A node is scored
-// when its distance to the query is worked out, each once. The b closest so far set a cutoff, and the walk ends
+// when its distance to the query is computed, each once. The b closest so far set a cutoff, and the walk ends
 // early where everything left lies well beyond it, or where many nodes are scored. The answer is the first few
 // of what it scored.
 //
@@ -29,4 +29,4 @@
 // proofs/graph_utils/Lengths  a bridge makes the lists longer by two entries in total
 // proofs/beam/Laws          what a search promises where every node is reached: how many nodes it scores, how
 //                           many it returns, in which order, and what it cannot leave out
-// proofs/*/Examples         walks and repairs that compute: 01's worked example, and others that agree with the Rust
+// proofs/*/Examples         walks and repairs that compute: the worked example, and others that agree with the Rust

@@ -18,6 +18,6 @@ pub unlike-lengths : (f : Format) (xs ys : List Float) → eqb (length xs) (leng
 unfolding distanceOf
 unlike-lengths f xs ys e = sym (pick-false (sub f +one (dotOf f xs ys)) (inf false) e)
 
--- what a dot worked out elsewhere makes
+-- what a dot computed elsewhere makes
 pub from-dot : (f : Format) (q r : List Float) (x : Float) → x ≡ dotOf f q r → eqb (length q) (length r) ≡ true → sub f +one x ≡ distanceOf f q r
 from-dot f q r x e t = ap (sub f +one) e ∙ one-minus-dot f q r t

@@ -1,4 +1,4 @@
--- The distance of two vectors (01, part 1): 1 − dot. Vectors of different lengths are infinitely far apart, as in the Rust.
+-- The distance of two vectors (scope, part 1): 1 − dot. Vectors of different lengths are infinitely far apart, as in the Rust.
 use mathlib.Core.Bool.{false}
 use mathlib.Core.List.{List}
 use lib.Dec.{eqb}

@@ -1,5 +1,5 @@
--- The order of distances (01, part 1): `total_cmp`, a NaN taken as positive. So −infinity comes first, −0 before +0, a NaN last. Over the
--- values of any format; there is one NaN, which no value follows.
+-- The order of distances (scope, part 1): `total_cmp`, a NaN taken as positive. So −infinity comes first, −0 before +0, a NaN last. Over the values
+-- of any format; there is one NaN, which no value follows.
 use Prim.Native.Nat.{ℕ, _+_, _-_, _*_}
 use mathlib.Core.Bool.{Bool, true, false, not, _&&_}
 use lib.Dec.{leb, ltb}
@@ -28,7 +28,7 @@ unfoldable pub keyOf : Format → Float → ℕ
 unfolding pick
 keyOf f x = pick (isNan x) (2 * top f - 1) (pick (leb (top f) (toBits f x)) (2 * top f - 1 - toBits f x) (top f + toBits f x))
 
--- the value that has a key: the pattern is turned back
+-- the value that has a key: the pattern is restored
 unfoldable pub valueOf : Format → ℕ → Float
 unfolding pick
 valueOf f k = ofBits f (pick (leb (top f) k) (k - top f) (2 * top f - 1 - k))

@@ -1,4 +1,4 @@
-// The distance of two vectors (01, part 1), as `cosine_distance_normalized` of the Rust's distance.rs.
+// The distance of two vectors (scope, part 1), as `cosine_distance_normalized` of the Rust's distance.rs.
 //
 // 1 − dot, and infinity where the lengths differ: equal to `distanceOf` of specs/Distance for slices
 // of any length and floats of any kind. `cosine_distance_normalized8` takes eight rows at once and

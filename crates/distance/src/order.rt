@@ -1,11 +1,11 @@
-// The order of distances (01, part 1): Rust's `total_cmp` with a NaN taken as positive, as a u32 key whose
-// order is that order.
+// The order of distances (scope, part 1): Rust's `total_cmp` with a NaN taken as positive, as a u32 key
+// whose order is that order.
 //
 // Distances are sorted, selected and compared by this key alone, so that sorting is written and proved once,
 // over u32. `before-key` of proofs/Laws says that the keys' order is the distances' order, for the values of
-// any format; `key-injective` that only equal values have equal keys, and `value-key` that `value` gives back
-// the distance whose key it is given. Leans on the toolchain's account of IEEE 754, and on `bits` for patterns
-// of any kind.
+// any format; `key-injective` that only equal values have equal keys, and `value-key` that `value` returns the
+// distance whose key it gets. It uses the toolchain's definitions of IEEE 754, and `bits` for patterns of any
+// kind.
 ghost use mathlib.Core.Path.{_≡_};
 ghost use lib.Ieee.{binary32};
 ghost use Rattle.distance.specs.Order.{keyOf, valueOf};

@@ -1,4 +1,4 @@
--- `newFrom` by whether final_prune is turned back, where `within` is the outcome of the dimension's test. Assumes nothing.
+-- `newFrom` by whether final_prune is refused, where `within` is the outcome of the dimension's test. Assumes nothing.
 use mathlib.Core.Path.{_≡_, sym, ap, _∙_}
 use mathlib.Core.Bool.{Bool, true, false, _&&_}
 use mathlib.Core.List.{List}

@@ -1,4 +1,4 @@
--- The structs that calls give back to C, as what the calls behind them answer.
+-- The structs that calls return to C, in terms of what the calls behind them answer.
 use mathlib.Core.List.{List, [], _∷_}
 use Prim.Native.Nat.{ℕ}
 use lib.ListN.{getD}

@@ -1,5 +1,5 @@
--- `new` behind C: the parameters are numbers, final_prune one of 0 and 1. Any other final_prune is a parameter beyond its limits, so it gives 2
--- where the dimension has not given 1 before.
+-- `new` behind C: the parameters are numbers, final_prune one of 0 and 1. Any other final_prune is a parameter beyond its limits, so 2 is returned
+-- where the dimension has not led to 1 before.
 use mathlib.Core.Bool.{_&&_}
 use mathlib.Core.List.{List}
 use Prim.Native.Nat.{ℕ}

@@ -1,4 +1,4 @@
--- The sizes that a caller has to provide (01, "Records"), as C asks for them: 0 where `new` would refuse the numbers.
+-- The sizes that a caller has to provide (scope, Records), as C asks for them: 0 where `new` would refuse the numbers.
 use mathlib.Core.Bool.{_&&_}
 use Prim.Native.Nat.{ℕ}
 use lib.Dec.{leb}

@@ -1,14 +1,14 @@
 // The library behind C: every public call as a function over plain numbers and slices, for C and Rust to
 // link. `rt staticlib drintelbok` writes the archive; include/pipnn.h is its manual.
 //
-// Each function passes its arguments on and hands back what it was given, so what a call does is said where
-// it is proved: `pipnn` (new, add), `build`, `search`, `recognise`, `household`, `store` (sizes). Nothing is
-// demanded of a caller but what the types say: slices of initialised memory, of which none that may be
-// written overlaps another. A slice crosses C as a pointer and a length, a struct by its fields in order.
+// Each function passes its arguments on and returns what it gets, so what a call does is said where it is
+// proved: `pipnn` (new, add), `build`, `search`, `recognise`, `household`, `store` (sizes). A caller has to
+// provide only what the types say: slices of initialised memory, of which none that may be written overlaps
+// another. A slice crosses C as a pointer and a length, a struct by its fields in order.
 //
 // It promises, for each call, the equation of the call behind it: number, stores and outputs, refusals
-// included. What C adds has a definition in specs/: `newFrom` (final_prune is a number), the structs given
-// back (specs/Given), and sizes of 0 for what `pipnn_new` refuses (specs/Sizes).
+// included. What C adds has a definition in specs/: `newFrom` (final_prune is a number), the structs
+// returned (specs/Given), and sizes of 0 for what `pipnn_new` refuses (specs/Sizes).
 ghost use mathlib.Core.Path.{_≡_};
 ghost use lib.ListN.{length};
 ghost use Rattle.pipnn.specs.Add.{addSpec};
@@ -24,7 +24,7 @@ use params::PipnnParams;
 use recognise::score::Recognised;
 use words::ids::DocId;
 
-// What a search gives besides its two outputs: 0 or the number of a refusal, how many nodes are in the
+// What a search returns besides its two outputs: 0 or the number of a refusal, how many nodes are in the
 // outputs, how many were scored.
 #[repr(C)]
 pub struct PipnnFound {
@@ -33,8 +33,8 @@ pub struct PipnnFound {
     pub scored: u32,
 }
 
-// What recognising gives: 0 or the number of a refusal; 1 for Known and 0 for New; the doc id, 0 for New; the
-// score. After a refusal all but the number are 0.
+// What recognising returns: 0 or the number of a refusal; 1 for Known and 0 for New; the doc id, 0 for New;
+// the score. After a refusal all but the number are 0.
 #[repr(C)]
 pub struct PipnnRecognised {
     pub number: u32,
@@ -43,7 +43,7 @@ pub struct PipnnRecognised {
     pub score: u32,
 }
 
-// What the household count gives: 0 or the number of a refusal, how many different phones.
+// What the household count returns: 0 or the number of a refusal, how many different phones.
 #[repr(C)]
 pub struct PipnnHousehold {
     pub number: u32,

@@ -1,4 +1,4 @@
-// The entry node (01, part 6), as the Rust's `compute_medoid` finds it: the node nearest to the centroid
+// The entry node (scope, part 6), as the Rust's `compute_medoid` finds it: the node nearest to the centroid
 // of the stored vectors.
 //
 // specs/Centroid   the mean of the stored vectors, component by component

@@ -1,5 +1,5 @@
-// Reverse edges (01, part 6), as the Rust's `add_reverse_edges` adds them to the rows of a build: node by
-// node, each goes to the end of its neighbours' rows that lack it and have room.
+// Reverse edges (scope, part 6), as the Rust's `add_reverse_edges` adds them to the rows of a build: node
+// by node, each goes to the end of its neighbours' rows that lack it and have room.
 //
 // The Rust copies a node's row before its turn. Here its entries are read one by one (`lists`) while other
 // rows change: the turn does not change the node's own row, since a node that is in its own row is not added

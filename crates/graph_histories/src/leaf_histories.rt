@@ -1,14 +1,14 @@
 // The recorded leaves of vectors (recorded/README.md): the lines that ask for them.
 //
-// Each function whose name ends in `_is_same` is for one kind of line, which stands above it: it works out
+// Each function whose name ends in `_is_same` is for one kind of line, which is shown above it: it computes
 // the leaves by `carving` and says whether they are the recorded ones. The tokens are those of the line and no
-// more, so that an answer can be compared to its end.
-// All are proved safe on lines of any content, and nothing more.
+// more, so that an answer can be compared to its end. All are proved safe on lines of any content, and nothing
+// more.
 use words::bits;
 
 // The leaves of vectors, as the question's first five tokens ask for them, in words of which 64 a node are
-// lent. Answers how many leaves hold a node. Their nodes stand at the front, leaf after leaf, their sizes at
-// `sizes_at`.
+// passed in. Answers how many leaves hold a node. Their nodes stand at the front, leaf after leaf, their
+// sizes at `sizes_at`.
 fn carve(tokens: &[u64], vectors: &[f32], words: &mut [u32]) -> usize {
     let n = replay::word(tokens, 0, 4);
     let w = replay::lesser(64 * (n as usize), words.len());
@@ -97,7 +97,7 @@ pub fn leaves_is_same(tokens: &[u64], asked: usize, vector: &mut [f32]) -> bool 
     leaves_are_same(tokens, asked, &words, found)
 }
 
-// Generates so many vectors, as far as there is room, and answers how many floats they have.
+// Generates this many vectors, as far as there is room, and answers how many floats they have.
 fn generate_all(vectors: &mut [f32], dimension: usize, count: u64, seed: u64, style: u64) -> usize {
     let mut r = seed;
     let mut at: usize = 0;

@@ -1,10 +1,10 @@
 // The recorded histories of calls (recorded/README.md), as far as the graph goes: the lines that ask for a
 // build or for a search. The other lines are in the crates histories and leaf_histories.
 //
-// Each function whose name ends in `_is_same` is for one kind of line, which stands above it: it works out
+// Each function whose name ends in `_is_same` is for one kind of line, which is shown above it: it computes
 // the answer by this project's calls and says whether it is the recorded one. The tokens are those of the
-// line and no more, so that an answer can be compared to its end.
-// All are proved safe on lines and stores of any content, and nothing more.
+// line and no more, so that an answer can be compared to its end. All are proved safe on lines and stores
+// of any content, and nothing more.
 pub mod leaf_histories;
 
 ghost use mathlib.Core.Path.{_≡_};
@@ -16,7 +16,7 @@ use histories::SCRATCH_WORDS;
 use search::Found;
 use words::bits;
 
-// A build of what is lent, with as much scratch as the line says.
+// A build of what is passed in, with as much scratch as the line says.
 fn build_with_scratch(tokens: &[u64], words: &mut [u32], floats: &[f32]) -> u32 {
     let w = replay::lesser(replay::size(tokens, 0, 0), SCRATCH_WORDS);
     let f = replay::lesser(replay::size(tokens, 0, 1), SCRATCH_FLOATS);
@@ -158,7 +158,7 @@ fn find_into(
     )
 }
 
-// A search of what is lent, for a query.
+// A search of what is passed in, for a query.
 fn search_is_same(
     tokens: &[u64],
     asked: usize,

@@ -1,4 +1,4 @@
--- The turns on words are the definition's: so many bridges stand in their words, chains give every node's list, and marks tell which nodes are
+-- The turns on words are the definition's: the bridges so far are in their words, chains have every node's list, and marks show which nodes are
 -- reached. A turn's bridge starts at a reached node, by the laws of repair, so that the chains take it. Assumes nothing.
 use mathlib.Core.Path.{_≡_, refl, sym, ap, ap₂, subst, _∙_}
 use mathlib.Core.Bool.{Bool, true, false, not}

@@ -1,7 +1,8 @@
-// Where a bridge starts (01, part 7), as the middle of `ensure_connectivity` of src/graph_utils.rs: of the
-// nodes on the lists of a node's neighbours, and of the entry's neighbours with their lists, the nearest
-// that is reached, or the entry. The first n words of `state` are marks. A node's list is its row, then its
-// bridges' other ends; a cursor of `chains` goes along it. A node that is not reached is not scored.
+// Where a bridge starts (scope, part 7), as the middle of `ensure_connectivity` of src/graph_utils.rs: of
+// the nodes on the lists of a node's neighbours, and of the entry's neighbours with their lists, the
+// nearest that is reached, or the entry. The first n words of `state` are marks. A node's list is its row,
+// then its bridges' other ends; a cursor of `chains` goes along it. A node that is not reached is not
+// scored.
 //
 // specs/Inside/Candidates  candidates on words, with the distance kept
 // proofs/Refining          it is `nearestReached` of the definition

@@ -1,10 +1,10 @@
-// Repair (01, part 7), as `ensure_connectivity` of src/graph_utils.rs: every node that is not reached from
-// the entry along out-edges gets a bridge from a reached one. The Rust's lists grow; here rows stay, and
-// bridges are words of their own, linked by chains. Marks and the stack of marking are a local array, since
-// a call needs them beside the links: 1,024 nodes, 8 KB.
+// Repair (scope, part 7), as `ensure_connectivity` of src/graph_utils.rs: every node that is not reached
+// from the entry along out-edges gets a bridge from a reached one. The Rust's lists grow; here rows stay,
+// and bridges are words of their own, linked by chains. Marks and the stack of marking are a local array,
+// since a call needs them beside the links: 1,024 nodes, 8 KB.
 //
 // `ensure_connectivity` is total. On at most 1,024 nodes with entries among them it is the definition's
-// `ensureConnectivity`; what the scratch held does not show.
+// `ensureConnectivity`, whatever the scratch held.
 //
 // specs/Inside/Connectivity  what it leaves behind
 // specs/Inside/Turns         the turns on words

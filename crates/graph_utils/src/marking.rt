@@ -1,4 +1,4 @@
-// Marking what is reached along out-edges (01, part 7), as `mark_reachable` of src/graph_utils.rs: depth
+// Marking what is reached along out-edges (scope, part 7), as `mark_reachable` of src/graph_utils.rs: depth
 // first, with a stack. Of n nodes the first n words of `state` are marks and the next n the stack. A node's
 // list is its row, then its bridges' other ends, which chains link.
 //

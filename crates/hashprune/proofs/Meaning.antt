@@ -1,5 +1,5 @@
--- What the steps make of a turn is what 01's definitions say, where the caller prepared what `Turn` says: a place stands for its candidate, a pair
--- for its node. Assumes nothing.
+-- What the steps make of a turn is what the definitions of part 5 say, where the caller prepared what `Turn` says: an index stands for its candidate,
+-- a pair for its node. Assumes nothing.
 use mathlib.Core.Path.{_≡_, refl, sym, ap, ap₂, _∙_, subst}
 use mathlib.Core.Logic.{_⊎_, inl, inr}
 use mathlib.Core.Bool.{Bool}

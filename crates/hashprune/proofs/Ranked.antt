@@ -129,7 +129,7 @@ put-sorted f places nodes n held keys ids keys₁ ids₁ keys₂ ids₂ e long f
       ids-are = sorted .1 ∙ ap₂ idsOf are i ∙ put-over idIn (sortBy keyIn ps) ps ids same;
     }
 
--- pairs at the front, others put right behind them: so many of all read back
+-- pairs at the front, others put right behind them: the first of all, read back
 front-then : (g : ℕ × ℕ → ℕ) (ps ss : List (ℕ × ℕ)) (rest : List ℕ) (m : ℕ) → m ≤ length ss
     → take (length ps + m) (map g ps ++ (map g ss ++ rest)) ≡ map g ps ++ map g (take m ss)
 front-then g ps ss rest m h =

@@ -1,9 +1,9 @@
-// One node's turn in a leaf (01, part 5), as the Rust's `hashprune_insert`: its candidates go into hash
+// One node's turn in a leaf (scope, part 5), as the Rust's `hashprune_insert`: its candidates go into hash
 // cells, and the nearest of those that hold cells are merged with what its row has from earlier leaves.
 //
-// The Rust keeps a cell for each of 2^bits hashes. Here the cells that are taken stand in rising order of
+// The Rust keeps a cell for each of 2^bits hashes. Here the cells that are taken are in rising order of
 // hash, which is the order in which the Rust reads its cells back; there are no more of them than
-// candidates. A cell holds the place of its candidate, by which its node and its distance are found.
+// candidates. A cell holds the index of its candidate, by which its node and its distance are found.
 // Nothing is allocated: a row has at most 32 entries and a turn at most 64 candidates, so arrays of this
 // size are enough, and a call with more changes nothing.
 //

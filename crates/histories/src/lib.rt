@@ -1,9 +1,10 @@
 // The recorded histories of calls (recorded/README.md): two stores are kept from line to line, some lines set
-// them or say how much of them is lent, and the others ask for a call's number or for what the stores hold.
+// them or say how much of them is passed to the calls, and the others ask for a call's number or for what the
+// stores hold.
 //
 // Here are the lines that prepare, those of `new` and add, and those that ask for what the stores hold; the
 // crates graph_histories and leaf_histories have those of builds and searches, and of leaves. Each function
-// below is for one kind of line, which stands above it; those whose names end in `_is_same` work out the
+// below is for one kind of line, which is shown above it; those whose names end in `_is_same` compute the
 // answer by this project's calls and say whether it is the recorded one. All are proved safe on lines and
 // stores of any content, and nothing more.
 ghost use mathlib.Core.Path.{_≡_};
@@ -14,8 +15,8 @@ use words::bits;
 use words::ids::DocId;
 
 // What a history has come to, besides the content of its stores: how many words and floats they have, and
-// how many of them are lent. A float keeps no pattern of a NaN, so the last one that a line set is kept here,
-// with its place.
+// how many of them are passed in. A float keeps no pattern of a NaN, so the last one that a line set is kept
+// here, with its place.
 pub struct History {
     pub words: usize,
     pub floats: usize,
@@ -174,7 +175,7 @@ pub fn new_is_same(
     number == replay::word(tokens, asked, 0)
 }
 
-// An add to what is lent.
+// An add to what is passed in.
 fn add(words: &mut [u32], floats: &mut [f32], h: History, doc: u32, vector: &[f32]) -> u32 {
     let w = replay::lesser(h.lent_words, words.len());
     let f = replay::lesser(h.lent_floats, floats.len());
@@ -231,8 +232,8 @@ fn generate_near(vector: &mut [f32], centre: u64, noise: u64) {
     }
 }
 
-// Vector i of those that a seed and a style give, where r is the state that the last one left. Answers the
-// state that it leaves.
+// Vector i of those that a seed and a style determine, where r is the state that the last one left. Answers
+// the state that it leaves.
 pub fn generate(vector: &mut [f32], seed: u64, style: u64, i: u64, r: u64) -> u64 {
     if style == 2 {
         generate_plain(vector, false, std::num::wrapping_add_u64(seed, i % 7));
@@ -276,7 +277,7 @@ fn add_generated(
     number
 }
 
-// The dimension of generated vectors: word 1, or 0 if it is not lent or above the limit.
+// The dimension of generated vectors: word 1, or 0 if it is not passed in or above the limit.
 fn generated_dimension(words: &[u32], h: History) -> usize {
     let lent = replay::front_words(words, h.lent_words);
     let dimension = store::word_at(lent, store::DIMENSION);

@@ -19,7 +19,7 @@ use Rattle.basics.proofs.Counting.{has-in, hasn't, shorter}
 use Rattle.household.specs.Day.{dayOf}
 use Rattle.household.specs.Household.{docsOn, different, turnedBack}
 
--- ---- what is not turned back
+-- ---- what is not refused
 
 pub accepted : (seconds docs : List ℕ) → turnedBack seconds docs ≡ false → (length seconds ≡ length docs) × (length docs ≤ 512)
 accepted seconds docs e =

@@ -58,7 +58,7 @@ count-one : (xs : List ℕ) (i : ℕ) → i < length xs
 unfolding different
 count-one xs i h = rw (drop-cons xs i 0, add-one i) (counted (has (getD xs i 0) (drop (suc i) xs)) (getD xs i 0) (different (drop (suc i) xs)))
 
--- what stands further on is the part that the code lends
+-- what comes further on is the part that the code passes on
 pub count-step : (xs : List ℕ) (i : ℕ) (again : Bool) → i < length xs → again ≡ has (getD xs i 0) (take (length xs - (i + 1)) (drop (i + 1) xs))
     → length (different (drop i xs)) ≡ boolByte (not again) + length (different (drop (i + 1) xs))
 count-step xs i again h e =

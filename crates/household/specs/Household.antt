@@ -1,4 +1,4 @@
--- The household count (01, "Recognising" and refusal 14): of a day and two lists, the seconds and the doc ids of the sightings, how many different
+-- The household count (scope, Recognising and refusal 14): of a day and two lists, the seconds and the doc ids of the sightings, how many different
 -- doc ids were sighted on that day.
 use mathlib.Core.Bool.{Bool, _||_, not}
 use mathlib.Core.List.{List, [], _∷_}
@@ -30,7 +30,7 @@ different (x ∷ xs) = pick (has x xs) (different xs) (x ∷ different xs)
 abbrev pub turnedBack : List ℕ → List ℕ → Bool
 turnedBack seconds docs = ltb 512 (length seconds) || not (eqb (length seconds) (length docs))
 
--- 01's number and values for the cases of the code's enum: a refusal has nothing but its number, success how many phones
+-- the scope's number and values for the cases of the code's enum: a refusal has nothing but its number, success how many phones
 unfoldable pub householdValues : Household → Values
 householdValues (Refused number) = (number, [])
 householdValues (Phones phones) = (0, phones ∷ [])

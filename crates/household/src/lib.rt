@@ -1,7 +1,7 @@
-// The household count (01, "Recognising"): how many different phones were sighted on a day.
+// The household count (scope, Recognising): how many different phones were sighted on a day.
 //
 // The sightings are two lists, one entry each: the second since 1970-01-01 UTC, and the doc id. The doc
-// ids of the day's sightings are gathered first, then each is counted unless it stands again further on;
+// ids of the day's sightings are gathered first, then each is counted unless it occurs again further on;
 // that takes a comparison for each two of at most 512, without a branch, and no memory of the caller's.
 // `household_count` equals `householdOf` of specs/Household, for lists of any length; that this is the
 // number of different doc ids is `counts-each-once` of proofs/Laws.
@@ -15,7 +15,7 @@ ghost use Rattle.household.specs.Household.{docsOn, different, household
 // How many sightings a call may have.
 pub const MOST_SIGHTINGS: usize = 512;
 
-// What the count answers: 01's number where it is turned back, else how many phones.
+// What the count answers: the number of a refusal, or how many phones.
 pub enum Household {
     Refused(u32),
     Phones(u32),

@@ -1,9 +1,9 @@
 // How many phones a household saw on a day, for whoever looks at its sightings.
 //
-// Standard input has a sighting a line: the second since 1970-01-01 UTC, a blank, the doc id, both decimal.
-// The arguments are the numbers of the days asked for. A line that is no sighting is left out, and the
-// output says how many there were. At most the first 65,536 bytes are read, and 513 sightings kept: one
-// more than the count takes, so that too many are refused and not cut.
+// Standard input has one sighting in each line: the second since 1970-01-01 UTC, a blank, the doc id, both
+// decimal. The arguments are the numbers of the days asked for. A line that is not a sighting is skipped,
+// and the output says how many there were. At most the first 65,536 bytes are read, and 513 sightings kept:
+// one more than the count takes, so that too many are refused and not cut.
 //
 // Everything here is proved safe on every text, and nothing more; `household` has the count.
 ghost use Prim.Native.Nat.{_≤_};

@@ -1,4 +1,4 @@
--- The parts of the stores that a call lends to the graph's functions, read as the view reads them. Assumes nothing.
+-- The parts of the stores that a call passes to the graph's functions, read as the view reads them. Assumes nothing.
 use mathlib.Core.Path.{_≡_, ap}
 use mathlib.Core.List.{List, map}
 use Prim.Native.Nat.{ℕ, _*_, _/_, _<_}

@@ -1,4 +1,4 @@
--- What is read from what stands of a block: a word of it; a row, of its count and so many of the entries behind it. Assumes nothing.
+-- What is read from what stands of a block: a word of it; a row, of its count and as many of the entries behind it. Assumes nothing.
 use mathlib.Core.Path.{_≡_, refl, sym, ap, _∙_}
 use mathlib.Core.List.{List, []}
 use Prim.Native.Nat.{ℕ, _+_, _-_, _*_, _/_, _≤_, _<_, min}

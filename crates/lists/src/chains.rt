@@ -1,8 +1,9 @@
 // The other ends of a node's bridges, linked. A node's list is its row, then for each bridge in order the
-// other end, if it is one end (01, "Records"). The Rust keeps lists that grow; here the bridges stand one
-// after the other, and looking through all of them for each node would cost nodes times bridges. So each
-// node has a chain: a lent slice holds its first link, its last link, and for each word of the bridges the
-// next link of the node that stands there. Appending a bridge and following a link cost a few steps each.
+// other end, if it is one end (scope, Records). The Rust keeps lists that grow; here the bridges are one
+// after the other in words, and going through all of them for each node would cost nodes times bridges. So
+// each node has a chain: a slice that is passed in holds its first link, its last link, and for each word
+// of the bridges the next link of the node in that word. Appending a bridge and following a link cost a few
+// steps each.
 //
 // A reader goes along a node's whole list with a `Cursor`: over the row's entries, then from link to link.
 //

@@ -1,21 +1,21 @@
-// Lists of the graph, as words hold them (01, "Records"): rows of a count and D entries, one after the
+// Lists of the graph, as words hold them (scope, Records): rows of a count and D entries, one after the
 // other, and bridges of two words. `Shape` has the sizes that readers of an index go by.
 //
 // One view of the words serves every reader: `ListView`, the slice and the stride, which is how many words a
 // row or a bridge takes. A struct that holds a slice is proved by hand, so what touches it is thin: `view`
 // makes it, `block` takes it apart and leaves the work to `read_block`, and `block_in` is the one after the
-// other. Readers call what stands above it, over plain parameters: `row_of` for a node's row (the walk of a
-// search, repair, a turn of a leaf), `entry_of` for one entry while other rows change (reverse edges), and
+// other. Readers call the functions above it, over plain parameters: `row_of` for a node's row (the walk of
+// a search, repair, a turn of a leaf), `entry_of` for one entry while other rows change (reverse edges), and
 // `end_of` for a bridge's end (what links bridges and what follows links). All are total, whatever the words
 // hold.
 //
-// Elsewhere these words are looked at only by the check of a store (`store`, which this crate leans on), and
-// touched by what writes them: `add_entry` of reverse_edges, which looks through the row that it adds to,
-// `write_row` of hashprune, `put_bridge` of connectivity, and build, which clears rows and copies bridges.
+// Elsewhere these words are read only by the check of a store (`store`, which this crate uses), and by what
+// writes them: `add_entry` of reverse_edges, which searches the row that it adds to, `write_row` of
+// hashprune, `put_bridge` of connectivity, and build, which clears rows and copies bridges.
 //
 // specs/Inside/Words  a block of words, the rows and bridges that words stand for, the words a build makes of rows
 // proofs/Reading      a word of a block, and a row, from its block
-// proofs/Blocks       rows as a build leaves them: how long, what is read back, one row put in place
+// proofs/Blocks       rows as a build leaves them: how long, what is read back, one row replaced
 pub mod chains;
 
 ghost use mathlib.Core.Path.{_≡_};

@@ -1,6 +1,5 @@
-// The numbers' functions behind C, for bench/ alone: a loop over rows inside the library, so that a call
-// from outside is paid once for many rows. Proved safe; what they compute is the business of the crates
-// that they call.
+// Distances and roots behind C, for bench/ alone: a loop over rows inside the library, so that a call from
+// outside is paid for once for many rows. Proved safe; the crates that they call say what they compute.
 pub mod measured_stores;
 
 ghost use Prim.Native.Nat.{_+_, _*_, _≤_};

@@ -1,5 +1,5 @@
-// The stores' functions behind C, for bench/ alone. Proved safe; what they compute is the business of the
-// crates that they call.
+// The check of a store, `new` and add behind C, for bench/ alone. Proved safe; the crates that they call
+// say what they compute.
 use params::PipnnParams;
 use store::Lent;
 use words::ids::DocId;

@@ -1,11 +1,10 @@
-// The fresh nodes of a list: those that a walk has not seen yet (01, part 8; `visited_insert` of
-// `beam_search`). A walk looks at a node's whole list first, and then works out the distances of what is
-// fresh, several at a time.
+// The fresh nodes of a list: those that a walk has not seen yet (scope, part 8; `visited_insert` of
+// `beam_search`). A walk reads a node's whole list first, and then computes the distances of the fresh
+// nodes, several at a time.
 //
-// A slice of words has a mark for each of the first n nodes, 0 or 1, and behind the marks n places for the
-// fresh nodes. Entries that are no node of the n are skipped. A node's list is its row and then the other
-// ends of its bridges, as `listOf` of `basics` says; chains link them, so that a node's own bridges are looked
-// at and no others.
+// A slice of words has a mark for each of the first n nodes, 0 or 1, and behind the marks n words for the
+// fresh nodes. Entries that are not below n are skipped. A node's list is its row and then the other ends of
+// its bridges, as `listOf` of `basics` says; chains link them, so that only the bridges of the node are read.
 ghost use mathlib.Core.List.{[], _∷_};
 ghost use Prim.Native.Nat.{_≤_};
 ghost use lib.ListN.{length};
@@ -74,7 +73,7 @@ fn visit_ends(
     fresh
 }
 
-// Gathers the fresh nodes of a node's list, of rows and linked bridges, and gives how many there are.
+// Gathers the fresh nodes of a node's list, of rows and linked bridges, and returns how many there are.
 pub fn gather(
     words: &mut [u32],
     size: usize,

@@ -1,6 +1,6 @@
-// The distances of a query to several nodes, each written to the node's own place in a slice of floats
-// (01, part 8: a node is scored when its distance to the query is worked out). Eight nodes at a time, with
-// the bits of eight single distances.
+// The distances of a query to several nodes, each written at the node's index in a slice of floats (scope,
+// part 8: a node is scored when its distance to the query is computed). Eight nodes at a time, with the
+// bits of eight single distances.
 ghost use mathlib.Core.Path.{_≡_};
 ghost use Prim.Native.Nat.{_+_, _≤_};
 ghost use lib.ListN.{length, set, take, drop};

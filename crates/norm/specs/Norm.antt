@@ -1,4 +1,4 @@
--- The length of a vector, and the vector scaled by it (01, part 2).
+-- The length of a vector, and the vector scaled by it (scope, part 2).
 use mathlib.Core.Bool.{false}
 use mathlib.Core.List.{List, map}
 use Prim.Native.Nat.{_^_}

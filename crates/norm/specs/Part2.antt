@@ -1,5 +1,5 @@
--- Part 2's words on the root (01), over any format f. `IsRoot` is what 01 says of the root of a finite s > 0, and `Roots` that the definition is
--- that root for every s that the format holds. `roots` of proofs/Words proves it; the code at binary32 is proved by it.
+-- Part 2's words on the root (scope, part 2), over any format f. `IsRoot` is what part 2 says of the root of a finite s > 0, and `Roots` that the
+-- definition is that root for every s that the format holds. `roots` of proofs/Words proves it; the code at binary32 is proved by it.
 use mathlib.Core.Path.{_≡_}
 use mathlib.Core.Bool.{Bool, true, false}
 use Prim.Native.Nat.{ℕ, suc, _+_, _-_, _*_, _^_, _≤_, _<_}

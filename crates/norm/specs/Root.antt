@@ -1,4 +1,4 @@
--- The square root (01, part 2), worked out on whole numbers, over any format.
+-- The square root (scope, part 2), computed on whole numbers, over any format.
 use Prim.Native.Nat.{ℕ, zero, suc, _+_, _-_, _*_, _/_, _%_, _^_}
 use mathlib.Core.Bool.{false}
 use lib.IntN.{ℤ}
@@ -38,7 +38,7 @@ rootUnits f n = odd (prec f) false (nearestRoot (scaled f n)) ((evenLength f n +
 abbrev pub unitsOf : Format → ℕ → ℤ → ℕ
 unitsOf f m e = m * up e * 2 ^ low f / down e
 
--- zero gives zero with its sign, infinity infinity; below zero there is no root
+-- the root of a zero is that zero, of infinity infinity; below zero there is no root
 unfoldable pub rootOf : Format → Float → Float
 unfolding rootUnits pick
 rootOf f nan = nan

@@ -1,5 +1,5 @@
-// The length of a vector and the vector scaled by it (01, part 2), as the Rust's `add_slice` and
-// `search_with_ef` work them out.
+// The length of a vector and the vector scaled by it (scope, part 2), as the Rust's `add_slice` and
+// `search_with_ef` compute them.
 //
 // The squares have a sum of their own, apart from the sum of distances. Both functions are equal to
 // their definitions in specs/Norm for slices of any length and floats of any kind.

@@ -1,17 +1,17 @@
-// The square root (01, part 2), where the Rust calls `f32::sqrt`.
+// The square root (scope, part 2), where the Rust calls `f32::sqrt`.
 //
-// There is no root among the language's operations, so it is worked out on whole numbers: a finite
-// value above zero is q · 2^k with q of 24 binary digits; q is shifted so that k becomes even, the
-// whole root of four times that number is taken digit by digit, and half of it, rounded, is the
-// significand. No tie can occur, since an odd square is no multiple of four. `sqrt` equals `rootOf` of
-// specs/Root for every f32. specs/Part2 states part 2's words over any format: `roots` (proofs/Words) proves
-// that `rootOf` is that root, and the code is proved by it, since there is only one (`only-root`).
+// There is no root among the language's operations, so it is computed on whole numbers: a finite value above
+// zero is q · 2^k with q of 24 binary digits; q is shifted so that k becomes even, the whole root of four
+// times that number is taken digit by digit, and half of it, rounded, is the significand. No tie can occur,
+// since an odd square is no multiple of four. `sqrt` equals `rootOf` of specs/Root for every f32.
+// specs/Part2 states part 2's words over any format: `roots` (proofs/Words) proves that `rootOf` is that
+// root, and the code is proved by it, since there is only one (`only-root`).
 ghost use mathlib.Core.Path.{_≡_};
 ghost use Prim.Native.Nat.{_*_, _^_, _≤_, _<_};
 ghost use lib.Ieee.{binary32, ofBits};
 ghost use Rattle.norm.specs.Root.{isqrt, patternUnits, rootOf};
 
-// Zero gives zero with its sign, infinity infinity, and what is below zero has no root.
+// The root of a zero is that zero, of infinity infinity; what is below zero has no root.
 pub fn sqrt(s: f32) -> f32
     ensures { λ r. ⌜ r ≡ rootOf binary32 s ⌝ }
 {

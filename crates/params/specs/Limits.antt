@@ -1,4 +1,4 @@
--- The limits of dimension, capacity and parameters (01, "Records"), both ends inclusive. Each limit stands here and nowhere else.
+-- The limits of dimension, capacity and parameters (scope, Records), both ends inclusive. Each limit is defined here and nowhere else.
 use mathlib.Core.Bool.{Bool, _&&_}
 use Prim.Native.Nat.{ℕ}
 use lib.Dec.{leb}

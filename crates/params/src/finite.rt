@@ -1,10 +1,10 @@
-// Finite floats (01, "Turned back": 4, 7, 13). The Rust has no such test: its `add_slice` and
+// Finite floats (scope, Refusals: 4, 7, 13). The Rust has no such test: its `add_slice` and
 // `search_with_ef` take any float.
 //
-// A float less itself is 0 where it is finite and no number otherwise, and a float equals itself unless
-// it is no number. So the test is one difference and one comparison, without a branch. Over a slice sums are
-// tested first: where the sum of all is finite each component is, and only where it is not are the
-// components looked at one by one. It leans on nothing but the operators of floats.
+// A float minus itself is 0 if it is finite and NaN otherwise, and a float equals itself unless it is NaN.
+// So the test is one difference and one comparison, without a branch. Over a slice sums are tested first: if
+// the sum of all is finite, each component is; only if it is not are the components tested one by one. It
+// uses only the operators of floats.
 //
 // specs/Inside/Sums  one component more in each of some sums
 // proofs/Sums        what a finite sum says of its components
@@ -61,9 +61,9 @@ fn sum_of(v: &[f32]) -> f32
     sum
 }
 
-// Whether the sum of 32 sums is, each of every 32nd component, and what stands past the last 32. True tells
-// that all are; false tells nothing, since a sum can leave the floats. A component costs one addition, and
-// the 32 sums do not wait for each other: the check of a store is then bound by reading it.
+// Whether the sum of 32 sums is, each of every 32nd component, and of what is past the last 32. True means
+// that all are; false means nothing, since a sum can overflow. A component costs one addition, and the 32
+// sums do not wait for each other: the check of a store is then bound by reading it.
 fn sums_finite(v: &[f32]) -> bool
     ensures { λ r. ⌜ (r ≡ true → every finite (now (v .entry)) ≡ true) ⌝ }
 {

@@ -1,11 +1,11 @@
-// The parameters of an index and their limits (01, "Records").
+// The parameters of an index and their limits (scope, Records).
 //
 // `PipnnParams` is the Rust's record of that name, with its fields in its order; dimension and capacity are
-// arguments of their own. It goes by value. Each limit stands once in the code and once in specs/Limits, and
-// whatever judges parameters, those of a call or those that a header holds, asks the functions below.
+// arguments of their own. It goes by value. Each limit is written once in the code and once in specs/Limits,
+// and whatever checks parameters, those of a call or those in a header, calls the functions below.
 //
 // It promises: each test is total and says exactly whether the value is within its limits, both ends
-// included. It leans on `finite` for alpha.
+// included. It uses `finite` for alpha.
 pub mod finite;
 
 ghost use mathlib.Core.Path.{_≡_};

@@ -1,4 +1,4 @@
--- The example of 01, "Checked values", computed: what its `cap` line leaves of stores that held something else. Assumes nothing.
+-- The worked example (scope, Checked values), computed: what its `cap` line leaves of stores that held something else. Assumes nothing.
 use mathlib.Core.Path.{_≡_, refl}
 use mathlib.Core.List.{List, [], _∷_, _++_}
 use Prim.Native.Nat.{ℕ}

@@ -1,4 +1,4 @@
--- What the view gives after an accepted `new` and after an accepted add; and an open store that these calls made. Assumes nothing.
+-- The view after an accepted `new` and after an accepted add; and an open store that these calls made. Assumes nothing.
 use mathlib.Core.Path.{_≡_, refl, sym, ap, ap₂, _∙_}
 use mathlib.Core.Bool.{Bool, true, false}
 use mathlib.Core.List.{List, [], _∷_, _++_, map, map-append}

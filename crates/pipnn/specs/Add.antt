@@ -1,4 +1,4 @@
--- `add_slice` (01, "Records" and "Turned back", and part 2): one node more, its vector scaled.
+-- `add_slice` (scope, Records and Refusals, and part 2): one node more, its vector scaled.
 use mathlib.Core.Bool.{not}
 use mathlib.Core.List.{List, [], _∷_, _++_}
 use Prim.Native.Nat.{ℕ, _+_}

@@ -1,4 +1,4 @@
--- The parameters of 01's worked example ("The program probe").
+-- The parameters of the worked example (scope, Checked values).
 use mathlib.Core.Bool.{true}
 use lib.Ieee.{binary32, binary64, ofBits}
 use Rattle.params.specs.declared.PipnnParams.{PipnnParams}

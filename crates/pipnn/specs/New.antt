@@ -1,4 +1,4 @@
--- `new` (01, "Records" and "Turned back"): an open store with no nodes, made of words and floats of any content.
+-- `new` (scope, Records and Refusals): an open store with no nodes, made of words and floats of any content.
 use mathlib.Core.Bool.{not, _&&_}
 use mathlib.Core.List.{List, [], _∷_, _++_}
 use Prim.Native.Nat.{ℕ, _-_}

@@ -1,12 +1,12 @@
-// The calls of the index (01, "Records" and "Turned back"), as src/pipnn/mod.rs has them: `new` and
+// The calls of the index (scope, Records and Refusals), as src/pipnn/mod.rs has them: `new` and
 // `add_slice`.
 //
-// Every call is lent the word store and the float store, of any content and length, and gives 0 or the
-// number of a refusal. Its contract is one equation for the number and both stores, whole: a refusal
-// leaves both as they were, and nothing past the sizes is ever touched.
+// Every call is passed the word store and the float store, of any content and length, and returns 0 or the
+// number of a refusal. Its contract is one equation for the number and both stores, whole: a refusal leaves
+// both as they were, and nothing past the sizes is ever touched.
 //
-// It leans on `store` for the layout and the checks that calls begin with, on `params` for the limits, on
-// `norm` for scaling.
+// It uses `store` for the layout and the checks that calls begin with, `params` for the limits, and `norm`
+// for scaling.
 ghost use mathlib.Core.Path.{_≡_};
 ghost use mathlib.Core.Bool.{true};
 ghost use mathlib.Core.List.{_++_};

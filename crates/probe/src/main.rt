@@ -1,7 +1,7 @@
-// The program probe (01, "Checked values"): reads key=value lines from standard input, makes the calls that
-// they ask for on one index of capacity up to 64, and writes what each gives.
+// The program probe (scope, Checked values): reads key=value lines from standard input, makes the calls
+// that they ask for on one index of capacity up to 64, and writes what each returns.
 //
-// Each line is answered as soon as it was read. The last may lack its line feed. A line of more than 65,535
+// Each line is answered as soon as it is read. The last may lack its line feed. A line of more than 65,535
 // bytes ends the reading, as a line that cannot be read does.
 //
 // Everything here is proved safe on every input, and nothing more; `probe_lines` has what a line means.

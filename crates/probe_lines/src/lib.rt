@@ -1,13 +1,13 @@
-// The lines of the program probe (01, "Checked values"): which call a line makes, and what is printed for it.
-// What 01 leaves open of them is decided in oracle/README.md, "The probe".
+// The lines of the program probe (scope, Checked values): which call a line makes, and what is printed for
+// it. What the scope leaves open of them is decided in oracle/README.md, "The probe".
 //
 // `step` takes one line, without its line feed, and the two stores as the line before left them; `start` is
 // the state before the first. A line is read whole, by itself (`probe_text`); then the state says whether it
-// is its turn; then its call is made. What it prints stands in a lent buffer, of which OUT_SIZE bytes are
-// always enough: the probe writes, this crate does not.
+// is its turn; then its call is made. What it prints is in a buffer that is passed in, of which OUT_SIZE
+// bytes are always enough: the probe writes, this crate does not.
 //
 // Everything here is proved safe on every line, state and store, and nothing more: what is printed is
-// compared with recorded runs. It leans on `pipnn`, `build` and `search` for the calls.
+// compared with recorded runs. It uses `pipnn`, `build` and `search` for the calls.
 use params::PipnnParams;
 use probe_text::CAP;
 use probe_text::HEADERS;
@@ -28,7 +28,7 @@ pub const FLOATS_SIZE: usize = 4096;
 // The longest that a line prints is 64 answers of 38 bytes, after a count of 10.
 pub const OUT_SIZE: usize = 4096;
 
-// One more than any dimension: components past these are read and left out, since so many are refused
+// One more than any dimension: components past these are read and left out, since that many are refused
 // whatever they are.
 const MOST_COMPONENTS: usize = 65;
 
@@ -45,7 +45,7 @@ pub fn start() -> State {
     }
 }
 
-// What came of a line: it ends the reading, or reading goes on and so many bytes are printed.
+// What came of a line: it ends the reading, or reading goes on and this many bytes are printed.
 pub enum Printed {
     Ends,
     Bytes(usize),

@@ -1,17 +1,18 @@
-// The lines of the program probe (01, "Checked values") as text: what a line is, and how what came of it is
-// printed. What 01 leaves open of them is decided in oracle/README.md, "The probe".
+// The lines of the program probe (scope, Checked values) as text: what a line is, and how what came of it
+// is printed. What the scope leaves open of them is decided in oracle/README.md, "The probe".
 //
-// A line is read whole, by itself, as one `Read`. What is printed stands in a lent buffer, as far as it has room.
+// A line is read whole, by itself, as one `Read`. What is printed is in a buffer that is passed in, as far as it
+// has room.
 //
 // Everything here is proved safe on every line and buffer, and nothing more: what is printed is compared with
-// recorded runs. It leans on `replay` and `io` for digits, on `bits` for floats.
+// recorded runs. It uses `replay` and `io` for digits, and `bits` for floats.
 ghost use Prim.Native.Nat.{_+_};
 ghost use Rattle.probe_text.specs.Inside.Places.{EndsFrom};
 use words::bits;
 use words::ids::DocId;
 use words::ids::Node;
 
-// The header lines, in 01's order: dim, leaf, min, fraction, degree, bits, final, alpha, ef, cap.
+// The header lines, in the scope's order: dim, leaf, min, fraction, degree, bits, final, alpha, ef, cap.
 pub const HEADERS: usize = 10;
 
 const FRACTION: usize = 3;
@@ -67,7 +68,7 @@ fn value_to(value: u64, from: usize, to: usize) -> Number {
     Number::Value(value, to)
 }
 
-// The number of so many hexadecimal digits that starts at `at`.
+// The number of this many hexadecimal digits that starts at `at`.
 fn hexadecimal_at(line: &[u8], at: usize, digits: usize) -> Number
     ensures { λ r. ⌜ EndsFrom at r ⌝ }
 {

@@ -1,4 +1,4 @@
--- Hyperplanes (01, part 3): the numbers of one stream, over any format.
+-- Hyperplanes (scope, part 3): the numbers of one stream, over any format.
 use Prim.Native.Nat.{ℕ, zero, suc, _-_, _^_}
 use mathlib.Core.Bool.{true, false}
 use mathlib.Core.List.{List, [], _∷_, _++_}

@@ -1,4 +1,4 @@
--- The recurrence that the hyperplanes' stream (01, part 3) and the leaders' draws (part 4) share. Only their addends differ.
+-- The recurrence that the hyperplanes' stream (scope, part 3) and the leaders' draws (part 4) share. Only their addends differ.
 use Prim.Native.Nat.{ℕ, _+_, _*_, _/_, _%_, _^_}
 
 -- r becomes r·6364136223846793005 + addend, added and multiplied modulo 2^64

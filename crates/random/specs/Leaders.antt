@@ -1,4 +1,4 @@
--- The leaders of a segment (01, part 4): how many, and which positions are drawn.
+-- The leaders of a segment (scope, part 4): how many, and which positions are drawn.
 use mathlib.Core.List.{List, [], _∷_, _++_}
 use Prim.Native.Nat.{ℕ, zero, suc, _+_, _-_, _*_, _%_, _^_, min, max}
 use lib.IntN.{pos}
@@ -18,7 +18,7 @@ drawStart level = (level * 2654435761 + 42) % 2 ^ 64
 unfoldable pub swapRemove : ℕ → List ℕ → List ℕ
 swapRemove p left = take (length left - 1) (set left p (getD left (length left - 1) 0))
 
--- `count` draws from those left: each steps r, and takes the position that r gives
+-- `count` draws from those left: each steps r, and takes the position that r determines
 unfoldable pub drawn : ℕ → ℕ → List ℕ → List ℕ
 unfolding nextOf swapRemove
 drawn zero r left = []

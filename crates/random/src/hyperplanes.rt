@@ -1,9 +1,10 @@
-// The hyperplanes' numbers (01, part 3), which the Rust's `PipnnIndex::new` draws for every index.
+// The hyperplanes' numbers (scope, part 3), which the Rust's `PipnnIndex::new` draws for every index.
 //
 // Every index uses the first 1,024 numbers of one stream, or as many of them as dimension · bits, so
-// they stand here as a table of bit patterns. That each entry is its number of the stream, recurrence
-// and rounding, is one test that the prover computes over the whole table (proofs/Table). The table
-// is copied into lent memory once a build, since naming it in a function costs a copy at each call.
+// they are a table of bit patterns here. That each entry is its number of the stream, recurrence and
+// rounding, is one test that the prover computes over the whole table (proofs/Table). Once for each build
+// the table is copied into memory that is passed in, since naming it in a function costs a copy at each
+// call.
 ghost use mathlib.Core.Path.{_≡_};
 ghost use mathlib.Core.List.{_++_};
 ghost use Prim.Native.Nat.{min};

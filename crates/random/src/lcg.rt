@@ -1,4 +1,4 @@
-// The generator that the hyperplanes' stream (01, part 3) and the leaders' draws (part 4) share: a
+// The generator that the hyperplanes' stream (scope, part 3) and the leaders' draws (part 4) share: a
 // 64-bit linear congruential step.
 //
 // `wrapping_mul` is Rust's `u64::wrapping_mul`, made from halves of 32 bits and the supplied wrapping

@@ -1,4 +1,4 @@
-// The leaders of a segment (01, part 4): how many there are, and which positions are drawn. It is the
+// The leaders of a segment (scope, part 4): how many there are, and which positions are drawn. It is the
 // part of the Rust's `partition` that samples leaders.
 //
 // Counts and draws are equal to `leaderCount` and `drawn` of specs/Leaders. The draws' recurrence has
@@ -79,7 +79,7 @@ fn count_up(left: &mut [u32])
     }
 }
 
-// `count` draws: each steps r and takes the position that r gives, and the last of those left moves
+// `count` draws: each steps r and takes the position that r determines, and the last of those left moves
 // into its place (`swap_remove`).
 fn draw(left: &mut [u32], out: &mut [u32], count: usize, start: u64)
     requires { ⌜ (count ≤ length (now left)) × (count ≤ length (now out)) ⌝ }

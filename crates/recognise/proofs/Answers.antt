@@ -1,5 +1,5 @@
 -- The four answers of the call, each from what its search has left: a search into one place has room, so its checks are search's without 12, and the
--- one node that it gives stands at the front of both places. Assumes nothing.
+-- one node that it returns is at the front of both outputs. Assumes nothing.
 use mathlib.Core.Path.{_≡_, refl, sym, ap, ap₂, _∙_}
 use mathlib.Core.Bool.{Bool, false, true, not, _||_}
 use mathlib.Core.List.{List, [], _∷_, _++_, map, append-assoc}
@@ -54,7 +54,7 @@ module _ (ws fs : ℕ) (w : List ℕ) (f query : List Float) (ef : ℕ) (limit :
   unfolding recogniseChecks
   checks-are = sym (append-assoc first (askingChecks w query 1 ef) (limitCheck ∷ []))
 
-  -- a call that was asked for something wrong is turned back by that
+  -- a call that was asked for something wrong is refused by that
   asked-first : (firstRefusal asked ≡ 0 → ⊥) → refusal ≡ firstRefusal asked
   asked-first n = ap firstRefusal checks-are ∙ then-first asked (limitCheck ∷ []) n
 
@@ -131,7 +131,7 @@ module _ (ws fs : ℕ) (w : List ℕ) (f query : List Float) (ef : ℕ) (limit :
     pub call-accepted : reply .number ≡ 0 → finite limit ≡ true → refusal ≡ 0
     call-accepted e h = limit-passed (sym searched-number ∙ e) h
 
-    -- what it has left: its number, how many nodes it gives, both places
+    -- what it has left: its number, how many nodes it returns, both outputs
     module _ (left : Reply) (same : left ≡ reply) where
       numbered : left .number ≡ firstRefusal asked
       numbered = ap (λ (r : Reply). r .number) same ∙ searched-number

@@ -1,4 +1,5 @@
--- 01's three phones (`calls/specs/Example`), one of them recognised: as itself, as nobody within the limit, and turned back. Assumes nothing.
+-- The three phones of the worked example (`calls/specs/Example`), one of them recognised: as itself, as nobody within the limit, and refused. Assumes
+-- nothing.
 use mathlib.Core.Path.{_≡_, refl}
 use mathlib.Core.Bool.{false}
 use mathlib.Core.List.{[], _∷_}

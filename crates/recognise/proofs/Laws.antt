@@ -1,5 +1,5 @@
 -- What a reader expects of the call: the number that it returns is that of the first check that fails, since Known and New return 0; and a call that
--- is not turned back has a node to go by. Assumes nothing.
+-- is not refused has a node to go by. Assumes nothing.
 use mathlib.Core.Path.{_≡_, refl, sym, _∙_}
 use mathlib.Core.Logic.{⊎-elim}
 use mathlib.Core.Bool.{not}
@@ -47,7 +47,7 @@ number-is ws fs w f query ef limit =
     let refusal : ℕ = firstRefusal (recogniseChecks ws fs w f query ef limit) in
     pick-ind (λ (r : Values). r .0 ≡ refusal) (eqb refusal 0) (λ t. nearest (docIn (view w f)) (farIn (view w f) query) limit (foundIn (view w f) query 1 ef) ∙ sym (eqb→eq refusal 0 t)) (λ _. refl)
 
--- ---- a call that is not turned back has one node to go by: the entry node is always scored
+-- ---- a call that is not refused has one node to go by: the entry node is always scored
 
 some : (x : ℕ) (l : List ℕ) → In x l → 0 < length l
 some x [] m = absurd (in-nil m)

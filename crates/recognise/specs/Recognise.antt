@@ -1,6 +1,6 @@
--- Recognising as one call (01, "Recognising" and "Turned back"): a search with k = 1 and the caller's ef; the node that it gives is Known if its
--- distance is at most the limit, else New, each with that distance's score. The stores stay as they are. What is answered are 01's number and values
--- (score/Recognised); a refusal has only its number.
+-- Recognising as one call (scope, Recognising and Refusals): a search with k = 1 and the caller's ef; the node that it returns is Known if its
+-- distance is at most the limit, otherwise New, each with that distance's score. The stores stay as they are. What is answered are the scope's number
+-- and values (score/Recognised); a refusal has only its number.
 use mathlib.Core.Bool.{not}
 use mathlib.Core.List.{List, [], _∷_, _++_}
 use Prim.Native.Nat.{ℕ}
@@ -19,14 +19,14 @@ use Rattle.recognise.specs.Recognised.{newAs, refusedAs, recognisedAs}
 
 -- ---- its checks: search's except 12, then 13 for a limit that is not finite
 
--- scratch of ws words and fs floats is lent
+-- scratch of ws words and fs floats is passed in
 unfoldable pub recogniseChecks : (ws fs : ℕ) → List ℕ → List Float → List Float → ℕ → Float → List Check
 unfolding opening
 recogniseChecks ws fs w f query ef limit = opening (Scratch ws fs) w f ++ (askingChecks w query 1 ef ++ (check (not (finite limit)) limitNotFinite ∷ []))
 
 -- ---- what it answers
 
--- by the nodes that a search gives, nearest first. With none it is New with score 0; today there is always one (`one-found` of proofs/Laws).
+-- by the nodes that a search returns, nearest first. With none it is New with score 0; today there is always one (`one-found` of proofs/Laws).
 abbrev pub nearestOf : (ℕ → ℕ) → (ℕ → Float) → Float → List ℕ → Values
 nearestOf doc far limit [] = newAs 0
 nearestOf doc far limit (node ∷ _) = recognisedAs (doc node) (far node) limit

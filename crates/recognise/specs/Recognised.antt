@@ -1,8 +1,8 @@
--- What recognising answers (01, "Recognising"): Known with the doc id if the distance d is at most the limit, else New, each with d's score. The
--- two are compared as numbers, so −0 is 0, and a NaN is at most nothing: it gives New with score 0.
+-- What recognising answers (scope, Recognising): Known with the doc id if the distance d is at most the limit, else New, each with d's score. The two
+-- are compared as numbers, so −0 is 0, and a NaN is at most nothing: it is New with score 0.
 --
--- The code returns an enum. What each of its cases stands for is `recognisedValues`: 01's number, then the values that come with it. The definitions
--- of recognising speak of these alone.
+-- The code returns an enum. What each of its cases stands for is `recognisedValues`: the scope's number, then the values that come with it. The
+-- definitions of recognising speak of these alone.
 use mathlib.Core.List.{[], _∷_}
 use Prim.Native.Nat.{ℕ}
 use lib.Ieee.{Float, le}
@@ -12,7 +12,7 @@ use Rattle.recognise.specs.declared.score.Recognised.{Recognised}
 use Rattle.recognise.specs.declared.score.Recognised.the-variants.{Known, New, Refused}
 use Rattle.recognise.specs.Score.{scoreOf}
 
--- ---- 01's numbers and values
+-- ---- the scope's numbers and values
 
 -- Known has a doc id and a score, New a score, a refusal nothing but its number
 abbrev pub knownAs : (doc score : ℕ) → Values

@@ -1,4 +1,4 @@
--- The score of a distance d (01, "Recognising"): floor(100 · (1 − d)), held to 0..100. −infinity scores 100, +infinity 0; not a number gives 0.
+-- The score of a distance d (scope, Recognising): floor(100 · (1 − d)), held to 0..100. −infinity scores 100, +infinity 0, and a NaN 0.
 use Prim.Native.Nat.{ℕ, _+_, _-_, _*_, _/_, min}
 use mathlib.Core.Bool.{Bool}
 use lib.Ieee.{Float, nan, inf, fin, up, down}

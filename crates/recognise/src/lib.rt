@@ -1,17 +1,17 @@
-// `recognise`: whether a phone is one of those stored, as one call (01, "Recognising"). The Rust has no such
-// call.
+// `recognise`: whether a phone is one of those stored, as one call (scope, Recognising). The Rust has no
+// such call.
 //
-// It is `search_with_ef` with k = 1 and the caller's ef into two places of its own, so no output of the
+// It is `search_with_ef` with k = 1 and the caller's ef, with outputs of its own, so no output of the
 // caller's can be too short; then the limit has to be finite (13); then `score::decide` says Known or New
-// by the nearest node's distance, with its score. The enum is the whole answer: a refusal gives only its
+// by the nearest node's distance, with its score. The enum is the whole answer: a refusal has only its
 // number.
 //
-// It promises one equation for the answer, refusals included, for every content and length of what it is
-// lent: `recogniseSpec` of specs/Recognise. The stores stay as they are, and what scratch held before never
-// shows. proofs/Laws has what a reader expects of that definition, proofs/Examples what it gives for 01's
-// three phones.
+// It promises one equation for the answer, refusals included, for every content and length of what is
+// passed in: `recogniseSpec` of specs/Recognise. The stores stay as they are, and what scratch held before
+// has no effect. proofs/Laws has what a reader expects of that definition, proofs/Examples what it returns
+// for the three phones of the worked example.
 //
-// It leans on `search` for the checks and the walk, on `score` for the answer at a distance.
+// It uses `search` for the checks and the walk, and `score` for the answer at a distance.
 pub mod score;
 
 ghost use mathlib.Core.Path.{_≡_};

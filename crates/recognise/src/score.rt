@@ -1,10 +1,10 @@
-// How sure a recognition is, and what it says (01, "Recognising").
+// How sure a recognition is, and what it says (scope, Recognising).
 //
-// The score of a distance d is floor(100 · (1 − d)), held to 0..100 and exact: it is worked out on d's
-// bit pattern, since 100 · (1 − d) in floats would round. `score` equals `scoreOf` of specs/Score for
-// every f32; that definition is over values and knows no format. `decide` is the answer for the nearest
-// node's doc id and distance; the call that finds this node, and that may refuse, is `recognise`. Leans on
-// what `root` shows of patterns, and on the toolchain's IEEE 754.
+// The score of a distance d is floor(100 · (1 − d)), held to 0..100 and exact: it is computed on d's bit
+// pattern, since 100 · (1 − d) in floats would round. `score` equals `scoreOf` of specs/Score for every
+// f32; that definition is over values and knows no format. `decide` is the answer for the nearest node's
+// doc id and distance; the call that finds this node, and that may refuse, is `recognise`. It uses what
+// `root` proves about patterns, and the toolchain's definitions of IEEE 754.
 ghost use mathlib.Core.Path.{_≡_};
 ghost use Prim.Native.Nat.{_<_};
 ghost use lib.Ieee.{binary32, ofBits};
@@ -44,15 +44,15 @@ fn score_bits(b: u32) -> u32
 }
 
 // What recognising a phone answers: the doc id of the phone that it is, or that it is none of those
-// stored, either with the score of the nearest one's distance; or 01's number where it is turned back.
+// stored, either with the score of the nearest one's distance; or the number of a refusal.
 pub enum Recognised {
     Known(DocId, u32),
     New(u32),
     Refused(u32),
 }
 
-// The answer where `doc` stands at distance d, which is Known or New. A NaN is at most nothing, so it gives
-// New with score 0.
+// The answer where `doc` is at distance d, which is Known or New. A NaN is at most nothing, so it is New
+// with score 0.
 pub fn decide(doc: DocId, d: f32, limit: f32) -> Recognised
     ensures { λ r. ⌜ recognisedValues r ≡ recognisedAs (doc .0) d limit ⌝ }
 {

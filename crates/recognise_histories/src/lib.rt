@@ -2,7 +2,7 @@
 // the answer at a distance, and the household count.
 //
 // Each function whose name ends in `_is_same` and that takes a line's tokens alone, or with the stores, is for
-// one kind of line, which stands above it: it works out the answer by this project's calls and says whether
+// one kind of line, which is shown above it: it computes the answer by this project's calls and says whether
 // it is the recorded one, to its end. All are proved safe on lines and stores of any content, and nothing
 // more.
 use histories::History;
@@ -11,7 +11,7 @@ use recognise::score;
 use recognise::score::Recognised;
 use words::ids::DocId;
 
-// Whether an answer of so many tokens, from `from` on, ends the line.
+// Whether an answer of `count` tokens, from `from` on, ends the line.
 fn ends(tokens: &[u64], from: usize, count: usize) -> bool {
     std::num::wrapping_add_usize(from, count) == tokens.len()
 }

@@ -1,4 +1,4 @@
--- Every lent slice keeps its length. Assumes nothing.
+-- Every slice that is passed on keeps its length. Assumes nothing.
 use Prim.Native.Nat.{ℕ}
 use mathlib.Core.Path.{_≡_}
 use mathlib.Core.List.{List}

@@ -12,7 +12,7 @@ use histories::History;
 use libc::STDOUT_FILENO;
 use replay::Line;
 
-// The kinds whose answers are compared, in the order in which they are told.
+// The kinds whose answers are compared, in the order in which they are reported.
 const NAMES: [u8; 83] =
     *b"new add adds build find sum words leaves leavesof recognise score decide household ";
 

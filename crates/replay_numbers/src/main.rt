@@ -1,6 +1,6 @@
-// Replays the recorded answers on numbers (recorded/numbers.txt): each case is worked out by this
-// project's functions and compared with the oracle's answer, bit for bit. Prints for each kind how many
-// cases there were and how many differ.
+// Replays the recorded answers on numbers (recorded/numbers.txt): each case is computed by this project's
+// functions and compared with the oracle's answer, bit for bit. Prints for each kind how many cases there
+// were and how many differ.
 mod plane_stream;
 
 ghost use Prim.Native.Nat.{_≤_};
@@ -122,7 +122,7 @@ fn centroid_is_same(tokens: &[u64], asked: usize, vectors: &mut [f32], sums: &mu
     replay::same_floats(tokens, asked, replay::front(sums, dimension))
 }
 
-// The kinds, in the order in which they are told.
+// The kinds, in the order in which they are reported.
 const NAMES: [u8; 61] = *b"dot distance root scale multiply plane leaders draw centroid ";
 
 fn kind_at(text: &[u8], at: usize) -> usize {

@@ -1,5 +1,5 @@
-// Steps the hyperplanes' stream (01, part 3) by the wrapping multiply, through all 1,024 numbers, and compares
-// each with the table that the index reads (`hyperplanes::planes_into`), bit for bit.
+// Steps the hyperplanes' stream (scope, part 3) by the wrapping multiply, through all 1,024 numbers, and
+// compares each with the table that the index reads (`hyperplanes::planes_into`), bit for bit.
 //
 // A number of the stream is (h − 2^30)/2^30, rounded once: the size of h − 2^30 is split so that both parts
 // and their products are exact, and their sum alone rounds.

@@ -1,5 +1,5 @@
 // Replays the recorded answers on the order of distances (recorded/README.md, sorting): all of them sorted,
-// and the first few, each compared with the oracle's places. Prints for each kind how many cases there
+// and the first few, each compared with the oracle's indexes. Prints for each kind how many cases there
 // were and how many differ.
 ghost use mathlib.Core.Path.{_≡_};
 ghost use lib.ListN.{length};
@@ -63,7 +63,7 @@ fn first_is_same(tokens: &[u64], asked: usize, keys: &mut [u32], places: &mut [u
     replay::same_words(tokens, asked, replay::front_words(places, held))
 }
 
-// The kinds, in the order in which they are told.
+// The kinds, in the order in which they are reported.
 const NAMES: [u8; 11] = *b"sort first ";
 
 fn kind_at(text: &[u8], at: usize) -> usize {

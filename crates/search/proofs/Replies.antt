@@ -1,4 +1,4 @@
--- The two cases of what a search leaves, and what a query that is not turned back brings. Assumes nothing.
+-- The two cases of what a search leaves, and what a query that is not refused brings. Assumes nothing.
 use mathlib.Core.Path.{_≡_, refl, sym, ap, _∙_}
 use mathlib.Core.List.{List}
 use mathlib.Core.List.{_++_}

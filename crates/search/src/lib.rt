@@ -1,15 +1,15 @@
-// `search_with_ef` and `search` (01, part 8 and "Turned back"), as src/pipnn/mod.rs has them: the first k
-// of what the walk scored, as doc ids and distances, with their number and the scored count.
+// `search_with_ef` and `search` (scope, part 8 and Refusals), as src/pipnn/mod.rs has them: the first k of
+// what the walk scored, as doc ids and distances, with their number and the scored count.
 //
 // A call checks its stores, the query, k and ef, the room of its outputs and scratch; then scales the query,
-// walks the graph that stands in the store, and writes the doc ids of the nodes found. A refusal gives its
-// number and counts 0, and writes to neither output.
+// walks the graph in the store, and writes the doc ids of the nodes found. A refusal returns its number and
+// counts 0, and writes to neither output.
 //
 // It promises one equation for everything that a call leaves: `searchWithEfSpec` of Rattle.calls, and
-// `searchSpec`. The stores stay as they are, nothing past the nodes given is written, and what scratch held
-// before never shows.
+// `searchSpec`. The stores stay as they are, nothing past the answer is written, and what scratch held
+// before has no effect.
 //
-// It leans on `store` for the layout and the checks that calls begin with, on `norm` for scaling, on
+// It uses `store` for the layout and the checks that calls begin with, `norm` for scaling, and
 // `beam_search` for the walk.
 ghost use mathlib.Core.Path.{_≡_};
 ghost use mathlib.Core.List.{map, _++_};
@@ -31,7 +31,7 @@ use store::Lent;
 use words::ids::Node;
 use words::slices;
 
-// What a search gives besides its two outputs: 0 or the number of a refusal, how many nodes are in the
+// What a search returns besides its two outputs: 0 or the number of a refusal, how many nodes are in the
 // outputs, how many were scored.
 pub struct Found {
     pub number: u32,

@@ -1,5 +1,5 @@
--- The sum that distances use (01, part 1): products added from the first component on, each step rounded, starting at +0.
--- Lengths and hashes have their own sums: what is changed here changes distances alone.
+-- The sum that distances use (scope, part 1): products added from the first component on, each step rounded, starting at +0. Lengths and hashes have
+-- their own sums: what is changed here changes distances alone.
 use mathlib.Core.List.{List}
 use lib.Ieee.{Float, Format}
 use Rattle.basics.specs.Sum.{sumFrom, sumOf, products}

@@ -1,11 +1,11 @@
-// The dot product that distances use (01, part 1), as `fallback::dot` of the Rust's simd.rs.
+// The dot product that distances use (scope, part 1), as `fallback::dot` of the Rust's simd.rs.
 //
 // Products are added from the first component on, each step rounded once, starting at +0. Such a sum
 // waits for each of its additions, so eight rows' sums run side by side, each in its own order: the bits
-// are those of eight single sums. `dot8` takes eight rows where they stand; `dot_block` takes a block in
-// which each component's eight numbers stand together, and so loads and multiplies whole vectors.
-// All are equal to `dotOf` of specs/Dot for slices of any length and floats of any kind; where two
-// lengths differ, the sum ends with the shorter one.
+// are those of eight single sums. `dot8` takes eight rows as they lie in memory; `dot_block` takes a block
+// in which each component's eight numbers are adjacent, and so loads and multiplies whole vectors. All are
+// equal to `dotOf` of specs/Dot for slices of any length and floats of any kind; where two lengths differ,
+// the sum ends with the shorter one.
 ghost use mathlib.Core.Path.{_≡_};
 ghost use Prim.Native.Nat.{_+_, _/_, _≤_};
 ghost use lib.ListN.{length};

@@ -1,4 +1,4 @@
--- The number at a place of the blocks, by the cases that code tells apart, and how blocks grow by a number. Assumes nothing.
+-- The number at a place of the blocks, by the cases that the code distinguishes, and how blocks grow by a number. Assumes nothing.
 use mathlib.Core.Path.{_≡_, refl, sym, ap, ap₂, _∙_, subst}
 use mathlib.Core.Bool.{Bool, true, false, _&&_}
 use mathlib.Core.List.{List, [], _∷_, _++_}

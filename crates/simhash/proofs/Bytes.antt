@@ -44,7 +44,7 @@ high-byte r blocks = bits-same (sideOf r (drop (min (8 * length r) (length block
         ap (λ (l : List Float). sideOf r l b) (drop-min (8 * length r) blocks)
         ∙ ap₂ (λ (k j : ℕ). sideOf r (drop k blocks) j) (sym (ap (λ (x : ℕ). x * (8 * length r)) second ∙ one-mul (8 * length r))) same
 
--- `from` is where the second block starts, and all that stands from there on is lent
+-- `from` is where the second block starts, and all that stands from there on is passed on
 pub two-bytes : (r blocks : List Float) (low high from : ℕ)
     → low ≡ blockHash r blocks → from ≡ min (8 * length r) (length blocks) → high ≡ blockHash r (take (length blocks - from) (drop from blocks))
     → low + 256 * high ≡ blocksHash r blocks 16

@@ -1,4 +1,4 @@
--- The hash by blocks that are made of the hyperplanes' stream is 01's hash of the residual, bit by bit. Assumes nothing.
+-- The hash by blocks that are made of the hyperplanes' stream is the scope's hash of the residual, bit by bit. Assumes nothing.
 use mathlib.Core.Path.{_≡_, refl, sym, ap, ap₂, _∙_}
 use mathlib.Core.List.{List, [], _∷_, _++_}
 use Prim.Native.Nat.{ℕ, zero, suc, _+_, _*_, _/_, _%_, _^_, _≤_, _<_, min}

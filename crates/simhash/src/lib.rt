@@ -1,10 +1,10 @@
-// The hash of a residual (01, part 5), which the Rust's `simhash_residual` works out bit by bit.
+// The hash of a residual (scope, part 5), which the Rust's `simhash_residual` computes bit by bit.
 //
 // A bit is the side of its hyperplane that the residual c − p lies on, and each bit's sum waits for each
-// of its additions. So the residual is worked out once, and eight planes' sums run side by side over a
-// block, in which each component's eight numbers stand together: the bits are those of eight single
-// sums. The sums are the hash's own, and not those of distances: the order of either may change alone.
-// Every function is total and equal to its definition for slices of any length and floats of any kind.
+// of its additions. So the residual is computed once, and eight planes' sums run side by side over a block,
+// in which each component's eight numbers are adjacent: the bits are those of eight single sums. The sums
+// are the hash's own, and not those of distances: the order of either may change alone. Every function is
+// total and equal to its definition for slices of any length and floats of any kind.
 ghost use mathlib.Core.Path.{_≡_};
 ghost use Prim.Native.Nat.{_+_, _*_, _/_, _%_, _^_, _≤_, min};
 ghost use lib.ListN.{length};

@@ -1,5 +1,5 @@
--- Where everything stands in the two stores, and how large they are (01, "Records"). Each offset and each size stands here and nowhere else.
--- A store's shape is its capacity C, its degree D and its dimension.
+-- Where everything is in the two stores, and how large they are (scope, Records). Each offset and each size is defined here and nowhere else. A
+-- store's shape is its capacity C, its degree D and its dimension.
 use mathlib.Core.List.{List}
 use Prim.Native.Nat.{ℕ, _+_, _*_}
 use lib.ListN.{getD}

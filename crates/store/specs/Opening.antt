@@ -1,4 +1,4 @@
--- The checks with which every call but `new` begins (01, "Turned back"): 3, 4, 3, 4.
+-- The checks with which every call but `new` begins (scope, Refusals): 3, 4, 3, 4.
 use mathlib.Core.Bool.{Bool, false, not, _||_}
 use mathlib.Core.List.{List, [], _∷_}
 use Prim.Native.Nat.{ℕ}
@@ -12,7 +12,7 @@ use Rattle.store.specs.declared.Lent.the-variants.{Nothing, Scratch}
 use Rattle.store.specs.Layout.{word, headerSize, dimensionAt, degreeAt, capacityAt, wordsSize, floatsSize, scratchWords, scratchFloats}
 use Rattle.store.specs.WellFormed.{headerOk, restOk}
 
--- scratch is lent, with these two lengths, and one is too short for a capacity of C
+-- scratch is passed in, with these two lengths, and one is too short for a capacity of C
 abbrev pub scratchShort : ℕ → Lent → Bool
 scratchShort C Nothing = false
 scratchShort C (Scratch words floats) = ltb words (scratchWords C) || ltb floats (scratchFloats C)
@@ -21,7 +21,7 @@ scratchShort C (Scratch words floats) = ltb words (scratchWords C) || ltb floats
 abbrev pub storeShort : ℕ → ℕ → ℕ → List ℕ → List Float → Bool
 storeShort C D dimension w f = ltb (length w) (wordsSize C D) || ltb (length f) (floatsSize C dimension)
 
--- what is lent is shorter than the header's shape asks
+-- what is passed in is shorter than the header's shape asks
 abbrev pub tooShort : Lent → List ℕ → List Float → Bool
 tooShort lent w f = storeShort (word w capacityAt) (word w degreeAt) (word w dimensionAt) w f || scratchShort (word w capacityAt) lent
 

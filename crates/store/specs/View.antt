@@ -1,5 +1,5 @@
--- The one view of the two stores (01, "Records"): what every later definition and contract reads. It has a value on words and floats of any
--- content and length; what lies past n, past a row's count, past the bridges counted and past the sizes is not in it.
+-- The one view of the two stores (scope, Records): what every later definition and contract reads. It has a value on words and floats of any content
+-- and length; what lies past n, past a row's count, past the bridges counted and past the sizes is not in it.
 use mathlib.Core.List.{List, [], _∷_, _++_, map}
 use Prim.Native.Nat.{ℕ, _+_, _-_, _*_, _/_, _%_, _^_}
 use lib.Dec.{eqb}

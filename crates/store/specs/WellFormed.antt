@@ -1,5 +1,5 @@
--- Which stores are well formed (01, "Records"): first the header's 16 words, then the rest. Words of any content are judged. What lies past
--- the counts, past n, past the bridges counted and past the sizes is not.
+-- Which stores are well formed (scope, Records): first the header's 16 words, then the rest. Words of any content are judged. What lies past the
+-- counts, past n, past the bridges counted and past the sizes is not.
 use mathlib.Core.Bool.{Bool, not, _&&_, _||_}
 use mathlib.Core.List.{List}
 use Prim.Native.Nat.{ℕ, _*_}
@@ -21,7 +21,7 @@ abbrev pub builtOk : List ℕ → Bool
 builtOk w =
     eqb (word w stateAt) builtState && leb 1 (word w nodesAt) && ltb (word w entryAt) (word w nodesAt) && ltb (word w bridgeCountAt) (word w nodesAt)
 
--- A parameter's pattern that is no number, or infinite, is judged as such: `withinLimits` turns it back.
+-- A parameter's pattern that is no number, or infinite, is judged as such: `withinLimits` refuses it.
 unfoldable pub headerOk : List ℕ → Bool
 unfolding withinLimits paramsOf
 headerOk w =

@@ -1,16 +1,15 @@
-// The two stores of an index (01, "Records" and "Turned back").
+// The two stores of an index (scope, Records and Refusals).
 //
-// A gateway lends a word store and a float store of any content. This layer says where everything stands
-// in them (specs/Layout), what they mean (specs/View), which of them are well formed (specs/WellFormed),
-// and which checks every call but `new` begins with (specs/Opening). Offsets and sizes are worked out
-// here and nowhere else. The Rust keeps vectors of vectors, and has no such checks.
+// A gateway passes in a word store and a float store of any content. This layer says where everything is in
+// them (specs/Layout), what they mean (specs/View), which of them are well formed (specs/WellFormed), and
+// which checks every call but `new` begins with (specs/Opening). Offsets and sizes are computed here and
+// nowhere else. The Rust keeps vectors of vectors, and has no such checks.
 //
-// It promises: each reader gives what the layout says, on slices of any length; `opening_refusal` gives
-// the number of the first check that fails, or 0. The check reads each word of the store once and
-// gathers its tests without a branch a word, since it happens at every call.
+// It promises: each reader returns what the layout says, on slices of any length; `opening_refusal` returns
+// the number of the first check that fails, or 0. The check reads each word of the store once and joins its
+// tests without a branch for each word, since it happens at every call.
 //
-// It leans on `params` for the limits, on `bits` for the two floats of the header and on `finite` for the
-// vectors.
+// It uses `params` for the limits, `bits` for the two floats of the header and `finite` for the vectors.
 ghost use mathlib.Core.Path.{_≡_};
 ghost use mathlib.Core.Bool.{true};
 ghost use Prim.Native.Nat.{_+_, _*_, _≤_};
@@ -217,7 +216,7 @@ fn all_nodes(entries: &[u32], n: u32) -> bool
 }
 
 // Whether each entry is, four a turn, one of each quarter: a turn costs little more than one entry does. True
-// tells; what false tells nobody needs.
+// means that each is; false means nothing.
 fn nodes_by_fours(entries: &[u32], n: u32) -> bool
     ensures { λ r. ⌜ (r ≡ true → every (isNode n) (now (entries .entry)) ≡ true) ⌝ }
 {
@@ -282,9 +281,9 @@ fn counts_ok(words: &[u32], from: usize, degree: u16, n: u32) -> bool
     ok
 }
 
-// Whether each of the n rows from `from` on is well formed. In rows as the calls leave them no word is a node
-// that there is not, neither a count nor what stands past it, if there are more nodes than D: then one pass
-// over all words of the rows tells. Where it does not, each row is looked at by itself.
+// Whether each of the n rows from `from` on is well formed. In rows as the calls leave them every word is a
+// valid node number, the counts and what is past them too, if there are more nodes than D: then one pass over
+// all words of the rows is enough. Where it fails, each row is checked by itself.
 fn rows_ok(words: &[u32], from: usize, degree: u16, n: u32) -> bool
     requires { ⌜ from + n * rowSize degree ≤ length (now words) ⌝ }
     ensures { λ r. ⌜ r ≡ every (rowOk degree n) (pieces (rowSize degree) n (drop from (now (words .entry)))) ⌝ }
@@ -344,13 +343,13 @@ pub fn store_short(
     (words.len() < words_size(capacity, degree)) | (floats.len() < floats_size(capacity, dimension))
 }
 
-// What a call lends besides the two stores: nothing, or scratch of so many words and floats.
+// What a call is passed besides the two stores: nothing, or scratch, by its numbers of words and floats.
 pub enum Lent {
     Nothing,
     Scratch { words: usize, floats: usize },
 }
 
-// Whether scratch is lent, and too short.
+// Whether scratch is passed in, and too short.
 fn scratch_short(capacity: u32, lent: Lent) -> bool
     ensures { λ r. ⌜ r ≡ scratchShort capacity lent ⌝ }
 {
@@ -362,7 +361,7 @@ fn scratch_short(capacity: u32, lent: Lent) -> bool
     }
 }
 
-// Whether what is lent is shorter than the header's shape asks.
+// Whether what is passed in is shorter than the header's shape asks.
 fn too_short(words: &[u32], floats: &[f32], lent: Lent) -> bool
     requires { ⌜ headerOk (now words) ≡ true ⌝ }
     ensures { λ r. ⌜ r ≡ tooShort lent (now (words .entry)) (now (floats .entry)) ⌝ }

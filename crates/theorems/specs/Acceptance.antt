@@ -1,5 +1,5 @@
--- Rightful calls are accepted (01, "Turned back" and "Demand 3, its words"). One claim about a whole list of calls, `Accepts`: a call returns 0
--- exactly if 01's table does not turn it back, which is said by its own arguments and by what is remembered of the calls before it.
+-- Valid calls are accepted (scope, Refusals and demand 3). One claim about a whole list of calls, `Accepts`: a call returns 0 exactly if the scope's
+-- table of refusals does not refuse it, which is said by its own arguments and by what is remembered of the calls before it.
 use mathlib.Core.Path.{_≡_}
 use mathlib.Core.Bool.{true}
 use mathlib.Core.List.{List, [], _∷_}
@@ -43,7 +43,7 @@ pub record Scratch (C ws fs : ℕ) : Type 0 where
 
 -- ---- what each call needs
 
--- `new`: all within the limits, and stores as long as 01's sizes, of any content
+-- `new`: all within the limits, and stores as long as the scope's sizes, of any content
 pub record Opens (dimension : ℕ) (p : PipnnParams) (capacity : ℕ) (w : List ℕ) (f : List Float) : Type 0 where
   pub dimension-within : dimensionWithin dimension ≡ true
   pub params-within : withinLimits p ≡ true
@@ -78,8 +78,8 @@ pub record AsksWithEf (x : Index) (ws fs : ℕ) (query : List Float) (k ef : ℕ
 
 -- ---- the claim
 
--- Of one call, by what is remembered before it. `new` is judged on stores of any content. An add after a build is turned back, and so is a search
--- before one. A built store has a node, and an ef_search that `new` has judged.
+-- Of one call, by what is remembered before it. `new` is judged on stores of any content. An add after a build is refused, and so is a search before
+-- one. A built store has a node, and an ef_search that `new` has judged.
 abbrev pub Welcome : Call → Past → List ℕ → List Float → Type 0
 Welcome (new d p typed c) past w f = Exactly (Opens d p c w f) (Accepted (new d p typed c) w f)
 Welcome (add doc v) past w f = Judged (λ x. Adds x v) (λ x. ⊥) past (Accepted (add doc v) w f)

@@ -1,5 +1,5 @@
--- Which C calls are accepted, over lists of them: a call returns 0 exactly if 01's table does not refuse it. What the calls need is acceptance's;
--- `pipnn_new` needs a final_prune of 0 or 1 too, and recognising a limit that is finite.
+-- Which C calls are accepted, over lists of them: a call returns 0 exactly if the scope's table of refusals does not refuse it. What the calls need
+-- is acceptance's; `pipnn_new` needs a final_prune of 0 or 1 too, and recognising a limit that is finite.
 use mathlib.Core.Path.{_≡_}
 use mathlib.Core.Bool.{true}
 use mathlib.Core.List.{List, [], _∷_}

@@ -44,7 +44,7 @@ pub data CCall : Type 0 where
 
 -- ---- what it leaves
 
--- the struct that recognising gives back
+-- the struct that recognising returns
 abbrev pub recognised : (ws fs : ℕ) → List ℕ → List Float → List Float → ℕ → Float → PipnnRecognised
 recognised ws fs w f query ef limit = recognisedWith (recogniseSpec ws fs w f query ef limit)
 

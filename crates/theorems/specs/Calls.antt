@@ -1,5 +1,4 @@
--- The calls of an index, what each leaves, and what is remembered of a list of them (01, "Demand 3, its words"). Accepted means that 0 is
--- returned.
+-- The calls of an index, what each leaves, and what is remembered of a list of them (scope, demand 3). Accepted means that 0 is returned.
 use mathlib.Core.List.{List, [], _∷_, _++_, map}
 use Prim.Native.Nat.{ℕ, zero, suc}
 use lib.Dec.{T}
@@ -53,7 +52,7 @@ pub data Past : Type 0 where
   opened : Index → Past
   built : Index → Past
 
--- one node more, with its doc id and its vector as given
+-- one node more, with its doc id and its vector as passed in
 abbrev pub withNode : ℕ → List Float → Index → Index
 withNode doc v x = record {
   dimension = x .dimension;

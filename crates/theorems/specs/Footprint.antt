@@ -1,6 +1,6 @@
--- A call depends on nothing past the sizes of 01 and on nothing that scratch holds (01, "Records"). Two runs of a call, with the same arguments on
--- stores that agree up to their sizes, return the same number and the same answer, and leave stores that agree up to these sizes. What scratch
--- holds is an argument of no definition; its two lengths are, and of them only whether they are enough counts.
+-- A call depends on nothing past the sizes and on nothing that scratch holds (scope, Records). Two runs of a call, with the same arguments on stores
+-- that agree up to their sizes, return the same number and the same answer, and leave stores that agree up to these sizes. What scratch holds is an
+-- argument of no definition; its two lengths are, and of them only whether they are enough counts.
 use mathlib.Core.Path.{_≡_}
 use mathlib.Core.Bool.{true}
 use mathlib.Core.List.{List}
@@ -29,7 +29,7 @@ pub record Alike (W F : ℕ) (w w′ : List ℕ) (f f′ : List Float) : Type 0 
   pub words : take W w ≡ take W w′
   pub floats : take F f ≡ take F f′
 
--- the sizes that a header gives
+-- the sizes that a header defines
 abbrev pub wordsIn : List ℕ → ℕ
 wordsIn header = wordsSize (word header capacityAt) (word header degreeAt)
 
@@ -39,7 +39,7 @@ floatsIn header = floatsSize (word header capacityAt) (word header dimensionAt)
 abbrev pub AlikeIn : List ℕ → (w w′ : List ℕ) (f f′ : List Float) → Type 0
 AlikeIn header w w′ f f′ = Alike (wordsIn header) (floatsIn header) w w′ f f′
 
--- A header that is not well formed gives no sizes: then the 16 words of the header are all that has to agree.
+-- A header that is not well formed defines no sizes: then the 16 words of the header are all that has to agree.
 pub record Agree (w w′ : List ℕ) (f f′ : List Float) : Type 0 where
   pub header-reach : (headerSize ≤ length w) × (headerSize ≤ length w′)
   pub header : take headerSize w ≡ take headerSize w′
@@ -49,7 +49,7 @@ pub record Agree (w w′ : List ℕ) (f f′ : List Float) : Type 0 where
 abbrev pub AgreeScratch : List ℕ → (ws fs ws′ fs′ : ℕ) → Type 0
 AgreeScratch w ws fs ws′ fs′ = scratchShort (word w capacityAt) (Scratch ws fs) ≡ scratchShort (word w capacityAt) (Scratch ws′ fs′)
 
--- ---- what a call that writes the stores leaves: the same number, and stores that agree up to the sizes that the header gave
+-- ---- what a call that writes the stores leaves: the same number, and stores that agree up to the sizes that the header defined
 
 pub record SameAnswer (w : List ℕ) (a a′ : Answer) : Type 0 where
   pub number : a .0 ≡ a′ .0

@@ -1,5 +1,5 @@
--- Demand 3 of 01: no stored node can be lost to search. One claim about a whole list of calls, `Claims`, over the definitions that the calls are
--- proved equal to.
+-- Demand 3 of the scope: no stored node can be lost to search. One claim about a whole list of calls, `Claims`, over the definitions that the calls
+-- are proved equal to.
 use mathlib.Core.Path.{_≡_}
 use mathlib.Core.Bool.{false}
 use mathlib.Core.List.{List, [], _∷_, _++_, map}
@@ -26,7 +26,7 @@ use Rattle.theorems.specs.Calls.{Call, new, add, build, searchWithEf, se
 abbrev pub size : Index → ℕ
 size x = length (x .nodes)
 
--- a node's list before repair: what parts 1 to 6 give for these nodes and that `new`'s parameters
+-- a node's list before repair: what parts 1 to 6 make of these nodes and that `new`'s parameters
 abbrev pub listBefore : Index → ℕ → List ℕ
 listBefore x i = getD (rowsOf (settingsOf (x .dimension) (x .params)) (vectorsOf x)) i []
 
@@ -58,7 +58,7 @@ pub record Graphed (x : Index) (w : List ℕ) (f : List Float) : Type 0 where
   -- together the lists are longer than before repair by two entries for each bridge counted, word 10
   pub grown : totalLength (size x) (listNow w f) ≡ totalLength (size x) (listBefore x) + 2 * word w bridgeCountAt
 
--- ---- what an accepted search tells: b is max(ef, k), and L the longest list's length
+-- ---- what an accepted search reports: b is max(ef, k), and L the longest list's length
 
 pub record Answered (x : Index) (query : List Float) (k ef L : ℕ) (docs : List ℕ) (distances : List Float) (reply : Reply) : Type 0 where
   -- the answer's nodes: different nodes, exactly min(k, n)
@@ -66,7 +66,7 @@ pub record Answered (x : Index) (query : List Float) (k ef L : ℕ) (docs : List
   pub different : NoDup nodes
   pub inside : Below (size x) nodes
   pub exactly : length nodes ≡ min k (size x)
-  -- their number is given, and their doc ids and distances are written, in order; what lies past them in the outputs stays
+  -- their number is returned, and their doc ids and distances are written, in order; what is past them in the outputs stays
   pub count : reply .count ≡ length nodes
   pub docs-written : reply .docs ≡ map (λ i. getD (docsOf x) i 0) nodes ++ drop (length nodes) docs
   pub distances-written : reply .distances ≡ map (farOf x query) nodes ++ drop (length nodes) distances

@@ -1,4 +1,4 @@
--- The starred values of 01, "Checked values": one statement over the definitions.
+-- The scope's checked values (those marked * there): one statement over the definitions.
 use mathlib.Core.Path.{_≡_}
 use mathlib.Core.Bool.{false}
 use mathlib.Core.List.{[], _∷_}

@@ -1,5 +1,5 @@
-// Bit patterns and floats. A pattern of any kind can be read: all that stand for no number give the one
-// NaN; and a float of any kind has a pattern, 0x7fc00000 for the NaN.
+// Bit patterns and floats. A pattern of any kind can be read: all NaN patterns are read as the one NaN; and
+// a float of any kind has a pattern, 0x7fc00000 for the NaN.
 //
 // The language's own `from_bits` and `to_bits` leave the patterns of a NaN open, so these test first.
 ghost use mathlib.Core.Path.{_≡_};

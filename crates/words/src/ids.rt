@@ -1,5 +1,5 @@
-// The two kinds of number that share a range and mean different things (01, "Records"). A node leads
-// to its doc id through the doc id words of the word store, and in no other way.
+// The two kinds of number that share a range and mean different things (scope, Records). A node leads to
+// its doc id through the doc id words of the word store, and in no other way.
 
 // A node: 0 up, in the order of adding.
 pub struct Node(pub u32);

@@ -1,7 +1,7 @@
 // Reading and writing single elements of slices, clearing and copying them, and the lesser of two numbers. The Rust
 // uses `get`, `get_mut`, `vec![0; n]`, `fill`, `extend_from_slice` and `min`.
 //
-// Each function is total, and its contract gives the whole slice that it leaves.
+// Each function is total, and its contract states the whole slice that it leaves.
 ghost use mathlib.Core.Path.{_≡_};
 ghost use mathlib.Core.List.{_++_};
 ghost use Prim.Native.Nat.{min};

@@ -1,5 +1,5 @@
--- What a search returns (01, part 8): the answer of the walk, the distances of its nodes, and two counts. The graph is that of rows and bridges in words;
--- entries that are no node are not in it, so that a search needs no test of the lists. On a well-formed store every entry is a node.
+-- What a search returns (scope, part 8): the answer of the walk, the distances of its nodes, and two counts. The graph is that of rows and bridges in
+-- words; entries that are no node are not in it, so that a search needs no test of the lists. On a well-formed store every entry is a node.
 use mathlib.Core.Path.{_≡_}
 use mathlib.Core.List.{List, [], _∷_, _++_, map}
 use Prim.Native.Nat.{ℕ, _*_, _≤_, _<_}

@@ -30,7 +30,7 @@ module _ (tree : List ℕ) (top : Pair) (first : top ≡ firstOf tree) (j : getD
     is-none : Held far size [] tree → top .id ≡ 0xffff_ffff
     is-none h = top-id ∙ none-first j k h
 
-    -- its key tells the worst distance
+    -- its key shows the worst distance
     worst-is : (u : ℕ) (l : List ℕ) → Held far size (u ∷ l) tree → valueOf binary32 (0xffff_ffff - top .key) ≡ far u
     worst-is u l h =
         let f = first-held f32s j k u l h in

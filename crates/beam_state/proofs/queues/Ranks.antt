@@ -1,4 +1,4 @@
--- The ranks of the frontier: they say its order, they are below that of an empty place, and a rank tells its node. Assumes nothing.
+-- The ranks of the frontier: they say its order, they are below that of an empty slot, and a rank determines its node. Assumes nothing.
 use mathlib.Core.Path.{_≡_, sym, ap, _∙_}
 use mathlib.Core.Bool.{Bool, _&&_, _||_}
 use Prim.Native.Nat.{ℕ, _≤_, _<_}

@@ -1,6 +1,6 @@
--- The frontier and the held nodes of a walk as tournaments (01, part 8, "Rust forms to replace": `BinaryHeap`). The frontier's places are the nodes;
--- the held have b places, or n if those are fewer, and a place has a held node's key alone: the cutoff is all that is asked of them. What a function
--- promises is said of every tree that stands for some nodes, and of those nodes as `beam` defines the walk.
+-- The frontier and the held nodes of a walk as tournaments (scope, part 8; the Rust's `BinaryHeap`). The frontier has a slot for each node; the held
+-- have b slots, or n if that is less, and a slot has a held node's key alone: only the cutoff is asked of them. What a function promises is about
+-- every tree that represents some nodes, and about those nodes as `beam` defines the walk.
 use mathlib.Core.Path.{_≡_}
 use mathlib.Core.Bool.{false}
 use mathlib.Core.List.{List, [], _∷_, map}
@@ -56,7 +56,7 @@ Entering v key tree tree′ =
     → Queue (frontRank far) n front tree
     → Queue (frontRank far) n (toFrontier far v front) tree′
 
--- what taking from a frontier gives and leaves
+-- what taking from a frontier returns and leaves
 abbrev pub Taken : (ℕ → Float) → ℕ → List ℕ → List ℕ → Popped → Type 0
 Taken far n [] tree′ r = (r ≡ Empty) × Queue (frontRank far) n [] tree′
 Taken far n (u ∷ front) tree′ r = (r ≡ At (far u) (record { 0 = u })) × Queue (frontRank far) n front tree′
@@ -85,7 +85,7 @@ abbrev pub Falling : (ℕ → Float) → List ℕ → Type 0
 Falling far [] = Unit
 Falling far (u ∷ l) = ((w : ℕ) → In w l → keyAt far w ≤ keyAt far u) × Falling far l
 
--- a tree of so many places stands for some nodes, the worst first: its first places have their keys, in whichever order, the others are empty
+-- a tree of this many slots represents some nodes, the worst first: its first slots have their keys, in whichever order, the others are empty
 pub record Held (far : ℕ → Float) (size : ℕ) (held tree : List ℕ) : Type 0 where
   pub keys : List ℕ
   pub leaves : List ℕ
@@ -106,7 +106,7 @@ Worst tree r =
     → Held far size held tree
     → r ≡ worstOf far held
 
--- One node more for the held, and the cutoff that it gives.
+-- One node more for the held, and the cutoff that follows.
 pub record Kept (far : ℕ → Float) (size b v : ℕ) (held tree′ : List ℕ) (r : Closest) : Type 0 where
   pub stands : Held far size (keepClosest far b v held) tree′
   pub count : r .held ≡ length (keepClosest far b v held)

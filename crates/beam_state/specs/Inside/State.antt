@@ -1,4 +1,5 @@
--- What a walk keeps between its steps (01, part 8), in words and in a struct: the frontier, the held, the cutoff and the first few of what is scored.
+-- What a walk keeps between its steps (scope, part 8), in words and in a struct: the frontier, the held, the cutoff and the first few of what is
+-- scored.
 use mathlib.Core.Path.{_≡_}
 use mathlib.Core.List.{List, [], _∷_, _++_, map, reverse}
 use mathlib.Core.List.{List·Memᴰ as In}

@@ -1,5 +1,5 @@
--- A tournament over places 0 up, in a list of words, four for each place (01, "Rust forms to replace": `BinaryHeap`). A pair of a key and an id is
--- one number, its rank, and pairs stand in the order of their ranks.
+-- A tournament over slots 0 up, in a list of words, four for each slot (the Rust's `BinaryHeap`). A pair of a key and an id is one number, its rank,
+-- and pairs stand in the order of their ranks.
 use mathlib.Core.Path.{_≡_}
 use mathlib.Core.List.{List}
 use Prim.Native.Nat.{ℕ, _+_, _*_, _/_, _%_, _≤_, _<_, min}
@@ -19,7 +19,7 @@ emptyRank = 18446744073709551615
 abbrev pub rankAt : List ℕ → ℕ → ℕ
 rankAt tree p = rankOf (getD tree (2 * p + 1) 0) (getD tree (2 * p) 0)
 
--- The words stand for so many places, with these ranks: below, pair by pair, the places; above, the lesser of each two.
+-- The words represent this many slots, with these ranks: below, pair by pair, the slots; above, the lesser of each two.
 pub record Tournament (leaves tree : List ℕ) : Type 0 where
   pub size : length leaves ≡ length tree / 4
   pub leaf : (i : ℕ) → i < length leaves → rankAt tree (length leaves + i) ≡ getD leaves i emptyRank

@@ -1,5 +1,5 @@
--- The numbers that are read are the header's, so the parts that are lent are those of the view; the rows and then the repair make the definition's
--- store (proofs/Graph). Assumes nothing.
+-- The numbers that are read are the header's, so the parts that are passed on are those of the view; the rows and then the repair make the
+-- definition's store (proofs/Graph). Assumes nothing.
 use mathlib.Core.Path.{_≡_, sym, ap, ap₂, _∙_}
 use mathlib.Core.List.{List}
 use Prim.Native.Nat.{ℕ, _-_, _*_, _≤_}

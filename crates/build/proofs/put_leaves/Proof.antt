@@ -1,4 +1,4 @@
--- The nodes and sizes that are lent on are those of the leaves (proofs/Leaves). Assumes nothing.
+-- The nodes and sizes that are passed on are those of the leaves (proofs/Leaves). Assumes nothing.
 use mathlib.Core.Path.{_≡_, sym, ap}
 use Prim.Native.Nat.{ℕ, _+_, _-_, _*_}
 use lib.ListN.{take, drop}

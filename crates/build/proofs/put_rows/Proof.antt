@@ -1,4 +1,4 @@
--- Cleared, filled with the leaves' lists, given reverse edges: the rows of the definition (proofs/Leaves). Assumes nothing.
+-- Cleared, filled with the leaves' lists, extended by reverse edges: the rows of the definition (proofs/Leaves). Assumes nothing.
 use Rattle.build.proofs.Leaves.{carved-count, rows-made}
 use native.Mathlib.Omega.{arith}
 use borrow.Author.Needs.{needs}

@@ -26,7 +26,7 @@ use Rattle.def_calls.specs.Build.{laid}
 abbrev pub leafEntries : ℕ → ℕ → ℕ
 leafEntries n maxLeaf = pick (leb n maxLeaf) n (2 * n)
 
--- so many leaves that hold a node, of n nodes, with their nodes and sizes in so many words
+-- the leaves of n nodes that hold a node, with their nodes and sizes in words: these counts fit
 pub record LeavesFit (n count words : ℕ) : Type 0 where
   pub most : n ≤ 1024
   pub counted : count ≤ 2 * n

@@ -1,4 +1,4 @@
--- The candidates are at the front of two arrays, whose fronts are lent (`place-put`). Assumes nothing.
+-- The candidates are at the front of two arrays, whose fronts are passed on (`place-put`). Assumes nothing.
 use native.Mathlib.Omega.{arith}
 use lib.ListN.{length-take}
 use Rattle.build_leaf.proofs.Rows.{place-put}

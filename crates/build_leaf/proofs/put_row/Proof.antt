@@ -1,4 +1,4 @@
--- The node's block is lent, and what comes back is put in its place (`row-put`). Assumes nothing.
+-- The node's block is passed on, and what comes back is put in its place (`row-put`). Assumes nothing.
 use native.Mathlib.Omega.{arith}
 use mathlib.Core.Path.{refl}
 use Prim.Native.Nat.{ℕ, _+_, _-_, _*_}

@@ -1,4 +1,4 @@
--- The candidates of a place (01, part 5; `build_leaf`): the other places of the leaf are offered in their order, each with the key of its
+-- The candidates of a position (scope, part 5; `build_leaf`): the other positions of the leaf are offered in their order, each with the key of its
 -- distance, and the first few are kept. The distance of place j stands at 8 · j + lane.
 use mathlib.Core.Path.{_≡_}
 use mathlib.Core.List.{List, [], _∷_, _++_, map}

@@ -1,4 +1,4 @@
--- Distances within a leaf (01, part 5) by blocks of eight: component c of vector g, and the distance of place j to vector g, stand in lane g of a
+-- Distances within a leaf (scope, part 5) by blocks of eight: component c of vector g, and the distance of position j to vector g, are in lane g of a
 -- block, at 8 · c + g and 8 · j + g (`laneOf` of Rattle.simd).
 use mathlib.Core.Path.{_≡_}
 use mathlib.Core.List.{List, [], _∷_, map}

@@ -15,7 +15,7 @@ use borrow.Author.Needs.{needs}
 use Rattle.carving.proofs.carve_all.Statement.{statement}
 use Rattle.carving.proofs.carve_all.Tie as tie
 
--- an array of 2,048 words, and what a call leaves of one whose first n words it was lent
+-- an array of 2,048 words, and what a call leaves of one whose first n words it was passed
 abbrev array : List ℕ
 array = replicate 2048 0
 

@@ -1,5 +1,5 @@
--- The words in front hold the leaves' nodes, those behind are lent for their sizes; both together are what is laid out (`laid`). Each test that refuses
--- contradicts a field of `Asked`. No loop. Assumes nothing.
+-- The words in front hold the leaves' nodes, those behind are passed on for their sizes; both together are what is laid out (`laid`). Each test that
+-- refuses contradicts a field of `Asked`. No loop. Assumes nothing.
 use mathlib.Core.Path.{refl, sym, ap, _∙_, subst}
 use mathlib.Core.List.{List, _++_}
 use Prim.Native.Nat.{ℕ, _*_, _≤_}

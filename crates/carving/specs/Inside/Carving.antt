@@ -1,4 +1,4 @@
--- What `partition` leaves (01, part 4): the leaves of an index that hold a node, one after the other, and their sizes. An empty leaf has neither
+-- What `partition` leaves (scope, part 4): the leaves of an index that hold a node, one after the other, and their sizes. An empty leaf has neither
 -- nodes nor a size: a build passes over leaves of one node or none.
 use mathlib.Core.Path.{_≡_}
 use mathlib.Core.List.{List, [], _∷_, map, flatten}

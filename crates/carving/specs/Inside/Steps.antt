@@ -60,6 +60,6 @@ pub record Carved (maxLeaf minLeaf : ℕ) (fraction : Float) (vs : List (List Fl
   pub within : total ≤ length nodes
   pub leaves : length vs ≡ n → Holding (leavesOf maxLeaf minLeaf fraction vs) (take total nodes) (take total marks)
 
--- the sizes that marks tell, at the front of a slice
+-- the sizes that marks show, at the front of a slice
 abbrev pub MarkedSizes : (marks sizes′ : List ℕ) (count : ℕ) → Type 0
 MarkedSizes marks sizes′ count = (leaves : List (List ℕ)) → marks ≡ marksOf leaves → (count ≡ length (nonEmpty leaves)) × (take (length (nonEmpty leaves)) sizes′ ≡ map length (nonEmpty leaves))

@@ -1,4 +1,4 @@
--- To which leaders the nodes of a segment go, as a slice holds it (01, part 4): a card for each node, which names one leader or two.
+-- To which leaders the nodes of a segment go, as a slice holds it (scope, part 4): a card for each node, which names one leader or two.
 use mathlib.Core.Bool.{Bool, _||_}
 use mathlib.Core.List.{List, [], _∷_, map}
 use Prim.Native.Nat.{ℕ, _+_, _-_, _*_, _/_, _%_}

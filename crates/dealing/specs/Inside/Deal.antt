@@ -1,4 +1,5 @@
--- What `deal` promises (01, part 4): over slices that fit a segment it leaves the segment's buckets, and their marks. Other slices stay as they are.
+-- What `deal` promises (scope, part 4): over slices that fit a segment it leaves the segment's buckets, and their marks. Other slices stay as they
+-- are.
 use mathlib.Core.Path.{_≡_}
 use mathlib.Core.List.{List, flatten}
 use Prim.Native.Nat.{ℕ, _*_, _≤_}

@@ -1,4 +1,4 @@
--- Buckets as two slices hold them (01, part 4): their nodes one after the other, and beside each node a mark, 1 for the first node of a bucket and
+-- Buckets as two slices hold them (scope, part 4): their nodes one after the other, and beside each node a mark, 1 for the first node of a bucket and
 -- 0 for the others. An empty bucket has neither node nor mark.
 use mathlib.Core.List.{List, [], _∷_, _++_}
 use Prim.Native.Nat.{ℕ, zero, suc}

@@ -1,4 +1,4 @@
--- Examples that compute: 01's worked example, and others whose outcome is what the Rust gives once its sorts are stable. Assumes nothing.
+-- Examples that compute: the worked example, and others whose outcome is the Rust's once its sorts are stable. Assumes nothing.
 use mathlib.Core.Path.{_≡_, refl}
 use mathlib.Core.Bool.{true, false}
 use mathlib.Core.List.{List, [], _∷_, _++_}
@@ -28,7 +28,7 @@ abbrev -one : Float
 abbrev alpha : Float
 alpha = fin false 5033165 (negsuc 21)
 
--- ---- the worked example of 01
+-- ---- the worked example
 
 abbrev pub workedVectors : List (List Float)
 workedVectors = (+one ∷ +zero ∷ []) ∷ (+zero ∷ +one ∷ []) ∷ (-one ∷ +zero ∷ []) ∷ []

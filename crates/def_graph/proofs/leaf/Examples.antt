@@ -1,4 +1,4 @@
--- Leaves that compute, with the outcome that the Rust gives: one component, rows of one entry, each of two nodes twice in the leaf. Assumes nothing.
+-- Leaves that compute, with the Rust's outcome: one component, rows of one entry, each of two nodes twice in the leaf. Assumes nothing.
 use mathlib.Core.Path.{_≡_, refl}
 use mathlib.Core.Bool.{true}
 use mathlib.Core.List.{[], _∷_}

@@ -1,4 +1,4 @@
--- Dealing gives each node to as many buckets as the fanout says, or to all leaders if there are fewer: any weight is multiplied by that
+-- Dealing puts each node into as many buckets as the fanout says, or into those of all leaders if there are fewer: any weight is multiplied by that
 -- number. Assumes nothing.
 use mathlib.Core.Path.{_≡_, refl, sym, ap, _∙_, subst}
 use mathlib.Core.Logic.{_⊎_, inl, inr}

@@ -1,4 +1,4 @@
--- Searches that compute: 01's worked example, and others with the outcome that the Rust gives. Assumes nothing.
+-- Searches that compute: the worked example, and others with the Rust's outcome. Assumes nothing.
 use mathlib.Core.Path.{_≡_, refl}
 use mathlib.Core.Bool.{true, false}
 use mathlib.Core.List.{List, [], _∷_, map}
@@ -9,7 +9,7 @@ use lib.Ieee.{Float, nan, inf, fin, binary32, add, sub, mul, lt, isNan, toBits}
 use Rattle.basics.specs.Sum.{+zero, +one}
 use Rattle.def_walk.specs.Beam.{farFrom, beamSearch, answerOf}
 
--- ---- the worked example of 01
+-- ---- the worked example
 
 abbrev -one : Float
 -one = fin true 1 (pos 0)

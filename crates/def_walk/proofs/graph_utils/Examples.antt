@@ -1,4 +1,4 @@
--- Repairs that compute, with the outcome that the Rust gives. Assumes nothing.
+-- Repairs that compute, with the Rust's outcome. Assumes nothing.
 use mathlib.Core.Path.{_≡_, refl}
 use mathlib.Core.Bool.{true, false}
 use mathlib.Core.List.{List, [], _∷_, map}
@@ -21,7 +21,7 @@ abbrev -half : Float
 abbrev -one : Float
 -one = fin true 1 (pos 0)
 
--- ---- the worked example of 01: node 2 leads to 1, and nothing leads to it
+-- ---- the worked example: node 2 leads to 1, and nothing leads to it
 
 abbrev workedRows : List (List ℕ)
 workedRows = (1 ∷ []) ∷ (0 ∷ []) ∷ (1 ∷ []) ∷ []

@@ -1,7 +1,6 @@
 -- The laws of the order and its key, for the values of any format: the keys' order is the distances' order (`before-key`), only equal values
--- have equal keys (`key-injective`), a key tells its value (`value-key`), and a key of an f32 fits 32 bits (`key-below`).
--- A key is the sign's weight plus the pattern of the size, or what is left of the weight below it, so that both follow from the sizes' order.
--- Assumes nothing.
+-- have equal keys (`key-injective`), a key determines its value (`value-key`), and a key of an f32 fits 32 bits (`key-below`). A key is the sign's
+-- weight plus the pattern of the size, or what is left of the weight below it, so that both follow from the sizes' order. Assumes nothing.
 use mathlib.Core.Path.{_≡_, refl, sym, ap, _∙_, subst}
 use mathlib.Core.Bool.{Bool, true, false, not, cond}
 use Prim.Native.Nat.{ℕ, _+_, _-_, _*_, _^_, _≤_, _<_}
@@ -193,7 +192,7 @@ value-nan : valueOf binary32 (keyOf binary32 nan) ≡ nan
 unfolding valueOf pick
 value-nan = ap (λ (k : ℕ). ofBits binary32 (pick (leb (top binary32) k) (k - top binary32) (2 * top binary32 - 1 - k))) (key-nan binary32) ∙ sym (no-number binary32 0x7fff_ffff (omega arith))
 
--- a key tells the f32 that has it
+-- a key determines the f32 that has it
 pub value-key : (x : Float) → T (fits binary32 x) → valueOf binary32 (keyOf binary32 x) ≡ x
 unfolding isNan
 value-key nan h = value-nan

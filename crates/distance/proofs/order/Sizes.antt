@@ -1,7 +1,7 @@
 -- A value's pattern without its sign, `mag`, and the order of sizes: |x| < |y| is `mag f x < mag f y`, for the values of any format.
 -- The pattern is a value's size in units of the format's smallest one, encoded: as many digits as the format keeps, above them how many
--- were dropped. Encoding keeps the order, and unequal sizes have unequal patterns since a pattern gives its value back (`ofBits-toBits`).
--- Assumes nothing.
+-- were dropped. Encoding keeps the order, and unequal sizes have unequal patterns since a pattern determines its value (`ofBits-toBits`). Assumes
+-- nothing.
 use mathlib.Core.Path.{_≡_, refl, sym, ap, _∙_, subst}
 use mathlib.Core.Logic.{inl, inr}
 use mathlib.Core.Bool.{Bool, true, false, not, cond, _&&_}

@@ -1,4 +1,4 @@
--- A final_prune that is neither 0 nor 1 is turned back where the dimension is not; all else is `new`. Assumes nothing.
+-- A final_prune that is neither 0 nor 1 is refused where the dimension is not; all else is `new`. Assumes nothing.
 use mathlib.Core.Path.{_∙_}
 use Rattle.params.specs.declared.PipnnParams.{PipnnParams}
 use Rattle.pipnn.specs.New.{newSpec}

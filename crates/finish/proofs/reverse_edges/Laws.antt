@@ -99,7 +99,7 @@ module _ (D node nb : ℕ) (ws : List ℕ) where
       let long : suc nb * rowSize D ≤ length rs * rowSize D = mul-le-mul-right (rowSize D) l in
       absurd (omega (arith, blocks-length D rs ws b, suc-mul nb (rowSize D)))
 
-  -- the row's block, lent and back
+  -- the row's block, passed on and returned
   pub back-put : (at k : ℕ) (part : List ℕ) → at ≡ nb * rowSize D → k ≡ rowSize D → EntryAdded node (take k (drop at ws)) part → BackAdded D node nb ws (putMid at k ws part)
   back-put at k part e size added rs b l =
       let row : List ℕ = getD rs nb [] in

@@ -1,4 +1,4 @@
--- Reverse edges in words (01, part 6): what the code leaves of rows as a build makes them, each a count and D entries, zero past the count. Each
+-- Reverse edges in words (scope, part 6): what the code leaves of rows as a build makes them, each a count and D entries, zero past the count. Each
 -- says: whatever rows the words were, the words are now those that the definition makes of them.
 use mathlib.Core.Path.{_≡_}
 use mathlib.Core.List.{List, [], _∷_, _++_}

@@ -1,4 +1,4 @@
--- What is lent is within the stores. Assumes nothing.
+-- What is passed on is within the stores. Assumes nothing.
 use mathlib.Core.Path.{sym}
 use lib.Seq.{length-take-le}
 use native.Mathlib.Omega.{arith}

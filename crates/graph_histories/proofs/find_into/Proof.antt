@@ -1,4 +1,4 @@
--- The outputs are lent as far as the line says and they go. Assumes nothing.
+-- The outputs are passed on as far as the line says and they go. Assumes nothing.
 use mathlib.Core.Path.{sym}
 use lib.Seq.{length-take-le}
 use native.Mathlib.Omega.{arith}

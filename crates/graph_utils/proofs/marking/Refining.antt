@@ -1,5 +1,5 @@
--- Marking on words is the walk of the definition: marks tell which nodes are in the list of reached ones, and the stack is the frontier. The
--- stack has room, since its nodes are reached, each once, and below n. Assumes nothing.
+-- Marking on words is the walk of the definition: marks show which nodes are in the list of reached ones, and the stack is the frontier. The stack
+-- has room, since its nodes are reached, each once, and below n. Assumes nothing.
 use mathlib.Core.Path.{_≡_, refl, sym, ap, ap₂, subst, _∙_}
 use mathlib.Core.Logic.{_≢_}
 use mathlib.Core.Bool.{Bool, true, false, not, _&&_, _||_}
@@ -22,7 +22,7 @@ use Rattle.graph_utils.specs.Inside.Marking.{Marks, marks, visited, visi
 
 -- ---- the words of a list of reached nodes, and of a frontier
 
--- the first n words tell which nodes are reached
+-- the first n words show which nodes are reached
 pub record Marked (n : ℕ) (reached words : List ℕ) : Type 0 where
   pub room : 2 * n ≤ length words
   pub told : (v : ℕ) → v < n → eqb (getD words v 0) 0 ≡ not (has v reached)

@@ -1,4 +1,4 @@
--- Where a bridge starts, as words and a distance that is kept do it (01, part 7). Of n nodes the first n words are marks, not 0 where a node is
+-- Where a bridge starts, as words and a distance that is kept do it (scope, part 7). Of n nodes the first n words are marks, not 0 where a node is
 -- reached.
 use mathlib.Core.Bool.{Bool, true, false, _||_}
 use mathlib.Core.List.{List, [], _∷_, _++_}

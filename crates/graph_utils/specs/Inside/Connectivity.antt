@@ -1,4 +1,4 @@
--- What `ensure_connectivity` leaves behind (01, part 7): the bridges that repair builds stand at the front of the lent words, in order, and the
+-- What `ensure_connectivity` leaves behind (scope, part 7): the bridges that repair builds are at the front of the words passed in, in order, and the
 -- rest of them stays.
 use mathlib.Core.Path.{_≡_}
 use mathlib.Core.List.{List, [], _++_, map, flatten}

@@ -1,4 +1,4 @@
--- Marking as words do it (01, part 7). Of n nodes the first n words are marks, not 0 where a node is reached, and the next n a stack of nodes
+-- Marking as words do it (scope, part 7). Of n nodes the first n words are marks, not 0 where a node is reached, and the next n a stack of nodes
 -- whose lists are still to be looked at.
 use mathlib.Core.Bool.{_&&_}
 use mathlib.Core.List.{List, [], _∷_}
@@ -26,7 +26,7 @@ unfolding visited
 visitedAll n [] s = s
 visitedAll n (v ∷ vs) s = visitedAll n vs (visited n v s)
 
--- the lists of the stack's nodes are looked at, the latest first, so many at most
+-- the lists of the stack's nodes are read, the latest first, at most this many
 unfoldable pub markedFrom : ℕ → (ℕ → List ℕ) → ℕ → List ℕ → ℕ → List ℕ
 unfolding visitedAll
 markedFrom n list zero words top = words

@@ -1,4 +1,4 @@
--- The turns of repair as words do them (01, part 7): so many bridges stand in their words, chains link their ends, and marks tell which nodes are
+-- The turns of repair as words do them (scope, part 7): the bridges so far are in their words, chains link their ends, and marks show which nodes are
 -- reached.
 use mathlib.Core.List.{List}
 use Prim.Native.Nat.{ℕ, zero, suc, _+_, _*_}

@@ -1,4 +1,4 @@
--- What the sizes turn back no `Turn` has; else the steps' row is the definition's. Assumes nothing.
+-- No `Turn` has sizes that are refused; otherwise the steps' row is the definition's. Assumes nothing.
 use mathlib.Core.Path.{ap, _∙_}
 use lib.ListN.{length, length-map}
 use Rattle.distance.specs.Vectors.{vectorsIn, between}

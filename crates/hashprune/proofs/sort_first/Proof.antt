@@ -1,4 +1,4 @@
--- The first n pairs are lent and come back sorted, with what stood past them. Assumes nothing.
+-- The first n pairs are passed on and come back sorted, with what stood past them. Assumes nothing.
 use mathlib.Core.Path.{_≡_}
 use lib.ListN.{take, length-take}
 use Rattle.sorting.specs.Sorting.{fitting}

@@ -1,4 +1,4 @@
--- One node's turn in a leaf (01, part 5; `hashprune_insert`), on slices: what has to be there, and what its row then holds.
+-- One node's turn in a leaf (scope, part 5; `hashprune_insert`), on slices: what has to be there, and what its row then holds.
 use mathlib.Core.Path.{_≡_}
 use mathlib.Core.List.{List, _++_, map}
 use Prim.Native.Nat.{ℕ, _+_, _-_, _*_, _/_, _≤_, _<_}

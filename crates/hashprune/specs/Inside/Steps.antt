@@ -1,5 +1,5 @@
--- What the steps of one node's turn say of each other, inside this crate (01, part 5). Slices hold a cell as a hash and the place of its candidate,
--- and a node to be sorted as a pair of a key and the node.
+-- What the steps of one node's turn say of each other, inside this crate (scope, part 5). Slices hold a cell as a hash and the index of its
+-- candidate, and a node to be sorted as a pair of a key and the node.
 use mathlib.Core.Path.{_≡_}
 use mathlib.Core.List.{List, [], _∷_, _++_, map}
 use Prim.Native.Nat.{ℕ, zero, suc, _-_, _≤_, _<_, min}

@@ -1,4 +1,4 @@
--- What is not turned back has at most 512 sightings, so the day's doc ids fit the local array; `gather` says which they are and `count_different` how
+-- What is not refused has at most 512 sightings, so the day's doc ids fit the local array; `gather` says which they are and `count_different` how
 -- many different ones, which is the definition's count. Assumes nothing.
 use native.Mathlib.Omega.{arith}
 use borrow.Author.Needs.{needs}

@@ -1,4 +1,4 @@
--- The parts that are lent are as long as there are sightings, which the two tests saw. Assumes nothing.
+-- The parts that are passed on are as long as there are sightings, which the two tests saw. Assumes nothing.
 use mathlib.Core.Path.{sym}
 use lib.Seq.{length-take-le}
 use native.Mathlib.Omega.{arith}

@@ -1,4 +1,4 @@
--- The equations of a chain's reader: from no link on nothing is read, and from a link on its other end and then what the next link gives. Links
+-- The equations of a chain's reader: from no link on nothing is read, and from a link on its other end and then what the next link leads to. Links
 -- rise, so that the fuel does not show. Assumes nothing.
 use mathlib.Core.Path.{_≡_, refl, sym, ap, _∙_}
 use mathlib.Core.Logic.{_⊎_, inl, inr}
@@ -43,7 +43,7 @@ module _ (n : ℕ) (bridges links : List ℕ) where
   ends-none zero = refl
   ends-none (suc more) = refl
 
-  -- any fuel that reaches past the last link gives the same
+  -- any fuel that reaches past the last link leads to the same
   ends-fuel : (a b link : ℕ) → link ≤ length links → length links < a + link → length links < b + link
       → endsFrom n bridges links a link ≡ endsFrom n bridges links b link
   unfolding endsFrom

@@ -1,6 +1,6 @@
--- The other ends of a node's bridges, linked (01, "Records": a node's list is its row, then the other ends of its bridges, in order). Slot s is
--- word s of the bridges: bridge j has slot 2·j for its near node and 2·j + 1 for its far node. A link is a slot and 1, and 0 is none. Of n nodes
--- the links are words: n heads, n tails, and then for each slot the next link of its node's chain.
+-- The other ends of a node's bridges, linked (scope, Records: a node's list is its row, then the other ends of its bridges, in order). Slot s is word
+-- s of the bridges: bridge j has slot 2·j for its near node and 2·j + 1 for its far node. A link is a slot and 1, and 0 is none. Of n nodes the links
+-- are words: n heads, n tails, and then for each slot the next link of its node's chain.
 use mathlib.Core.Path.{_≡_}
 use mathlib.Core.Bool.{_&&_}
 use mathlib.Core.List.{List, [], _∷_, _++_, map}
@@ -36,7 +36,7 @@ nextLink n links link =
     let next : ℕ = getD links (2 * n + link - 1) 0 in
     pick (ltb link next && leb (2 * n + next) (length links)) next 0
 
--- the other ends from a link on, so many at most
+-- the other ends from a link on, at most this many
 unfoldable pub endsFrom : ℕ → List ℕ → List ℕ → ℕ → ℕ → List ℕ
 unfolding otherEndAt nextLink
 endsFrom n bridges links zero link = []

@@ -1,4 +1,4 @@
--- A node's list, as words hold it (01, "Records"): its row, then the other ends of its bridges, by their chain. A reader goes along it with a
+-- A node's list, as words hold it (scope, Records): its row, then the other ends of its bridges, by their chain. A reader goes along it with a
 -- cursor: an index of the row and, past the row, a link.
 use mathlib.Core.Bool.{Bool, not, _||_}
 use mathlib.Core.List.{List, [], _++_}

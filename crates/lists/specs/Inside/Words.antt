@@ -1,5 +1,5 @@
--- Lists in words (01, "Records"): the rows that stand one after the other in a slice of words, each a count and D entries, and its bridges. A
--- build writes rows whole, zero past their counts; a reader takes the entries that a row's first word counts.
+-- Lists in words (scope, Records): the rows one after the other in a slice of words, each a count and D entries, and its bridges. A build writes rows
+-- whole, zero past their counts; a reader takes the entries that a row's first word counts.
 use mathlib.Core.Path.{_≡_}
 use mathlib.Core.List.{List, map, flatten}
 use Prim.Native.Nat.{ℕ, _*_, _/_, _≤_}

@@ -1,4 +1,5 @@
--- The fresh nodes of a list (01, part 8: a node is scored at most once), and the words that hold marks and fresh nodes while a walk looks at a list.
+-- The fresh nodes of a list (scope, part 8: a node is scored at most once), and the words that hold marks and fresh nodes while a walk looks at a
+-- list.
 use mathlib.Core.Path.{_≡_}
 use mathlib.Core.List.{List, [], _∷_, _++_}
 use Prim.Native.Nat.{ℕ, _+_, _≤_, _<_}

@@ -1,4 +1,4 @@
--- Distances written to their nodes' places (01, part 8: each node is scored once). `far` is a node's distance.
+-- Distances written at their nodes' indexes (scope, part 8: each node is scored once). `far` is a node's distance.
 use mathlib.Core.List.{List, [], _∷_}
 use Prim.Native.Nat.{ℕ, _+_}
 use lib.ListN.{getD, set}

@@ -1,4 +1,4 @@
--- Sums that run side by side. They serve the check of many floats at once, which gives `every finite`.
+-- Sums that run side by side. They serve the check of many floats at once, which implies `every finite`.
 use mathlib.Core.Path.{_≡_}
 use mathlib.Core.List.{List}
 use Prim.Native.Nat.{ℕ, _<_}

@@ -1,5 +1,4 @@
--- Where a number that was read from a probe's line (01, "Checked values") ends: what the reader of
--- components goes on by.
+-- Where a number that was read from a probe's line (scope, Checked values) ends: what the reader of components goes on by.
 use Prim.Native.Nat.{ℕ, _≤_}
 use Rattle.probe_text.specs.declared.Number.{Number}
 use Rattle.probe_text.specs.declared.Number.the-variants.{Value, Missing}

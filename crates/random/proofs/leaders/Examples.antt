@@ -1,4 +1,4 @@
--- A draw that computes: the first of 01's level 0, of three positions. Assumes nothing.
+-- A draw that computes: the first at level 0, of three positions. Assumes nothing.
 use mathlib.Core.Path.{_≡_, refl}
 use mathlib.Core.List.{[], _∷_}
 use Rattle.random.specs.Leaders.{drawStart, drawn, upTo}

@@ -1,4 +1,4 @@
--- Scores that compute: 01's two, the ends, and what lies beyond them; and answers at a limit. Assumes nothing.
+-- Scores that compute: the scope's two, the ends, and what lies beyond them; and answers at a limit. Assumes nothing.
 use mathlib.Core.Path.{_≡_, refl}
 use mathlib.Core.Bool.{true, false}
 use lib.Ieee.{Float, nan, inf, binary32, lt, eq, le, ofBits}

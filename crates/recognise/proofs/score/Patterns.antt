@@ -1,4 +1,4 @@
--- What `score_bits` works out is the score, at binary32: how many units a pattern is, against the 2^149 of 1. Assumes nothing.
+-- What `score_bits` computes is the score, at binary32: how many units a pattern is, against the 2^149 of 1. Assumes nothing.
 use mathlib.Core.Path.{_≡_, sym, ap, _∙_, subst}
 use mathlib.Core.Bool.{true, false}
 use mathlib.Core.Logic.{_⊎_, inl, inr}

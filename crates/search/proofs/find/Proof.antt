@@ -1,4 +1,4 @@
--- The query stands scaled at the front of the room, which is long enough for any that is not turned back. Assumes nothing.
+-- The query stands scaled at the front of the room, which is long enough for any that is not refused. Assumes nothing.
 use mathlib.Core.Path.{sym, ap, _∙_}
 use mathlib.Core.List.{List}
 use Prim.Native.Nat.{_≤_}

@@ -56,7 +56,7 @@ passed-4 c =
     let t = passed-3 (c .before) in
     (t .0, (t .1 .0, (t .1 .1 .0, (c .if5 .left, tt))))
 
--- the outputs' room, by the number that was worked out
+-- the outputs' room, by the number that was computed
 rooms : (docs : List ℕ) (n : ℕ) (k k′ : ℕ) (b : Bool) → k ≡ k′ → (ltb (length docs) k || ltb n k) ≡ b → (ltb (length docs) k′ || ltb n k′) ≡ b
 rooms docs n k k′ b e h = ap (λ (m : ℕ). ltb (length docs) m || ltb n m) (sym e) ∙ h
 

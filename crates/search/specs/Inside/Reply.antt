@@ -1,4 +1,4 @@
--- What a search returns, as one value with its two outputs, and what its steps require of each other (01, part 8).
+-- What a search returns, as one value with its two outputs, and what its steps require of each other (scope, part 8).
 use mathlib.Core.Path.{_≡_}
 use mathlib.Core.List.{List, _++_, map}
 use Prim.Native.Nat.{ℕ, _*_, _≤_, min}

@@ -1,4 +1,4 @@
--- Where `a` is the longer one its part of `b`'s length is lent, and what is cut off plays no part in the products. Assumes nothing.
+-- Where `a` is the longer one its part of `b`'s length is passed on, and what is cut off plays no part in the products. Assumes nothing.
 use native.Mathlib.Omega.{arith}
 use mathlib.Core.Path.{sym, ap, _∙_}
 use lib.ListN.{length, length-take}

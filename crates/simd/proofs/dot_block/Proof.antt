@@ -1,4 +1,4 @@
--- Where the query is longer than the block's rows its part of their length is lent, and what is cut off plays no part. Assumes nothing.
+-- Where the query is longer than the block's rows its part of their length is passed on, and what is cut off plays no part. Assumes nothing.
 use native.Mathlib.Omega.{arith}
 use mathlib.Core.Path.{_≡_, sym, ap, _∙_}
 use mathlib.Core.List.{List}

@@ -1,4 +1,4 @@
--- Where the residual is longer than the block's planes its part of their length is lent, and what is cut off plays no part. Assumes nothing.
+-- Where the residual is longer than the block's planes its part of their length is passed on, and what is cut off plays no part. Assumes nothing.
 use native.Mathlib.Omega.{arith}
 use mathlib.Core.Path.{sym, _∙_}
 use lib.ListN.{length-take}

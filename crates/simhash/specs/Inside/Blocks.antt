@@ -1,4 +1,4 @@
--- The hash of a residual by blocks of eight planes (01, part 5): in a block component i of plane j stands at 8 · i + j.
+-- The hash of a residual by blocks of eight planes (scope, part 5): in a block component i of plane j is at 8 · i + j.
 use mathlib.Core.Bool.{Bool, _&&_}
 use mathlib.Core.List.{List, [], _∷_, _++_}
 use Prim.Native.Nat.{ℕ, zero, suc, _+_, _*_, _/_, _%_, _^_}

@@ -1,5 +1,5 @@
--- Calls are accepted exactly if they are rightful, over every list of calls on stores of any first content. By induction over the list: what `Made`
--- and `Kept` say between two calls lets a rightful call pass all its checks, and every call keeps both. Assumes nothing.
+-- Calls are accepted exactly if they are valid, over every list of calls on stores of any first content. By induction over the list: what `Made` and
+-- `Kept` say between two calls lets a valid call pass all its checks, and every call keeps both. Assumes nothing.
 use mathlib.Core.Path.{_≡_, refl, sym, ap, ap₂, _∙_, subst}
 use mathlib.Core.Bool.{false, not, _&&_, _||_}
 use mathlib.Core.List.{List, [], _∷_, _++_}

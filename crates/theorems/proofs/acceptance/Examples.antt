@@ -1,5 +1,4 @@
--- 01's worked example with a capacity of 3, so that it fills the store: every call of it is accepted, and three more show the limits. Assumes
--- nothing.
+-- The worked example with a capacity of 3, so that it fills the store: every call of it is accepted, and three more show the limits. Assumes nothing.
 use mathlib.Core.Path.{_≡_, refl}
 use mathlib.Core.Bool.{false}
 use mathlib.Core.List.{List, [], _∷_}

@@ -1,6 +1,6 @@
--- Stores that these calls have made are well formed. `Made` of the promise gives their view; `Sound` adds what the view does not show: the limits,
--- two words of the header, the counts of the rows, the sizes, and that the vectors are finite. Together they pass the checks that every call begins
--- with. Assumes nothing.
+-- Stores that these calls have made are well formed. `Made` of the promise says what their view is; `Sound` adds what the view does not show: the
+-- limits, two words of the header, the counts of the rows, the sizes, and that the vectors are finite. Together they pass the checks that every call
+-- begins with. Assumes nothing.
 use mathlib.Core.Path.{_≡_, sym, ap, ap₂, _∙_, subst}
 use mathlib.Core.Bool.{true, false, not, _||_}
 use mathlib.Core.List.{List, []}

@@ -1,4 +1,4 @@
--- 01's worked example as a list of C calls, with those that C alone can make: a final_prune of 2, and recognising. Assumes nothing.
+-- The worked example as a list of C calls, with those that C alone can make: a final_prune of 2, and recognising. Assumes nothing.
 use mathlib.Core.Path.{_≡_, refl}
 use mathlib.Core.Bool.{false}
 use mathlib.Core.List.{List, [], _∷_}
@@ -14,7 +14,7 @@ use Rattle.theorems.specs.CAcceptance.{CAccepts}
 use Rattle.theorems.proofs.c_calls.Promise.{c-demand-3}
 use Rattle.theorems.proofs.c_calls.Acceptance.{c-accepts}
 
--- 01's parameters, with this final_prune
+-- the worked example's parameters, with this final_prune
 abbrev given : ℕ → CParams
 given finalPrune = record {
   maxLeafSize = 256;

@@ -1,5 +1,5 @@
 -- Demand 3 holds of every list of C calls, on stores of any first content. A C call is one of the promise's calls, or refused for its final_prune,
--- or only reads; so it keeps `Made`, and that gives what is claimed. Assumes nothing.
+-- or only reads; so it keeps `Made`, and that implies what is claimed. Assumes nothing.
 use mathlib.Core.Bool.{_&&_}
 use mathlib.Core.List.{List, [], _∷_}
 use Prim.Native.Nat.{ℕ}

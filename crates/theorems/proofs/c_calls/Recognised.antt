@@ -1,5 +1,5 @@
 -- Recognising is a search for one node: it is accepted exactly if that search is and its limit is finite, and the one node that demand 3 promises
--- of the search gives the answer. Assumes nothing.
+-- of the search determines the answer. Assumes nothing.
 use mathlib.Core.Path.{_≡_, refl, sym, ap, ap₂, _∙_}
 use mathlib.Core.Bool.{true}
 use mathlib.Core.List.{List, [], _∷_, map, _++_}

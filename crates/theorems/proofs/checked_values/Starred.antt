@@ -1,4 +1,5 @@
--- 01's starred values hold of the definitions: each side computes to the other; the draw's and the worked example's do so where they are defined. Assumes nothing.
+-- The scope's checked values hold of the definitions: each side computes to the other; those of the draw and of the worked example do so where they are defined.
+-- Assumes nothing.
 use mathlib.Core.Path.{refl}
 use Rattle.norm.specs.Root.{rootOf}
 use Rattle.random.specs.Hyperplanes.{stream, planeNumber}

@@ -1,6 +1,6 @@
--- The theorem: stores that agree up to their sizes give equal numbers, answers and stores up to these sizes, for every call. A header that is not
--- well formed is refused by its 16 words; one that is gives equal checks and equal views, and what is written agrees where the stores did.
--- Assumes nothing.
+-- The theorem: stores that agree up to their sizes lead to equal numbers, answers and stores up to these sizes, for every call. A header that is not
+-- well formed is refused by its 16 words; one that is leads to equal checks and equal views, and what is written agrees where the stores did. Assumes
+-- nothing.
 use mathlib.Core.Path.{_≡_, refl, sym, ap, ap₂, _∙_, subst}
 use mathlib.Core.Bool.{Bool, true, false, not, _&&_}
 use mathlib.Core.List.{List, [], _∷_, _++_, map, flatten, append-assoc}

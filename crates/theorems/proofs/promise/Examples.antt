@@ -1,4 +1,4 @@
--- 01's worked example as a list of calls, with an add that is refused: what is remembered of it, and so what is claimed. Assumes nothing.
+-- The worked example as a list of calls, with an add that is refused: what is remembered of it, and so what is claimed. Assumes nothing.
 use mathlib.Core.Path.{_≡_, refl}
 use mathlib.Core.List.{List, [], _∷_}
 use Prim.Native.Nat.{ℕ}
@@ -41,7 +41,7 @@ unfoldable pub left : List Call → Past → List ℕ → List Float → Past ×
 left [] past w f = (past, w, f)
 left (c ∷ cs) past w f = left cs (then c (outcome c w f .0) past) (outcome c w f .1) (outcome c w f .2)
 
--- three nodes, built: the add with one component gave 6, the one after the build 5
+-- three nodes, built: the add with one component returned 6, the one after the build 5
 three-nodes : left calls nothing (replicate 56 7) (replicate 16 minusOne) .0
     ≡ built (record {
       dimension = 2;

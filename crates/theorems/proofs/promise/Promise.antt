@@ -1,5 +1,5 @@
 -- Demand 3: the claim holds of every list of calls, on stores of any first content. By induction over the list: what `Made` says between two
--- calls gives what is claimed there, and every call keeps it. Assumes nothing.
+-- calls implies what is claimed there, and every call keeps it. Assumes nothing.
 use mathlib.Core.Path.{_≡_, refl, sym, ap, _∙_, subst}
 use mathlib.Core.List.{List, [], _∷_, _++_}
 use Prim.Native.Nat.{ℕ, _+_, _*_, _<_}
@@ -101,7 +101,7 @@ stands nothing w f m = tt
 stands (opened x) w f m = tt
 stands (built x) w f m = graphed x w f m
 
--- ---- what a search tells
+-- ---- what a search reports
 
 -- the reply to a search with this ef, which may be the store's own
 told : (past : Past) (ws fs : ℕ) (w : List ℕ) (f query : List Float) (k : ℕ) (ef : Index → ℕ) (given : ℕ) (docs : List ℕ) (distances : List Float)

@@ -1,4 +1,4 @@
--- `queues::worst_of` meets its contract: the first pair tells the worst distance. Assumes nothing.
+-- `queues::worst_of` meets its contract: the first pair shows the worst distance. Assumes nothing.
 use lib.Ieee.{ofBits, nanBits}
 use Rattle.beam_state.proofs.queues.Keeping.{worst-none, worst-at}
 use native.Mathlib.Omega.{arith}

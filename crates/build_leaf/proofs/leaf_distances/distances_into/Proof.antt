@@ -1,4 +1,4 @@
--- The block that is turned is the part of the array that is lent again (`distances-are`). Where the code returns early the sizes do not fit.
+-- The block that is turned is the part of the array that is passed on again (`distances-are`). Where the code returns early the sizes do not fit.
 -- Assumes nothing.
 use native.Mathlib.Omega.{arith}
 use mathlib.Core.Path.{_≡_, subst}

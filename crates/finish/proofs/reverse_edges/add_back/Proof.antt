@@ -1,4 +1,4 @@
--- The neighbour's block is lent, and what comes back is put in its place (`back-put`). Assumes nothing.
+-- The neighbour's block is passed on, and what comes back is put in its place (`back-put`). Assumes nothing.
 use native.Mathlib.Omega.{arith}
 use Prim.Native.Nat.{ℕ, _+_, _-_, _*_}
 use lib.ListN.{length-take, length-drop}

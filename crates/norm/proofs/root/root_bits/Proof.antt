@@ -1,5 +1,5 @@
--- `scale` gives q and k, the shift makes the number of part 2, and `root-law` says what pattern the half of its whole root is. The bounds keep every
--- step within 64 bits. Assumes nothing.
+-- `scale` returns q and k, the shift makes the number of part 2, and `root-law` says what pattern the half of its whole root is. The bounds keep
+-- every step within 64 bits. Assumes nothing.
 use borrow.Author.Needs.{needs}
 use mathlib.Core.Path.{_≡_, sym, ap, subst, _∙_}
 use Prim.Native.Nat.{ℕ, _+_, _-_, _*_, _/_, _%_, _^_, _≤_, _<_}

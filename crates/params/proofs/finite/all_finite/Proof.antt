@@ -1,4 +1,4 @@
--- `finite::all_finite` meets its contract: finite sums tell, and where they do not each component is looked at. Assumes nothing.
+-- `finite::all_finite` meets its contract: finite sums are enough, and where they are not finite each component is tested. Assumes nothing.
 use mathlib.Core.Path.{sym}
 use borrow.Author.Needs.{needs}
 use Rattle.params.proofs.finite.all_finite.Statement.{statement}

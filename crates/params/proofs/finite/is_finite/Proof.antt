@@ -1,4 +1,4 @@
--- `finite::is_finite` meets its contract: a sum of two finite floats is never a NaN, infinities of unlike signs give one, and a float equals
+-- `finite::is_finite` meets its contract: a sum of two finite floats is never a NaN, the sum of infinities of unlike signs is one, and a float equals
 -- itself unless it is one. Assumes nothing.
 use mathlib.Core.Path.{_≡_, refl, ap, _∙_}
 use mathlib.Core.Bool.{Bool, true, false, not, _&&_, Bool·beq, cond}

@@ -1,4 +1,4 @@
--- The part that is lent is as long as the lesser of n and the room. Assumes nothing.
+-- The part that is passed on is as long as the lesser of n and the room. Assumes nothing.
 use mathlib.Core.Path.{sym, ap, _∙_}
 use Prim.Native.Nat.{ℕ}
 use lib.ListN.{length-take}

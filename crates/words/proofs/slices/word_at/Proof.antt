@@ -1,4 +1,4 @@
--- `slices::word_at` meets its contract: past the end `getD` gives its default. Assumes nothing.
+-- `slices::word_at` meets its contract: past the end `getD` returns its default. Assumes nothing.
 use mathlib.Core.Path.{sym}
 use lib.ListN.{List·getD-eq-default}
 use borrow.Author.Needs.{needs}
