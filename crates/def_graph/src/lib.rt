@@ -19,7 +19,8 @@
 // specs/Simhash             the hash of a residual, a bit for each hyperplane
 // specs/Leaf                hash cells, one node's row, a leaf, all leaves
 // specs/Refine              reverse edges and the final prune, over rows as a list of lists
-// specs/Centroid,           Medoid   the centroid of the vectors and the node nearest to it, the entry node
+// specs/Centroid            the centroid of the vectors
+// specs/Medoid              the node nearest to it, the entry node
 // specs/Rows                Settings, `rowsOf` and `entryOf`: parts 1 to 6 as one definition of the lists and the entry node
 // proofs/partition/Laws     over all leaves each node occurs once if n <= max_leaf_size, else exactly twice; no
 //                           other number occurs; how many entries there are
@@ -31,4 +32,4 @@
 //                           entry node below n; the final prune changes nothing
 // proofs/*/Examples         leaves and graphs that compute: the worked example, and others whose outcome is the Rust's
 //
-// It uses `random` for the streams and on `sorting` and `distance` for the nearest.
+// It uses `random` for the streams, and `sorting` and `distance` for the nearest.
