@@ -27,9 +27,6 @@ returns c fits =
     (no-room (length (a .words .now)) (a .sizes .n) (length (a .bridges .now)) (c .if1 .taken)
     (record { scratch = omega (arith, fits .words-room); nodes = fits .few; pairs = omega (arith, fits .bridges-few) }))
 
-start-requires : tie.Need-start-requires
-start-requires c κs = omega (arith, fitting (c .before .before .before) .scratch)
-
 walk-linked-requires : tie.Need-walk-linked-requires
 walk-linked-requires c κs =
     let at-start = c .before .before .before .before .before .before .before .before .before in
@@ -57,9 +54,6 @@ pub beam-search-spec : {M : Type 1} → statement M
 beam-search-spec =
     tie.close
     (tie.spec
-    returns
-    start-requires
-    walk-linked-requires
+    returns (λ c κs. omega (arith, fitting (c .before .before .before) .scratch)) walk-linked-requires
     -- put_distances, small, lengths stay
-    (λ c κs. search needs) (λ c κs. search needs) (λ c. search needs) (λ c. search needs) (λ c. search needs) (λ c. search needs)
-    returns-2)
+    (λ c κs. search needs) (λ c κs. search needs) (λ c. search needs) (λ c. search needs) (λ c. search needs) (λ c. search needs) returns-2)

@@ -9,9 +9,6 @@ use borrow.Author.Needs.{needs}
 use Rattle.beam_search.proofs.prepare.Statement.{statement}
 use Rattle.beam_search.proofs.prepare.Tie as tie
 
-slice-aggregate-clear-words : tie.Need-slice-aggregate-clear-words
-slice-aggregate-clear-words c = simp length-take (omega arith)
-
 returns : tie.Need-returns
 returns c =
     let at-clear2 = c .before .before in
@@ -32,8 +29,7 @@ prepare-spec =
     (tie.spec
     -- frontier, held, lesser, held_end, clear_words and its part
     (λ c. search needs) (λ c. search needs) (λ c κs. search needs) (λ c. search needs) (λ c. search needs) (λ c. search needs)
-    slice-aggregate-clear-words
+    (λ c. simp length-take (omega arith))
     -- clear_words, clear and its part, twice, lengths stay
     (λ c κs. search needs) (λ c. search needs) (λ c. search needs) (λ c. search needs) (λ c. search needs) (λ c κs. search needs) (λ c. search needs)
-    (λ c. search needs) (λ c. search needs) (λ c. search needs) (λ c κs. search needs) (λ c. search needs)
-    returns)
+    (λ c. search needs) (λ c. search needs) (λ c. search needs) (λ c κs. search needs) (λ c. search needs) returns)

@@ -64,16 +64,9 @@ pub put-distances-spec : {M : Type 1} → statement M
 put-distances-spec =
     tie.close
     (tie.spec
-    Inv-loop
-    μ-loop
+    Inv-loop μ-loop
     -- lesser
-    (λ c κs. search needs) (λ c κs. search needs)
-    loop-holds
+    (λ c κs. search needs) (λ c κs. search needs) loop-holds
     -- distance_of, distances
-    (λ c. search needs) (λ c. search needs) (λ c κs. search needs) (λ c. search needs)
-    slice-write-distances
-    add-i
-    loop-less
-    loop-again
-    same-length
+    (λ c. search needs) (λ c. search needs) (λ c κs. search needs) (λ c. search needs) slice-write-distances add-i loop-less loop-again same-length
     returns)

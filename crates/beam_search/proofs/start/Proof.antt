@@ -42,11 +42,8 @@ start-spec =
     tie.close
     (tie.spec
     -- prepare
-    (λ c κs. search needs)
-    float-from-bits-cutoff
+    (λ c κs. search needs) float-from-bits-cutoff
     -- begin
-    (λ c κs. search needs)
-    take-in-requires
+    (λ c κs. search needs) take-in-requires
     -- lengths stay
-    (λ c. search needs) (λ c. search needs) (λ c. search needs)
-    returns)
+    (λ c. search needs) (λ c. search needs) (λ c. search needs) returns)

@@ -65,11 +65,8 @@ step-spec =
     (tie.spec
     -- frontier, held, pop and its part, what is popped, lengths stay
     (λ c. search needs) (λ c. search needs) (λ c. search needs) (λ c. search needs) (λ c. search needs) (λ c. search needs) (λ c κs. search needs)
-    (λ c. search needs) (λ c. search needs) (λ c. search needs) (λ c. search needs)
-    returns
+    (λ c. search needs) (λ c. search needs) (λ c. search needs) (λ c. search needs) returns
     -- too_far, lengths stay
-    (λ c κs. search needs) (λ c. search needs) (λ c. search needs)
-    returns-2
+    (λ c κs. search needs) (λ c. search needs) (λ c. search needs) returns-2
     -- gather, take_in, ends_after, lengths stay
-    (λ c κs. search needs) (λ c κs. search needs) (λ c κs. search needs) (λ c. search needs) (λ c. search needs) (λ c. search needs)
-    returns-3)
+    (λ c κs. search needs) (λ c κs. search needs) (λ c κs. search needs) (λ c. search needs) (λ c. search needs) (λ c. search needs) returns-3)

@@ -78,20 +78,8 @@ pub walk-on-spec : {M : Type 1} → statement M
 walk-on-spec =
     tie.close
     (tie.spec
-    Inv-loop
-    μ-loop
-    loop-holds
+    Inv-loop μ-loop loop-holds
     -- left
-    (λ c. search needs)
-    step-requires
-    same-length
-    same-length-2
-    same-length-3
-    returns
+    (λ c. search needs) step-requires same-length same-length-2 same-length-3 returns
     -- the loop measure
-    (λ c. search needs)
-    loop-again
-    same-length-4
-    same-length-5
-    same-length-6
-    returns-2)
+    (λ c. search needs) loop-again same-length-4 same-length-5 same-length-6 returns-2)

@@ -44,5 +44,4 @@ push-spec =
     -- keep_first and its part
     (λ c. search needs) (λ c. search needs) (λ c. search needs) (λ c. search needs) (λ c κs. search needs)
     -- one_more, lengths stay
-    (λ c κs. search needs) (λ c. search needs) (λ c. search needs)
-    returns)
+    (λ c κs. search needs) (λ c. search needs) (λ c. search needs) returns)

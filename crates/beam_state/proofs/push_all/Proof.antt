@@ -50,19 +50,10 @@ pub push-all-spec : {M : Type 1} → statement M
 push-all-spec =
     tie.close
     (tie.spec
-    Inv-loop
-    μ-loop
-    returns
+    Inv-loop μ-loop returns
     -- lesser
-    (λ c κs. search needs)
-    loop-holds
-    add-node
+    (λ c κs. search needs) loop-holds add-node
     -- node
-    (λ c. search needs) (λ c. search needs)
-    push-requires
+    (λ c. search needs) (λ c. search needs) push-requires
     -- i, the loop measure
-    (λ c. search needs) (λ c. search needs)
-    loop-again
-    same-length
-    same-length-2
-    returns-2)
+    (λ c. search needs) (λ c. search needs) loop-again same-length same-length-2 returns-2)

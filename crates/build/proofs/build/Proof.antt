@@ -37,9 +37,6 @@ returns-2 c =
     let same = pick-true (s .args .words .now) (words s) (eq-eqb _ _ (sym (c .before .word-at .ensures) ∙ c .if2 .taken)) in
     _∙_ {A = Answer} (λ i. (0, sym same i, s .args .floats .now)) (changed (refusal s) _ _ _ _ (zero (back)))
 
-build-graph-requires : tie.Need-build-graph-requires
-build-graph-requires c κs = zero (c .before .before .before .before .before .before)
-
 returns-3 : tie.Need-returns-3
 unfolding buildSpec
 returns-3 c =
@@ -57,12 +54,8 @@ build-spec =
     tie.close
     (tie.spec
     -- build_refusal, lengths stay
-    (λ c κs. search needs) (λ c. search needs)
-    returns
+    (λ c κs. search needs) (λ c. search needs) returns
     -- word_at, lengths stay
-    (λ c κs. search needs) (λ c. search needs)
-    returns-2
-    build-graph-requires
+    (λ c κs. search needs) (λ c. search needs) returns-2 (λ c κs. zero (c .before .before .before .before .before .before))
     -- lengths stay
-    (λ c. search needs) (λ c. search needs) (λ c. search needs)
-    returns-3)
+    (λ c. search needs) (λ c. search needs) (λ c. search needs) returns-3)

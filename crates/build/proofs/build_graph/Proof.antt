@@ -77,9 +77,6 @@ cast-degree c =
     let s = c .before .before .before .before .before .before .before .before .before .before .before .before .before in
     omega (arith, ap (λ (q : PipnnParams). q .«max_degree») (c .before .params-of .ensures), degree-small _ _ _ _ (taken s))
 
-part-put-rows-end : tie.Need-part-put-rows-end
-part-put-rows-end c = omega (arith, to-is c, row-end _ _ _ _ (taken (start c)))
-
 slice-aggregate-put-rows : tie.Need-slice-aggregate-put-rows
 slice-aggregate-put-rows c = sym (length-take-le _ _ (omega (arith, end-is (c .before .before), vectors-end _ _ _ _ (taken (start (c .before .before))))))
 
@@ -117,17 +114,11 @@ build-graph-spec =
     tie.close
     (tie.spec
     -- word_at, params_of
-    (λ c κs. search needs) (λ c κs. search needs) (λ c κs. search needs) (λ c κs. search needs)
-    cast-degree
+    (λ c κs. search needs) (λ c κs. search needs) (λ c κs. search needs) (λ c κs. search needs) cast-degree
     -- floats_size, rows_at, row_at, put_rows, part-put-rows-start
     (λ c κs. search needs) (λ c κs. search needs) (λ c κs. search needs) (λ c. search needs) (λ c. search needs) (λ c. search needs)
-    part-put-rows-end
-    slice-aggregate-put-rows
-    put-rows-requires
-    slice-aggregate-repair
+    (λ c. omega (arith, to-is c, row-end _ _ _ _ (taken (start c)))) slice-aggregate-put-rows put-rows-requires slice-aggregate-repair
     -- repair
-    (λ c. search needs)
-    repair-requires
+    (λ c. search needs) repair-requires
     -- lengths stay
-    (λ c. search needs) (λ c. search needs) (λ c. search needs)
-    returns)
+    (λ c. search needs) (λ c. search needs) (λ c. search needs) returns)

@@ -47,11 +47,9 @@ returns-3 c =
 
 pub build-refusal-spec : {M : Type 1} → statement M
 build-refusal-spec =
-    tie.close (tie.spec
+    tie.close
+    (tie.spec
     -- opening_refusal
-    (λ c κs. search needs)
-    returns
+    (λ c κs. search needs) returns
     -- word_at
-    (λ c κs. search needs)
-    returns-2
-    returns-3)
+    (λ c κs. search needs) returns-2 returns-3)

@@ -19,5 +19,4 @@ put-bridges-spec =
     tie.close
     (tie.spec
     -- end, copy_words, part-copy-words-start, part-copy-words-end, lengths stay
-    (λ c. search needs) (λ c. search needs) (λ c. search needs) (λ c. search needs) (λ c. search needs) (λ c κs. search needs) (λ c. search needs)
-    returns)
+    (λ c. search needs) (λ c. search needs) (λ c. search needs) (λ c. search needs) (λ c. search needs) (λ c κs. search needs) (λ c. search needs) returns)

@@ -9,9 +9,6 @@ use borrow.Author.Needs.{needs}
 use Rattle.build.proofs.put_leaves.Statement.{statement}
 use Rattle.build.proofs.put_leaves.Tie as tie
 
-add-sizes-end : tie.Need-add-sizes-end
-add-sizes-end c = omega arith
-
 slice-aggregate-build-leaves : tie.Need-slice-aggregate-build-leaves
 slice-aggregate-build-leaves c =
     let s = c .before .before .before .before .before .before in
@@ -36,12 +33,8 @@ put-leaves-spec =
     tie.close
     (tie.spec
     -- leaf_entries, sizes_at
-    (λ c κs. search needs) (λ c. search needs)
-    add-sizes-end
-    slice-aggregate-build-leaves
+    (λ c κs. search needs) (λ c. search needs) (λ c. omega arith) slice-aggregate-build-leaves
     -- build_leaves, part-build-leaves-start
-    (λ c. search needs) (λ c. search needs) (λ c. search needs)
-    part-build-leaves-end
+    (λ c. search needs) (λ c. search needs) (λ c. search needs) part-build-leaves-end
     -- build_leaves, lengths stay
-    (λ c κs. search needs) (λ c. search needs) (λ c. search needs)
-    returns)
+    (λ c κs. search needs) (λ c. search needs) (λ c. search needs) returns)

@@ -34,8 +34,6 @@ put-rows-spec =
     tie.close
     (tie.spec
     -- degree, clear_words, partition
-    (λ c. search needs) (λ c κs. search needs) (λ c κs. search needs)
-    put-leaves-requires
+    (λ c. search needs) (λ c κs. search needs) (λ c κs. search needs) put-leaves-requires
     -- add_reverse_edges, lengths stay
-    (λ c κs. search needs) (λ c. search needs) (λ c. search needs) (λ c. search needs)
-    returns)
+    (λ c κs. search needs) (λ c. search needs) (λ c. search needs) (λ c. search needs) returns)

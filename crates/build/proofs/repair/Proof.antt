@@ -14,9 +14,6 @@ use borrow.Author.Needs.{needs}
 use Rattle.build.proofs.repair.Statement.{statement}
 use Rattle.build.proofs.repair.Tie as tie
 
-slice-aggregate-compute-medoid : tie.Need-slice-aggregate-compute-medoid
-slice-aggregate-compute-medoid c = sym (length-take-le _ _ (c .before .before .before .before .before .before .pre .floats-room))
-
 part-ensure-connectivity-end : tie.Need-part-ensure-connectivity-end
 part-ensure-connectivity-end c =
     let s = c .before .before .before .before .before .before .before .before .before .before .before .before in
@@ -67,15 +64,12 @@ repair-spec =
     (tie.spec
     -- components, compute_medoid, slice-relend-prefix-compute-medoid
     (λ c. search needs) (λ c. search needs) (λ c. search needs)
-    slice-aggregate-compute-medoid
+    (λ c. sym (length-take-le _ _ (c .before .before .before .before .before .before .pre .floats-room)))
     -- compute_medoid, rows_at, row_at, ensure_connectivity, part-ensure-connectivity-start
     (λ c κs. search needs) (λ c κs. search needs) (λ c κs. search needs) (λ c. search needs) (λ c. search needs) (λ c. search needs)
     part-ensure-connectivity-end
     -- ensure_connectivity, lesser_u32, end, bridges_at, put_header, slice-reshare-prefix-put-bridges
     (λ c κs. search needs) (λ c κs. search needs) (λ c. search needs) (λ c. search needs) (λ c κs. search needs) (λ c κs. search needs)
-    (λ c. search needs)
-    slice-aggregate-put-bridges
-    put-bridges-requires
+    (λ c. search needs) slice-aggregate-put-bridges put-bridges-requires
     -- lengths stay
-    (λ c. search needs) (λ c. search needs) (λ c. search needs) (λ c. search needs)
-    returns)
+    (λ c. search needs) (λ c. search needs) (λ c. search needs) (λ c. search needs) returns)

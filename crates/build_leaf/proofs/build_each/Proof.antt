@@ -70,19 +70,9 @@ pub build-each-spec : {M : Type 1} → statement M
 build-each-spec =
     tie.close
     (tie.spec
-    Inv-loop
-    μ-loop
-    loop-holds
+    Inv-loop μ-loop loop-holds
     -- end
-    (λ c. search needs) (λ c. search needs)
-    cast-end
-    add-end
-    same-length
-    same-length-2
-    returns
+    (λ c. search needs) (λ c. search needs) cast-end add-end same-length same-length-2 returns
     -- build_leaf, part-build-leaf-start, part-build-leaf-end, k, the loop measure
     (λ c. search needs) (λ c. search needs) (λ c. search needs) (λ c. search needs) (λ c κs. search needs) (λ c. search needs) (λ c. search needs)
-    loop-again
-    same-length-3
-    same-length-4
-    returns-2)
+    loop-again same-length-3 same-length-4 returns-2)

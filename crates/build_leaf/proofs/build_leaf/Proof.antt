@@ -50,13 +50,7 @@ pub build-leaf-spec : {M : Type 1} → statement M
 build-leaf-spec =
     tie.close
     (tie.spec
-    Inv-loop
-    μ-loop
-    returns
-    loop-holds
+    Inv-loop μ-loop returns loop-holds
     -- distances_into, lesser, each_place, the loop measure
-    (λ c κs. search needs) (λ c. search needs) (λ c κs. search needs) (λ c κs. search needs) (λ c. search needs)
-    loop-again
-    same-length
-    same-length-2
+    (λ c κs. search needs) (λ c. search needs) (λ c κs. search needs) (λ c κs. search needs) (λ c. search needs) loop-again same-length same-length-2
     returns-2)

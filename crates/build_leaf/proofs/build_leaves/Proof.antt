@@ -14,5 +14,4 @@ build-leaves-spec =
     tie.close
     (tie.spec
     -- planes_into, build_each, lengths stay
-    (λ c. search needs) (λ c κs. search needs) (λ c. search needs) (λ c κs. search needs) (λ c. search needs) (λ c. search needs)
-    returns)
+    (λ c. search needs) (λ c κs. search needs) (λ c. search needs) (λ c κs. search needs) (λ c. search needs) (λ c. search needs) returns)

@@ -42,11 +42,6 @@ pub each-place-spec : {M : Type 1} → statement M
 each-place-spec =
     tie.close
     (tie.spec
-    Inv-loop
-    μ-loop
-    loop-holds
+    Inv-loop μ-loop loop-holds
     -- one_place, i, the loop measure
-    (λ c. search needs) (λ c κs. search needs) (λ c. search needs) (λ c. search needs)
-    loop-again
-    same-length
-    returns)
+    (λ c. search needs) (λ c κs. search needs) (λ c. search needs) (λ c. search needs) loop-again same-length returns)

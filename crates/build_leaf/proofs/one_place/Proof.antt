@@ -6,14 +6,8 @@ use borrow.Author.Needs.{needs}
 use Rattle.build_leaf.proofs.one_place.Statement.{statement}
 use Rattle.build_leaf.proofs.one_place.Tie as tie
 
-array-share-prefix-candidates : tie.Need-array-share-prefix-candidates
-array-share-prefix-candidates c = omega (arith, c .before .before .before .candidates-at .ensures .few)
-
 slice-aggregate-put-row : tie.Need-slice-aggregate-put-row
 slice-aggregate-put-row c = simp length-take (omega (arith, c .before .before .before .before .candidates-at .ensures .few, c .before .before .before .before .candidates-at .kept .1 .1 .1 .1 .1 .0))
-
-array-share-prefix-far : tie.Need-array-share-prefix-far
-array-share-prefix-far c = omega (arith, c .before .before .before .before .candidates-at .ensures .few)
 
 slice-aggregate-put-row-2 : tie.Need-slice-aggregate-put-row-2
 slice-aggregate-put-row-2 c = simp length-take (omega (arith, c .before .before .before .before .before .candidates-at .ensures .few, c .before .before .before .before .before .candidates-at .kept .1 .1 .1 .1 .1 .1 .0))
@@ -33,10 +27,7 @@ one-place-spec =
     (tie.spec
     -- candidates_at, node
     (λ c. search needs) (λ c. search needs) (λ c κs. search needs) (λ c. search needs) (λ c. search needs)
-    array-share-prefix-candidates
-    slice-aggregate-put-row
-    array-share-prefix-far
-    slice-aggregate-put-row-2
+    (λ c. omega (arith, c .before .before .before .candidates-at .ensures .few)) slice-aggregate-put-row
+    (λ c. omega (arith, c .before .before .before .before .candidates-at .ensures .few)) slice-aggregate-put-row-2
     -- put_row, lengths stay
-    (λ c κs. search needs) (λ c. search needs)
-    returns)
+    (λ c κs. search needs) (λ c. search needs) returns)

@@ -15,5 +15,4 @@ planes-into-spec =
     tie.close
     (tie.spec
     -- planes_into, plane_blocks_into, lengths stay
-    (λ c. search needs) (λ c κs. search needs) (λ c. search needs) (λ c κs. search needs) (λ c. search needs)
-    returns)
+    (λ c. search needs) (λ c κs. search needs) (λ c. search needs) (λ c κs. search needs) (λ c. search needs) returns)

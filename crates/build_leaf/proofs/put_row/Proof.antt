@@ -28,10 +28,6 @@ put-row-spec =
     tie.close
     (tie.spec
     -- size, at
-    (λ c. search needs) (λ c. search needs) (λ c. search needs)
-    mul-at
-    add-end
-    returns
+    (λ c. search needs) (λ c. search needs) (λ c. search needs) mul-at add-end returns
     -- hashprune_insert, part-hashprune-insert-start, part-hashprune-insert-end, lengths stay
-    (λ c. search needs) (λ c. search needs) (λ c. search needs) (λ c. search needs) (λ c κs. search needs) (λ c. search needs)
-    returns-2)
+    (λ c. search needs) (λ c. search needs) (λ c. search needs) (λ c. search needs) (λ c κs. search needs) (λ c. search needs) returns-2)

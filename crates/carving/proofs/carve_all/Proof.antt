@@ -56,14 +56,8 @@ returns c =
           (take-at (marked .last .0) _ (x .n) (marked .kept .0 ∙ length-take-le (x .n) (x .marks .now) long) ∙ marked .ensures ∙ ap (run 1) (length-take-le (x .n) (x .marks .now) long));
     }
 
-slice-aggregate-all-positions : tie.Need-slice-aggregate-all-positions
-slice-aggregate-all-positions c = sym (first-words (c .before .before .before .before .before))
-
 array-share-prefix-ids : tie.Need-array-share-prefix-ids
 array-share-prefix-ids c = let s = c .before .before .before .before .before .before .before in omega (arith, s .pre .0, array-back s (c .before .all-positions2 .last .1 .0) (c .before .all-positions2 .kept .1 .0))
-
-slice-aggregate-deal : tie.Need-slice-aggregate-deal
-slice-aggregate-deal c = sym (ap length (part-is (c .before .before)) ∙ length-upTo _)
 
 slice-aggregate-deal-3 : tie.Need-slice-aggregate-deal-3
 slice-aggregate-deal-3 c =
@@ -128,26 +122,8 @@ pub carve-all-spec : {M : Type 1} → statement M
 carve-all-spec =
     tie.close
     (tie.spec
-    (λ c κs. search needs)
-    (λ c. search needs)
-    slice-aggregate-mark
-    (λ c κs. search needs)
-    (λ c. search needs)
-    (λ c. search needs)
-    returns
-    (λ c. search needs)
-    slice-aggregate-all-positions
-    (λ c κs. search needs)
-    array-share-prefix-ids
-    slice-aggregate-deal
-    (λ c. search needs)
-    (λ c. search needs)
-    slice-aggregate-deal-3
-    (λ c κs. search needs)
-    slice-aggregate-carve-buckets
-    (λ c. search needs)
-    slice-aggregate-carve-buckets-3
-    carve-buckets-requires
-    (λ c. search needs)
-    (λ c. search needs)
-    returns-2)
+    (λ c κs. search needs) (λ c. search needs) slice-aggregate-mark (λ c κs. search needs) (λ c. search needs) (λ c. search needs) returns
+    (λ c. search needs) (λ c. sym (first-words (c .before .before .before .before .before))) (λ c κs. search needs) array-share-prefix-ids
+    (λ c. sym (ap length (part-is (c .before .before)) ∙ length-upTo _)) (λ c. search needs) (λ c. search needs) slice-aggregate-deal-3
+    (λ c κs. search needs) slice-aggregate-carve-buckets (λ c. search needs) slice-aggregate-carve-buckets-3 carve-buckets-requires (λ c. search needs)
+    (λ c. search needs) returns-2)

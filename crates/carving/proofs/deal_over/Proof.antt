@@ -37,12 +37,6 @@ part-is c =
     let copy = c .copy-words in
     take-at (copy .last .0) _ (size s) (copy .kept .0 ∙ ids-fit s) ∙ copied-whole (take (size s) (s .args .ids .now)) (s .args .nodes .now) (copy .last .0) (ids-fit s) (copy .ensures)
 
-slice-aggregate-copy-words : tie.Need-slice-aggregate-copy-words
-slice-aggregate-copy-words c = sym (ids-fit (c .before .before .before .before .before .before .before))
-
-slice-aggregate-deal : tie.Need-slice-aggregate-deal
-slice-aggregate-deal c = sym (ap length (part-is (c .before .before .before)))
-
 slice-aggregate-deal-2 : tie.Need-slice-aggregate-deal-2
 slice-aggregate-deal-2 c =
     let back-1 = c .before .before .before .before .before .before .before .before .before .before .before .before in
@@ -64,17 +58,6 @@ pub deal-over-spec : {M : Type 1} → statement M
 deal-over-spec =
     tie.close
     (tie.spec
-    (λ c. search needs)
-    slice-aggregate-copy-words
-    (λ c κs. search needs)
-    (λ c. search needs)
-    slice-aggregate-deal
-    (λ c. search needs)
-    slice-aggregate-deal-2
-    (λ c κs. search needs)
-    (λ c. search needs)
-    (λ c. search needs)
-    (λ c. search needs)
-    (λ c. search needs)
-    (λ c. search needs)
-    returns)
+    (λ c. search needs) (λ c. sym (ids-fit (c .before .before .before .before .before .before .before))) (λ c κs. search needs) (λ c. search needs)
+    (λ c. sym (ap length (part-is (c .before .before .before)))) (λ c. search needs) slice-aggregate-deal-2 (λ c κs. search needs) (λ c. search needs)
+    (λ c. search needs) (λ c. search needs) (λ c. search needs) (λ c. search needs) returns)

@@ -63,22 +63,10 @@ returns-2 c = record { made = λ _ a. absurd (omega (arith, a .some, c .if2 .tak
 returns-3 : tie.Need-returns-3
 returns-3 c = record { made = λ _ a. absurd (omega (arith, a .room, c .if3 .taken)); refused = λ _. (refl, refl) }
 
-slice-aggregate-carve-all : tie.Need-slice-aggregate-carve-all
-slice-aggregate-carve-all c = sym (length-take-le _ _ (room (c .before)))
-
-slice-aggregate-carve-all-2 : tie.Need-slice-aggregate-carve-all-2
-slice-aggregate-carve-all-2 c = sym (length-take-le _ _ (array-room (c .before .before)))
-
 carve-all-requires : tie.Need-carve-all-requires
 carve-all-requires c κs =
     let at = c .before .before in
     (few at, omega (arith, at .before .if2 .left), length-take-le _ _ (room at), length-take-le _ _ (array-room at))
-
-array-share-prefix-marks : tie.Need-array-share-prefix-marks
-array-share-prefix-marks c = total-fits (c .before .before .before)
-
-slice-aggregate-sizes-of : tie.Need-slice-aggregate-sizes-of
-slice-aggregate-sizes-of c = sym (length-take-le _ _ (total-fits (c .before .before .before .before)))
 
 sizes-of-requires : tie.Need-sizes-of-requires
 sizes-of-requires c κs =
@@ -116,23 +104,7 @@ pub partition-spec : {M : Type 1} → statement M
 partition-spec =
     tie.close
     (tie.spec
-    returns
-    returns-2
-    (λ c. search needs)
-    returns-3
-    (λ c. search needs)
-    (λ c. search needs)
-    slice-aggregate-carve-all
-    (λ c. search needs)
-    slice-aggregate-carve-all-2
-    carve-all-requires
-    array-share-prefix-marks
-    slice-aggregate-sizes-of
-    (λ c. search needs)
-    (λ c. search needs)
-    (λ c. search needs)
-    (λ c. search needs)
-    sizes-of-requires
-    (λ c. search needs)
-    (λ c. search needs)
-    returns-4)
+    returns returns-2 (λ c. search needs) returns-3 (λ c. search needs) (λ c. search needs) (λ c. sym (length-take-le _ _ (room (c .before))))
+    (λ c. search needs) (λ c. sym (length-take-le _ _ (array-room (c .before .before)))) carve-all-requires (λ c. total-fits (c .before .before .before))
+    (λ c. sym (length-take-le _ _ (total-fits (c .before .before .before .before)))) (λ c. search needs) (λ c. search needs) (λ c. search needs)
+    (λ c. search needs) sizes-of-requires (λ c. search needs) (λ c. search needs) returns-4)

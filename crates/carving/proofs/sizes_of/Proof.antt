@@ -63,18 +63,8 @@ pub sizes-of-spec : {M : Type 1} → statement M
 sizes-of-spec =
     tie.close
     (tie.spec
-    Inv-loop
-    μ-loop
-    loop-holds
+    Inv-loop μ-loop loop-holds
     -- first_size, part-first-size-start, part-first-size-end
-    (λ c. search needs) (λ c. search needs) (λ c. search needs) (λ c. search needs) (λ c κs. search needs)
-    cast-sizes
+    (λ c. search needs) (λ c. search needs) (λ c. search needs) (λ c. search needs) (λ c κs. search needs) cast-sizes
     -- sizes
-    (λ c. search needs)
-    slice-write-sizes
-    add-count
-    add-at
-    loop-less
-    loop-again
-    same-length
-    returns)
+    (λ c. search needs) slice-write-sizes add-count add-at loop-less loop-again same-length returns)

@@ -58,14 +58,8 @@ pub append-bucket-spec : {M : Type 1} → statement M
 append-bucket-spec =
     tie.close
     (tie.spec
-    Inv-loop
-    μ-loop
-    loop-holds
+    Inv-loop μ-loop loop-holds
     -- is_named, append_if
-    (λ c. search needs) (λ c. search needs) (λ c κs. search needs) (λ c. search needs) (λ c. search needs)
-    append-if-requires
+    (λ c. search needs) (λ c. search needs) (λ c κs. search needs) (λ c. search needs) (λ c. search needs) append-if-requires
     -- i, the loop measure
-    (λ c. search needs) (λ c. search needs)
-    loop-again
-    same-length
-    returns)
+    (λ c. search needs) (λ c. search needs) loop-again same-length returns)

@@ -7,9 +7,6 @@ use borrow.Author.Needs.{needs}
 use Rattle.dealing.proofs.append_if.Statement.{statement}
 use Rattle.dealing.proofs.append_if.Tie as tie
 
-slice-write-to : tie.Need-slice-write-to
-slice-write-to c = let e = pick-true {X = ℕ} 1 0 (c .if1 .taken) in omega (arith, e)
-
 returns : tie.Need-returns
 returns c = (ap (λ (n : ℕ). c .before .args .at + n) (sym (pick-true {X = ℕ} 1 0 (c .if1 .taken))), sym (pick-true _ _ (c .if1 .taken)))
 
@@ -18,11 +15,9 @@ returns-2 c = (let e = pick-false {X = ℕ} 1 0 (c .if1 .left) in omega (arith, 
 
 pub append-if-spec : {M : Type 1} → statement M
 append-if-spec =
-    tie.close (tie.spec
+    tie.close
+    (tie.spec
     -- to
-    (λ c. search needs)
-    slice-write-to
+    (λ c. search needs) (λ c. let e = pick-true {X = ℕ} 1 0 (c .if1 .taken) in omega (arith, e))
     -- result, lengths stay
-    (λ c. search needs) (λ c. search needs)
-    returns
-    returns-2)
+    (λ c. search needs) (λ c. search needs) returns returns-2)

@@ -49,11 +49,7 @@ pub assign-spec : {M : Type 1} → statement M
 assign-spec =
     tie.close
     (tie.spec
-    Inv-loop
-    μ-loop
-    loop-holds
+    Inv-loop μ-loop loop-holds
     -- card_of, cards, i, the loop measure
     (λ c. search needs) (λ c. search needs) (λ c κs. search needs) (λ c. search needs) (λ c. search needs) (λ c. search needs) (λ c. search needs)
-    loop-again
-    same-length
-    returns)
+    loop-again same-length returns)

@@ -11,12 +11,6 @@ use borrow.Author.Needs.{needs}
 use Rattle.dealing.proofs.card_of.Statement.{statement}
 use Rattle.dealing.proofs.card_of.Tie as tie
 
-slice-aggregate-nearest-leaders : tie.Need-slice-aggregate-nearest-leaders
-slice-aggregate-nearest-leaders c = sym (length-take-le _ _ (c .before .before .before .pre .2))
-
-slice-aggregate-nearest-leaders-2 : tie.Need-slice-aggregate-nearest-leaders-2
-slice-aggregate-nearest-leaders-2 c = sym (length-take-le _ _ (c .before .before .before .before .pre .2))
-
 nearest-leaders-requires : tie.Need-nearest-leaders-requires
 nearest-leaders-requires c κs =
     let s = c .before .before .before .before in
@@ -51,14 +45,8 @@ card-of-spec =
     tie.close
     (tie.spec
     -- array-borrow-prefix-keys
-    (λ c. search needs)
-    slice-aggregate-nearest-leaders
+    (λ c. search needs) (λ c. sym (length-take-le _ _ (c .before .before .before .pre .2)))
     -- array-borrow-prefix-found
-    (λ c. search needs)
-    slice-aggregate-nearest-leaders-2
-    nearest-leaders-requires
+    (λ c. search needs) (λ c. sym (length-take-le _ _ (c .before .before .before .before .pre .2))) nearest-leaders-requires
     -- result
-    (λ c. search needs) (λ c. search needs) (λ c. search needs) (λ c. search needs)
-    mul-result-2
-    add-result
-    returns)
+    (λ c. search needs) (λ c. search needs) (λ c. search needs) (λ c. search needs) mul-result-2 add-result returns)

@@ -31,9 +31,6 @@ fitting c =
 returns : tie.Need-returns
 returns c = record { dealt = λ f. absurd (omega (arith, f .deals, c .before .fan-of .ensures, c .if1 .taken)); kept = λ _. (refl, refl) }
 
-returns-2 : tie.Need-returns-2
-returns-2 c = record { dealt = λ f. absurd (omega (arith, f .two, c .if2 .taken)); kept = λ _. (refl, refl) }
-
 returns-3 : tie.Need-returns-3
 returns-3 c =
     let x = c .before .before .before .before .before .before .before .before .before .before .args in
@@ -59,17 +56,8 @@ returns-4 c =
       kept = λ _. (refl, refl);
     }
 
-returns-5 : tie.Need-returns-5
-returns-5 c = record { dealt = λ f. absurd (c .if5 .taken (f .marks-size)); kept = λ _. (refl, refl) }
-
-returns-6 : tie.Need-returns-6
-returns-6 c = record { dealt = λ f. absurd (omega (arith, f .few, c .if6 .taken)); kept = λ _. (refl, refl) }
-
 returns-7 : tie.Need-returns-7
 returns-7 c = record { dealt = λ f. absurd (omega (arith, f .room-size, c .if7 .taken)); kept = λ _. (refl, refl) }
-
-returns-8 : tie.Need-returns-8
-returns-8 c = record { dealt = λ f. absurd (c .if8 .taken (f .cards-size)); kept = λ _. (refl, refl) }
 
 deal-all-requires : tie.Need-deal-all-requires
 deal-all-requires c κs =
@@ -87,20 +75,9 @@ pub deal-spec : {M : Type 1} → statement M
 deal-spec =
     tie.close
     (tie.spec
-    (λ c κs. search needs)
-    (λ c. search needs)
-    returns
-    returns-2
-    returns-3
-    mul-if4
-    returns-4
-    returns-5
-    returns-6
-    returns-7
-    returns-8
-    deal-all-requires
-    (λ c. search needs)
-    (λ c. search needs)
-    (λ c. search needs)
-    (λ c. search needs)
-    returns-9)
+    (λ c κs. search needs) (λ c. search needs) returns
+    (λ c. record { dealt = λ f. absurd (omega (arith, f .two, c .if2 .taken)); kept = λ _. (refl, refl) }) returns-3 mul-if4 returns-4
+    (λ c. record { dealt = λ f. absurd (c .if5 .taken (f .marks-size)); kept = λ _. (refl, refl) })
+    (λ c. record { dealt = λ f. absurd (omega (arith, f .few, c .if6 .taken)); kept = λ _. (refl, refl) }) returns-7
+    (λ c. record { dealt = λ f. absurd (c .if8 .taken (f .cards-size)); kept = λ _. (refl, refl) }) deal-all-requires (λ c. search needs)
+    (λ c. search needs) (λ c. search needs) (λ c. search needs) returns-9)

@@ -90,15 +90,6 @@ module _ (c : tie.After-assign) where
 
 -- ---- the needs
 
-cast-leader-count : tie.Need-cast-leader-count
-cast-leader-count c = let f = few (c .before .before .before .before .before .before) in omega arith
-
-slice-relend-prefix-draw : tie.Need-slice-relend-prefix-draw
-slice-relend-prefix-draw c = within (c .before) .1
-
-slice-aggregate-draw : tie.Need-slice-aggregate-draw
-slice-aggregate-draw c = sym (length-take-le _ _ (within (c .before .before) .1))
-
 draw-requires : tie.Need-draw-requires
 draw-requires c κs =
     let f = few (c .before .before .before .before .before .before .before .before .before) in
@@ -154,19 +145,7 @@ pub deal-all-spec : {M : Type 1} → statement M
 deal-all-spec =
     tie.close
     (tie.spec
-    cast-leader-count
-    (λ c κs. search needs)
-    (λ c. search needs)
-    slice-relend-prefix-draw
-    slice-aggregate-draw
-    draw-requires
-    slice-reshare-prefix-assign
-    slice-aggregate-assign
-    assign-requires
-    (λ c. search needs)
-    gather-requires
-    (λ c. search needs)
-    (λ c. search needs)
-    same-length-3
-    (λ c. search needs)
+    (λ c. let f = few (c .before .before .before .before .before .before) in omega arith) (λ c κs. search needs) (λ c. search needs)
+    (λ c. within (c .before) .1) (λ c. sym (length-take-le _ _ (within (c .before .before) .1))) draw-requires slice-reshare-prefix-assign
+    slice-aggregate-assign assign-requires (λ c. search needs) gather-requires (λ c. search needs) (λ c. search needs) same-length-3 (λ c. search needs)
     returns)

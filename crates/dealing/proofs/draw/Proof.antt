@@ -23,5 +23,4 @@ draw-spec =
     tie.close
     (tie.spec
     -- n, draw_leaders, nodes_at, lengths stay
-    (λ c. search needs) (λ c κs. search needs) (λ c κs. search needs) (λ c. search needs) (λ c. search needs)
-    returns)
+    (λ c. search needs) (λ c κs. search needs) (λ c κs. search needs) (λ c. search needs) (λ c. search needs) returns)

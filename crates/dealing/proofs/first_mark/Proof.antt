@@ -6,11 +6,8 @@ use Rattle.basics.specs.Choice.{pick-true, pick-false}
 use Rattle.dealing.proofs.first_mark.Statement.{statement}
 use Rattle.dealing.proofs.first_mark.Tie as tie
 
-returns : tie.Need-returns
-returns c = sym (pick-true {X = ℕ} 1 0 (eq-eqb _ _ (c .if1 .taken)))
-
-returns-2 : tie.Need-returns-2
-returns-2 c = sym (pick-false {X = ℕ} 1 0 (ne-eqb _ _ (c .if1 .left)))
-
 pub first-mark-spec : {M : Type 1} → statement M
-first-mark-spec = tie.close (tie.spec returns returns-2)
+first-mark-spec =
+    tie.close
+    (tie.spec
+    (λ c. sym (pick-true {X = ℕ} 1 0 (eq-eqb _ _ (c .if1 .taken)))) (λ c. sym (pick-false {X = ℕ} 1 0 (ne-eqb _ _ (c .if1 .left)))))

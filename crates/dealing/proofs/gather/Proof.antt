@@ -28,12 +28,6 @@ all-held c =
 held-fits : (c : tie.After-gather-all) → c .gather-all .result .held ≤ length (small c)
 held-fits c = omega (arith, all-held c, start c .pre .1, c .gather-all .kept .1 .1 .1 .1 .0)
 
-slice-reshare-prefix-finish : tie.Need-slice-reshare-prefix-finish
-slice-reshare-prefix-finish c = held-fits (c .before .before .before .before .before .before)
-
-slice-aggregate-finish : tie.Need-slice-aggregate-finish
-slice-aggregate-finish c = sym (length-take-le _ _ (held-fits (c .before .before .before .before .before .before .before)))
-
 finish-requires : tie.Need-finish-requires
 finish-requires c κs =
     let all = c .before .before .before .before .before .before .before .before .before in
@@ -55,10 +49,7 @@ gather-spec =
     tie.close
     (tie.spec
     -- gather_all
-    (λ c κs. search needs)
-    slice-reshare-prefix-finish
-    slice-aggregate-finish
-    finish-requires
+    (λ c κs. search needs) (λ c. held-fits (c .before .before .before .before .before .before))
+    (λ c. sym (length-take-le _ _ (held-fits (c .before .before .before .before .before .before .before)))) finish-requires
     -- lengths stay
-    (λ c. search needs) (λ c. search needs) (λ c. search needs)
-    returns)
+    (λ c. search needs) (λ c. search needs) (λ c. search needs) returns)

@@ -67,14 +67,6 @@ pub gather-all-spec : {M : Type 1} → statement M
 gather-all-spec =
     tie.close
     (tie.spec
-    Inv-loop
-    μ-loop
-    loop-holds
-    gather-one-requires
+    Inv-loop μ-loop loop-holds gather-one-requires
     -- l, the loop measure
-    (λ c. search needs) (λ c. search needs)
-    loop-again
-    same-length
-    same-length-2
-    same-length-3
-    returns)
+    (λ c. search needs) (λ c. search needs) loop-again same-length same-length-2 same-length-3 returns)

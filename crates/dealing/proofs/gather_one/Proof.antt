@@ -56,15 +56,10 @@ gather-one-spec =
     (tie.spec
     -- append_bucket, if1, place, part-place-start, part-place-end, lengths stay
     (λ c κs. search needs) (λ c. search needs) (λ c. search needs) (λ c. search needs) (λ c. search needs) (λ c. search needs) (λ c κs. search needs)
-    (λ c. search needs) (λ c. search needs) (λ c. search needs) (λ c. search needs) (λ c. search needs)
-    returns
+    (λ c. search needs) (λ c. search needs) (λ c. search needs) (λ c. search needs) (λ c. search needs) returns
     -- slice-reshare-prefix-place
-    (λ c. search needs)
-    slice-aggregate-place
-    place-requires-2
+    (λ c. search needs) slice-aggregate-place place-requires-2
     -- lengths stay
-    (λ c. search needs) (λ c. search needs) (λ c. search needs) (λ c. search needs)
-    returns-2
+    (λ c. search needs) (λ c. search needs) (λ c. search needs) (λ c. search needs) returns-2
     -- lengths stay
-    (λ c. search needs)
-    returns-3)
+    (λ c. search needs) returns-3)

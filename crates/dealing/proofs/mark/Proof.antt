@@ -26,8 +26,6 @@ mark-spec =
     tie.close
     (tie.spec
     -- clear_words, marks, lengths stay
-    (λ c κs. search needs) (λ c. search needs) (λ c. search needs)
-    returns
+    (λ c κs. search needs) (λ c. search needs) (λ c. search needs) returns
     -- lengths stay
-    (λ c. search needs)
-    returns-2)
+    (λ c. search needs) returns-2)

@@ -44,12 +44,7 @@ pub nearest-leaders-spec : {M : Type 1} → statement M
 nearest-leaders-spec =
     tie.close
     (tie.spec
-    Inv-loop
-    μ-loop
-    loop-holds
+    Inv-loop μ-loop loop-holds
     -- rank_of, keep_first, l, the loop measure
     (λ c. search needs) (λ c. search needs) (λ c κs. search needs) (λ c. search needs) (λ c κs. search needs) (λ c. search needs) (λ c. search needs)
-    loop-again
-    same-length
-    same-length-2
-    returns)
+    loop-again same-length same-length-2 returns)

@@ -64,19 +64,8 @@ pub nodes-at-spec : {M : Type 1} → statement M
 nodes-at-spec =
     tie.close
     (tie.spec
-    Inv-loop
-    μ-loop
-    loop-holds
-    mul-word-at
-    slice-read-word-at
-    cast-word-at
+    Inv-loop μ-loop loop-holds mul-word-at slice-read-word-at cast-word-at
     -- word_at
-    (λ c κs. search needs)
-    mul-positions
+    (λ c κs. search needs) mul-positions
     -- positions
-    (λ c. search needs)
-    add-i
-    loop-less
-    loop-again
-    same-length
-    returns)
+    (λ c. search needs) add-i loop-less loop-again same-length returns)

@@ -30,5 +30,4 @@ place-spec =
     (λ c. search needs) (λ c. search needs) (λ c. search needs) (λ c. search needs) (λ c. search needs) (λ c κs. search needs) (λ c. search needs)
     (λ c. search needs) (λ c. search needs)
     -- part-mark-end, mark, lengths stay
-    (λ c. search needs) (λ c κs. search needs) (λ c. search needs) (λ c. search needs)
-    returns)
+    (λ c. search needs) (λ c κs. search needs) (λ c. search needs) (λ c. search needs) returns)

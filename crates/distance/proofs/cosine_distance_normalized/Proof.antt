@@ -8,9 +8,6 @@ use Rattle.distance.proofs.Laws.{one-minus-dot, unlike-lengths}
 use Rattle.distance.proofs.cosine_distance_normalized.Statement.{statement}
 use Rattle.distance.proofs.cosine_distance_normalized.Tie as tie
 
-dot-requires : tie.Need-dot-requires
-dot-requires c κs = search needs
-
 returns : tie.Need-returns
 unfolding ofBits
 returns c = ap (sub binary32 +one) (c .dot .ensures) ∙ one-minus-dot binary32 _ _ (eq-eqb _ _ (c .before .if1 .taken))
@@ -24,4 +21,4 @@ unfolding ofBits
 returns-2 c = unlike-lengths binary32 _ _ (ne-eqb _ _ (c .if1 .left))
 
 pub cosine-distance-normalized-spec : {M : Type 1} → statement M
-cosine-distance-normalized-spec = tie.close (tie.spec dot-requires returns float-from-bits-result returns-2)
+cosine-distance-normalized-spec = tie.close (tie.spec (λ c κs. search needs) returns float-from-bits-result returns-2)

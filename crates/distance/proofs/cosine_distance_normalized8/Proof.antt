@@ -46,9 +46,7 @@ cosine-distance-normalized8-spec =
     tie.close
     (tie.spec
     -- dot8
-    (λ c κs. search needs)
-    returns
+    (λ c κs. search needs) returns
     -- cosine_distance_normalized
     (λ c κs. search needs) (λ c κs. search needs) (λ c κs. search needs) (λ c κs. search needs) (λ c κs. search needs) (λ c κs. search needs)
-    (λ c κs. search needs) (λ c κs. search needs)
-    returns-2)
+    (λ c κs. search needs) (λ c κs. search needs) returns-2)

@@ -22,9 +22,6 @@ as-long q block j e = eq-eqb _ _ (e ∙ sym (length-lane block j (length block /
 not-as-long : (q block : List Float) (j : ℕ) → (length q ≡ length block / 8 → ⊥) → eqb (length q) (length (rowIn block j)) ≡ false
 not-as-long q block j n = ne-eqb _ _ (λ e. n (e ∙ length-lane block j (length block / 8)))
 
-dot-block-requires : tie.Need-dot-block-requires
-dot-block-requires c κs = search needs
-
 returns : tie.Need-returns
 unfolding ofBits
 returns c =
@@ -68,5 +65,4 @@ returns-2 c =
     }
 
 pub cosine-distance-normalized-block-spec : {M : Type 1} → statement M
-cosine-distance-normalized-block-spec =
-    tie.close (tie.spec dot-block-requires returns float-from-bits-far returns-2)
+cosine-distance-normalized-block-spec = tie.close (tie.spec (λ c κs. search needs) returns float-from-bits-far returns-2)

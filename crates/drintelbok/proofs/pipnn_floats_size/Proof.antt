@@ -27,6 +27,4 @@ pipnn-floats-size-spec =
     tie.close
     (tie.spec
     -- capacity_within, dimension_within, floats_size
-    (λ c κs. search needs) (λ c κs. search needs) (λ c κs. search needs)
-    returns
-    returns-2)
+    (λ c κs. search needs) (λ c κs. search needs) (λ c κs. search needs) returns returns-2)

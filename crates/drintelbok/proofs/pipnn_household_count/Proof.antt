@@ -19,6 +19,4 @@ pipnn-household-count-spec =
     tie.close
     (tie.spec
     -- household_count, counted
-    (λ c κs. search needs) (λ c. search needs) (λ c. search needs)
-    returns
-    returns-2)
+    (λ c κs. search needs) (λ c. search needs) (λ c. search needs) returns returns-2)

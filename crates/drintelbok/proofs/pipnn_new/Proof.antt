@@ -36,8 +36,6 @@ pipnn-new-spec =
     tie.close
     (tie.spec
     -- dimension_within
-    (λ c κs. search needs)
-    returns
+    (λ c κs. search needs) returns
     -- new, lengths stay
-    (λ c κs. search needs) (λ c. search needs) (λ c. search needs)
-    returns-2)
+    (λ c κs. search needs) (λ c. search needs) (λ c. search needs) returns-2)

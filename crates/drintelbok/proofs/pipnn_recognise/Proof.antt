@@ -23,11 +23,8 @@ pipnn-recognise-spec =
     tie.close
     (tie.spec
     -- recognise, answer, lengths stay
-    (λ c κs. search needs) (λ c. search needs) (λ c. search needs) (λ c. search needs) (λ c. search needs) (λ c. search needs)
-    returns
+    (λ c κs. search needs) (λ c. search needs) (λ c. search needs) (λ c. search needs) (λ c. search needs) (λ c. search needs) returns
     -- lengths stay
-    (λ c. search needs) (λ c. search needs)
-    returns-2
+    (λ c. search needs) (λ c. search needs) returns-2
     -- lengths stay
-    (λ c. search needs) (λ c. search needs)
-    returns-3)
+    (λ c. search needs) (λ c. search needs) returns-3)

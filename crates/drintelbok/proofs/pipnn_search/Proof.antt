@@ -11,5 +11,4 @@ pipnn-search-spec =
     tie.close
     (tie.spec
     -- search, lengths stay
-    (λ c κs. search needs) (λ c. search needs) (λ c. search needs) (λ c. search needs) (λ c. search needs)
-    returns)
+    (λ c κs. search needs) (λ c. search needs) (λ c. search needs) (λ c. search needs) (λ c. search needs) returns)

@@ -11,5 +11,4 @@ pipnn-search-with-ef-spec =
     tie.close
     (tie.spec
     -- search_with_ef, lengths stay
-    (λ c κs. search needs) (λ c. search needs) (λ c. search needs) (λ c. search needs) (λ c. search needs)
-    returns)
+    (λ c κs. search needs) (λ c. search needs) (λ c. search needs) (λ c. search needs) (λ c. search needs) returns)

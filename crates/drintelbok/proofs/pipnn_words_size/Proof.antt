@@ -37,9 +37,6 @@ pipnn-words-size-spec =
     tie.close
     (tie.spec
     -- capacity_within
-    (λ c κs. search needs)
-    cast-words-size
+    (λ c κs. search needs) cast-words-size
     -- words_size
-    (λ c κs. search needs)
-    returns
-    returns-2)
+    (λ c κs. search needs) returns returns-2)

@@ -6,22 +6,14 @@ use borrow.Author.Needs.{needs}
 use Rattle.graph_histories.proofs.build_with_scratch.Statement.{statement}
 use Rattle.graph_histories.proofs.build_with_scratch.Tie as tie
 
-slice-aggregate-build : tie.Need-slice-aggregate-build
-slice-aggregate-build c = sym (length-take-le _ _ (omega arith))
-
-slice-aggregate-build-2 : tie.Need-slice-aggregate-build-2
-slice-aggregate-build-2 c = sym (length-take-le _ _ (omega arith))
-
 pub build-with-scratch-spec : {M : Type 1} → statement M
 build-with-scratch-spec =
     tie.close
     (tie.spec
     -- size, lesser, scratch_words, scratch_floats, array-borrow-prefix-sw
     (λ c κs. search needs) (λ c κs. search needs) (λ c κs. search needs) (λ c κs. search needs) (λ c κs. search needs) (λ c κs. search needs)
-    (λ c. search needs)
-    slice-aggregate-build
+    (λ c. search needs) (λ c. sym (length-take-le _ _ (omega arith)))
     -- array-borrow-prefix-sf
-    (λ c. search needs)
-    slice-aggregate-build-2
+    (λ c. search needs) (λ c. sym (length-take-le _ _ (omega arith)))
     -- build, the return, lengths stay
     (λ c κs. search needs) (λ c. search needs) (λ c. search needs))

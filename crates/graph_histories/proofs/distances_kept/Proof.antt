@@ -17,8 +17,7 @@ pub distances-kept-spec : {M : Type 1} → statement M
 distances-kept-spec =
     tie.close
     (tie.spec
-    Inv-loop
-    μ-loop
+    Inv-loop μ-loop
     -- the loop begins, old, bits_of, wrapping_add_u64, i, the loop measure, the loop goes on
     (λ c. search needs) (λ c. search needs) (λ c. search needs) (λ c. search needs) (λ c κs. search needs) (λ c κs. search needs) (λ c. search needs)
     (λ c. search needs) (λ c. search needs)

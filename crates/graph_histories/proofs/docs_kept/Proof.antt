@@ -17,8 +17,7 @@ pub docs-kept-spec : {M : Type 1} → statement M
 docs-kept-spec =
     tie.close
     (tie.spec
-    Inv-loop
-    μ-loop
+    Inv-loop μ-loop
     -- the loop begins, same, wrapping_add_u64, i, the loop measure, the loop goes on, the return
     (λ c. search needs) (λ c. search needs) (λ c. search needs) (λ c. search needs) (λ c κs. search needs) (λ c. search needs) (λ c. search needs)
     (λ c. search needs) (λ c. search needs))

@@ -6,22 +6,14 @@ use borrow.Author.Needs.{needs}
 use Rattle.graph_histories.proofs.find_with_scratch.Statement.{statement}
 use Rattle.graph_histories.proofs.find_with_scratch.Tie as tie
 
-slice-aggregate-search-with-ef : tie.Need-slice-aggregate-search-with-ef
-slice-aggregate-search-with-ef c = sym (length-take-le _ _ (omega arith))
-
-slice-aggregate-search-with-ef-2 : tie.Need-slice-aggregate-search-with-ef-2
-slice-aggregate-search-with-ef-2 c = sym (length-take-le _ _ (omega arith))
-
 pub find-with-scratch-spec : {M : Type 1} → statement M
 find-with-scratch-spec =
     tie.close
     (tie.spec
     -- size, lesser, word, scratch_words, scratch_floats, array-borrow-prefix-sw
     (λ c κs. search needs) (λ c κs. search needs) (λ c κs. search needs) (λ c κs. search needs) (λ c κs. search needs) (λ c κs. search needs)
-    (λ c κs. search needs) (λ c κs. search needs) (λ c. search needs)
-    slice-aggregate-search-with-ef
+    (λ c κs. search needs) (λ c κs. search needs) (λ c. search needs) (λ c. sym (length-take-le _ _ (omega arith)))
     -- array-borrow-prefix-sf
-    (λ c. search needs)
-    slice-aggregate-search-with-ef-2
+    (λ c. search needs) (λ c. sym (length-take-le _ _ (omega arith)))
     -- search_with_ef, the return, lengths stay
     (λ c κs. search needs) (λ c. search needs) (λ c. search needs) (λ c. search needs))

@@ -54,8 +54,6 @@ ensure-connectivity-spec =
     tie.close
     (tie.spec
     -- n
-    (λ c. search needs) (λ c. search needs)
-    returns
+    (λ c. search needs) (λ c. search needs) returns
     -- repair, lengths stay
-    (λ c. search needs) (λ c. search needs) (λ c κs. search needs) (λ c. search needs) (λ c. search needs)
-    returns-2)
+    (λ c. search needs) (λ c. search needs) (λ c κs. search needs) (λ c. search needs) (λ c. search needs) returns-2)

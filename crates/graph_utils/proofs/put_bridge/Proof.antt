@@ -14,7 +14,7 @@ returns c =
 
 pub put-bridge-spec : {M : Type 1} → statement M
 put-bridge-spec =
-    tie.close (tie.spec
+    tie.close
+    (tie.spec
     -- put_word, lengths stay
-    (λ c. search needs) (λ c κs. search needs) (λ c. search needs) (λ c. search needs) (λ c κs. search needs) (λ c. search needs)
-    returns)
+    (λ c. search needs) (λ c κs. search needs) (λ c. search needs) (λ c. search needs) (λ c κs. search needs) (λ c. search needs) returns)

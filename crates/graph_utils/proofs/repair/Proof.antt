@@ -61,15 +61,8 @@ pub repair-spec : {M : Type 1} → statement M
 repair-spec =
     tie.close
     (tie.spec
-    Inv-loop
-    μ-loop
+    Inv-loop μ-loop
     -- clear_links, mark_reachable
-    (λ c κs. search needs) (λ c κs. search needs)
-    loop-holds
+    (λ c κs. search needs) (λ c κs. search needs) loop-holds
     -- turn, i, the loop measure
-    (λ c κs. search needs) (λ c. search needs) (λ c. search needs)
-    loop-again
-    same-length
-    same-length-2
-    same-length-3
-    returns)
+    (λ c κs. search needs) (λ c. search needs) (λ c. search needs) loop-again same-length same-length-2 same-length-3 returns)

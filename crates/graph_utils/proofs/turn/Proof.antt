@@ -31,9 +31,7 @@ turn-spec =
     tie.close
     (tie.spec
     -- word_at, lengths stay
-    (λ c κs. search needs) (λ c. search needs)
-    returns
+    (λ c κs. search needs) (λ c. search needs) returns
     -- bridge_start, put_bridge, chain_bridge, mark_reachable, result, lengths stay
     (λ c κs. search needs) (λ c κs. search needs) (λ c κs. search needs) (λ c κs. search needs) (λ c. search needs) (λ c. search needs)
-    (λ c. search needs) (λ c. search needs)
-    returns-2)
+    (λ c. search needs) (λ c. search needs) returns-2)

@@ -43,15 +43,9 @@ pub dedup-spec : {M : Type 1} → statement M
 dedup-spec =
     tie.close
     (tie.spec
-    Inv-loop
-    μ-loop
-    loop-holds
+    Inv-loop μ-loop loop-holds
     -- i, id, stands_at, from, ids, the loop measure
     (λ c. search needs) (λ c. search needs) (λ c. search needs) (λ c κs. search needs) (λ c. search needs) (λ c. search needs) (λ c. search needs)
-    (λ c. search needs)
-    loop-again
+    (λ c. search needs) loop-again
     -- the loop measure
-    (λ c. search needs)
-    loop-again-2
-    same-length
-    returns)
+    (λ c. search needs) loop-again-2 same-length returns)

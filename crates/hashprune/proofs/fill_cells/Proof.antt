@@ -72,17 +72,10 @@ pub fill-cells-spec : {M : Type 1} → statement M
 fill-cells-spec =
     tie.close
     (tie.spec
-    Inv-loop
-    μ-loop
+    Inv-loop μ-loop
     -- get_vector
-    (λ c κs. search needs)
-    loop-holds
+    (λ c κs. search needs) loop-holds
     -- hash_of_node, put_cell
-    (λ c. search needs) (λ c. search needs) (λ c κs. search needs) (λ c. search needs)
-    put-cell-requires
+    (λ c. search needs) (λ c. search needs) (λ c κs. search needs) (λ c. search needs) put-cell-requires
     -- i, the loop measure
-    (λ c. search needs) (λ c. search needs)
-    loop-again
-    same-length
-    same-length-2
-    returns)
+    (λ c. search needs) (λ c. search needs) loop-again same-length same-length-2 returns)

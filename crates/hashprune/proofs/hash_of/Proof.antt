@@ -13,9 +13,6 @@ use borrow.Author.Needs.{needs}
 use Rattle.hashprune.proofs.hash_of.Statement.{statement}
 use Rattle.hashprune.proofs.hash_of.Tie as tie
 
-slice-aggregate-residual-into : tie.Need-slice-aggregate-residual-into
-slice-aggregate-residual-into c = simp length-take (omega arith)
-
 array-share-prefix-room : tie.Need-array-share-prefix-room
 array-share-prefix-room c =
     let k = simp length-take at (c .before .residual-into .kept .1 .1 .0) in
@@ -41,12 +38,8 @@ hash-of-spec =
     tie.close
     (tie.spec
     -- lesser, array-borrow-prefix-room
-    (λ c κs. search needs) (λ c κs. search needs) (λ c. search needs)
-    slice-aggregate-residual-into
+    (λ c κs. search needs) (λ c κs. search needs) (λ c. search needs) (λ c. simp length-take (omega arith))
     -- residual_into
-    (λ c κs. search needs)
-    array-share-prefix-room
-    slice-aggregate-simhash-residual
+    (λ c κs. search needs) array-share-prefix-room slice-aggregate-simhash-residual
     -- simhash_residual
-    (λ c κs. search needs)
-    returns)
+    (λ c κs. search needs) returns)

@@ -11,7 +11,8 @@ returns c =
     c .hash-of .ensures ∙ ap (hashBy (a .planes .now) (a .bits) (a .p .now)) (c .before .get-vector .ensures)
 
 pub hash-of-node-spec : {M : Type 1} → statement M
-hash-of-node-spec = tie.close (tie.spec
+hash-of-node-spec =
+    tie.close
+    (tie.spec
     -- get_vector, hash_of
-    (λ c κs. search needs) (λ c κs. search needs)
-    returns)
+    (λ c κs. search needs) (λ c κs. search needs) returns)

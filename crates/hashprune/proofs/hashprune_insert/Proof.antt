@@ -8,17 +8,8 @@ use borrow.Author.Needs.{needs}
 use Rattle.hashprune.proofs.hashprune_insert.Statement.{statement}
 use Rattle.hashprune.proofs.hashprune_insert.Tie as tie
 
-returns : tie.Need-returns
-returns c = λ old t. absurd (omega (arith, c .if1 .taken, t .candidates-most))
-
 returns-2 : tie.Need-returns-2
 returns-2 c = λ old t. let a = c .before .before .before .before .before .before .before .args in absurd (omega (arith, c .if2 .taken, ap length (t .far-is) ∙ length-map (a .candidates .now) (between (vectorsIn (a .point .dimension) (a .vectors .now)) (a .point .node .0))))
-
-returns-3 : tie.Need-returns-3
-returns-3 c = λ old t. absurd (omega (arith, c .if3 .taken, t .row-some))
-
-returns-4 : tie.Need-returns-4
-returns-4 c = λ old t. absurd (omega (arith, c .if4 .taken, t .row-most))
 
 returns-5 : tie.Need-returns-5
 returns-5 c =
@@ -33,10 +24,7 @@ pub hashprune-insert-spec : {M : Type 1} → statement M
 hashprune-insert-spec =
     tie.close
     (tie.spec
-    returns
-    returns-2
-    returns-3
-    returns-4
+    (λ c. λ old t. absurd (omega (arith, c .if1 .taken, t .candidates-most))) returns-2 (λ c. λ old t. absurd (omega (arith, c .if3 .taken, t .row-some)))
+    (λ c. λ old t. absurd (omega (arith, c .if4 .taken, t .row-most)))
     -- insert_fitting, lengths stay
-    (λ c κs. search needs) (λ c. search needs)
-    returns-5)
+    (λ c κs. search needs) (λ c. search needs) returns-5)

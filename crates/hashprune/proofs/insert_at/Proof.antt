@@ -33,12 +33,8 @@ pub insert-at-spec : {M : Type 1} → statement M
 insert-at-spec =
     tie.close
     (tie.spec
-    Inv-loop
-    μ-loop
-    loop-holds
+    Inv-loop μ-loop loop-holds
     -- next, s, j, the loop measure
-    (λ c. search needs) (λ c. search needs) (λ c. search needs) (λ c. search needs) (λ c. search needs) (λ c. search needs)
-    loop-again
+    (λ c. search needs) (λ c. search needs) (λ c. search needs) (λ c. search needs) (λ c. search needs) (λ c. search needs) loop-again
     -- lengths stay
-    (λ c. search needs)
-    returns)
+    (λ c. search needs) returns)

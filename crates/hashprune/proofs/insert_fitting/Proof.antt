@@ -8,16 +8,11 @@ insert-with-requires : tie.Need-insert-with-requires
 insert-with-requires c κs =
     (c .before .before .before .before .before .before .before .before .before .before .pre, record { keys-room = omega arith; ids-room = omega arith; hashes-room = omega arith; places-room = omega arith })
 
-returns : tie.Need-returns
-returns c = c .before .before .before .before .before .before .insert-with .ensures
-
 pub insert-fitting-spec : {M : Type 1} → statement M
 insert-fitting-spec =
     tie.close
     (tie.spec
     -- insert_with
-    (λ c. search needs) (λ c. search needs) (λ c. search needs) (λ c. search needs)
-    insert-with-requires
+    (λ c. search needs) (λ c. search needs) (λ c. search needs) (λ c. search needs) insert-with-requires
     -- lengths stay
-    (λ c. search needs)
-    returns)
+    (λ c. search needs) (λ c. c .before .before .before .before .before .before .insert-with .ensures))

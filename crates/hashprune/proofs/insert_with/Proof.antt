@@ -39,29 +39,8 @@ rank-row-requires c κs =
       ids-room = omega (arith, s .pre .0 .short, s .pre .1 .ids-room);
     }
 
-mul-select : tie.Need-mul-select
-mul-select c = omega (arith, key-room (c .before .before .before .before .before .before))
-
-sub-select : tie.Need-sub-select
-sub-select c = omega (arith, key-room (c .before .before .before .before .before .before))
-
-part-select-start : tie.Need-part-select-start
-part-select-start c = omega (arith, key-room (c .before .before .before .before .before .before))
-
-part-select-end : tie.Need-part-select-end
-part-select-end c = omega arith
-
 mul-select-2 : tie.Need-mul-select-2
 mul-select-2 c = let r = c .before .before .before .before .before .before .before in omega (arith, few r, id-room r)
-
-sub-select-2 : tie.Need-sub-select-2
-sub-select-2 c = omega (arith, id-room (c .before .before .before .before .before .before .before))
-
-part-select-start-2 : tie.Need-part-select-start-2
-part-select-start-2 c = omega (arith, id-room (c .before .before .before .before .before .before .before))
-
-part-select-end-2 : tie.Need-part-select-end-2
-part-select-end-2 c = omega arith
 
 select-requires : tie.Need-select-requires
 select-requires c κs =
@@ -82,9 +61,6 @@ select-requires c κs =
 
 sub-lesser : tie.Need-sub-lesser
 sub-lesser c = omega (arith, c .before .before .before .before .before .before .before .before .before .before .before .before .before .before .before .before .before .before .before .before .before .before .before .before .before .before .before .before .before .before .before .pre .0 .counted)
-
-add-all : tie.Need-add-all
-add-all c = omega (arith, all-few c)
 
 slice-relend-prefix-merge-row : tie.Need-slice-relend-prefix-merge-row
 slice-relend-prefix-merge-row c = omega (arith, all-few c, c .before .before .before .before .keys2 .given, key-room (c .before .before .before .before .before .before .before .before .before .before .before .before .before .before .before .before .before .before))
@@ -162,30 +138,13 @@ insert-with-spec =
     tie.close
     (tie.spec
     -- get_vector
-    (λ c κs. search needs)
-    rank-row-requires
-    mul-select
-    sub-select
-    part-select-start
-    part-select-end
-    mul-select-2
-    sub-select-2
-    part-select-start-2
-    part-select-end-2
-    select-requires
-    sub-lesser
+    (λ c κs. search needs) rank-row-requires (λ c. omega (arith, key-room (c .before .before .before .before .before .before)))
+    (λ c. omega (arith, key-room (c .before .before .before .before .before .before)))
+    (λ c. omega (arith, key-room (c .before .before .before .before .before .before))) (λ c. omega arith) mul-select-2
+    (λ c. omega (arith, id-room (c .before .before .before .before .before .before .before)))
+    (λ c. omega (arith, id-room (c .before .before .before .before .before .before .before))) (λ c. omega arith) select-requires sub-lesser
     -- lesser
-    (λ c κs. search needs)
-    add-all
-    slice-relend-prefix-merge-row
-    slice-aggregate-merge-row
-    slice-relend-prefix-merge-row-2
-    slice-aggregate-merge-row-2
-    merge-row-requires
+    (λ c κs. search needs) (λ c. omega (arith, all-few c)) slice-relend-prefix-merge-row slice-aggregate-merge-row slice-relend-prefix-merge-row-2
+    slice-aggregate-merge-row-2 merge-row-requires
     -- lengths stay
-    (λ c. search needs)
-    same-length-2
-    same-length-3
-    same-length-4
-    same-length-5
-    returns)
+    (λ c. search needs) same-length-2 same-length-3 same-length-4 same-length-5 returns)

@@ -37,13 +37,8 @@ pub place-of-spec : {M : Type 1} → statement M
 place-of-spec =
     tie.close
     (tie.spec
-    Inv-loop
-    μ-loop
-    loop-holds
+    Inv-loop μ-loop loop-holds
     -- if1
-    (λ c. search needs) (λ c. search needs)
-    returns
+    (λ c. search needs) (λ c. search needs) returns
     -- j, the loop measure
-    (λ c. search needs) (λ c. search needs)
-    loop-again
-    returns-2)
+    (λ c. search needs) (λ c. search needs) loop-again returns-2)

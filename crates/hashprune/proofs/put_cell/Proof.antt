@@ -12,12 +12,6 @@ use Rattle.hashprune.proofs.Cells.{at-within, at-inside, taken-cells, n
 use Rattle.hashprune.proofs.put_cell.Statement.{statement}
 use Rattle.hashprune.proofs.put_cell.Tie as tie
 
-slice-aggregate-place-of : tie.Need-slice-aggregate-place-of
-slice-aggregate-place-of c = simp length-take (omega arith)
-
-slice-aggregate-stands-at : tie.Need-slice-aggregate-stands-at
-slice-aggregate-stands-at c = simp length-take (omega arith)
-
 contest-requires : tie.Need-contest-requires
 contest-requires c κs =
     let s = c .before .before .before .before .before .before .before .before .before in
@@ -37,9 +31,6 @@ returns c =
     let test = sym (t .ensures) ∙ c .before .before .before .before .if1 .taken in
     (omega arith, taken-cells (farAt (a .far .now)) (a .held) (a .hash) (a .place) (at .result) (a .hashes .now) (a .places .now) (le-of-lt (s .pre .hashes-room)) (le-of-lt (s .pre .places-room)) (at .ensures) _ test (c .before .before .contest .ensures))
 
-slice-aggregate-insert-at : tie.Need-slice-aggregate-insert-at
-slice-aggregate-insert-at c = simp length-take (omega arith)
-
 insert-at-requires : tie.Need-insert-at-requires
 insert-at-requires c κs =
     let s = c .before .before .before .before .before .before .before .before .before in
@@ -48,9 +39,6 @@ insert-at-requires c κs =
     let t = c .before .before .stands-at in
     let within = at-within (farAt (a .far .now)) (a .held) (a .hash) (a .place) (at .result) (a .hashes .now) (a .places .now) (le-of-lt (s .pre .hashes-room)) (le-of-lt (s .pre .places-room)) (at .ensures) in
     simp length-take (omega (arith, s .pre .hashes-room))
-
-slice-aggregate-insert-at-2 : tie.Need-slice-aggregate-insert-at-2
-slice-aggregate-insert-at-2 c = simp length-take (omega arith)
 
 insert-at-requires-2 : tie.Need-insert-at-requires-2
 insert-at-requires-2 c κs =
@@ -77,25 +65,16 @@ put-cell-spec =
     tie.close
     (tie.spec
     -- slice-reshare-prefix-place-of
-    (λ c. search needs)
-    slice-aggregate-place-of
+    (λ c. search needs) (λ c. simp length-take (omega arith))
     -- place_of, slice-reshare-prefix-stands-at
-    (λ c κs. search needs) (λ c. search needs)
-    slice-aggregate-stands-at
+    (λ c κs. search needs) (λ c. search needs) (λ c. simp length-take (omega arith))
     -- stands_at
-    (λ c κs. search needs)
-    contest-requires
+    (λ c κs. search needs) contest-requires
     -- lengths stay
-    (λ c. search needs) (λ c. search needs)
-    returns
+    (λ c. search needs) (λ c. search needs) returns
     -- end, slice-relend-prefix-insert-at
-    (λ c. search needs) (λ c. search needs)
-    slice-aggregate-insert-at
-    insert-at-requires
+    (λ c. search needs) (λ c. search needs) (λ c. simp length-take (omega arith)) insert-at-requires
     -- slice-relend-prefix-insert-at
-    (λ c. search needs)
-    slice-aggregate-insert-at-2
-    insert-at-requires-2
+    (λ c. search needs) (λ c. simp length-take (omega arith)) insert-at-requires-2
     -- lengths stay
-    (λ c. search needs) (λ c. search needs)
-    returns-2)
+    (λ c. search needs) (λ c. search needs) returns-2)

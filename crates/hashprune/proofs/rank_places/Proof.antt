@@ -81,21 +81,10 @@ pub rank-places-spec : {M : Type 1} → statement M
 rank-places-spec =
     tie.close
     (tie.spec
-    Inv-loop
-    μ-loop
-    loop-holds
+    Inv-loop μ-loop loop-holds
     -- place
-    (λ c. search needs) (λ c. search needs)
-    cast-place
-    mul-key
-    shared-slice-read-key
+    (λ c. search needs) (λ c. search needs) cast-place mul-key shared-slice-read-key
     -- key, keys
-    (λ c κs. search needs) (λ c. search needs) (λ c. search needs)
-    mul-ids
-    shared-slice-read-ids
+    (λ c κs. search needs) (λ c. search needs) (λ c. search needs) mul-ids shared-slice-read-ids
     -- ids, i, the loop measure
-    (λ c. search needs) (λ c. search needs) (λ c. search needs) (λ c. search needs)
-    loop-again
-    same-length
-    same-length-2
-    returns)
+    (λ c. search needs) (λ c. search needs) (λ c. search needs) (λ c. search needs) loop-again same-length same-length-2 returns)

@@ -65,15 +65,9 @@ pub rank-row-spec : {M : Type 1} → statement M
 rank-row-spec =
     tie.close
     (tie.spec
-    Inv-loop
-    μ-loop
+    Inv-loop μ-loop
     -- degree, row_of
-    (λ c. search needs) (λ c. search needs) (λ c κs. search needs)
-    loop-holds
+    (λ c. search needs) (λ c. search needs) (λ c κs. search needs) loop-holds
     -- node, node_key, keys, ids, i, the loop measure
     (λ c. search needs) (λ c. search needs) (λ c κs. search needs) (λ c. search needs) (λ c. search needs) (λ c. search needs) (λ c. search needs)
-    (λ c. search needs) (λ c. search needs)
-    loop-again
-    same-length
-    same-length-2
-    returns)
+    (λ c. search needs) (λ c. search needs) loop-again same-length same-length-2 returns)

@@ -58,9 +58,6 @@ select-spec =
     tie.close
     (tie.spec
     -- fill_cells, slice-reshare-prefix-rank-places
-    (λ c κs. search needs) (λ c. search needs)
-    slice-aggregate-rank-places
-    rank-places-requires
+    (λ c κs. search needs) (λ c. search needs) slice-aggregate-rank-places rank-places-requires
     -- sort_first, lengths stay
-    (λ c κs. search needs) (λ c. search needs) (λ c. search needs) (λ c. search needs) (λ c. search needs)
-    returns)
+    (λ c κs. search needs) (λ c. search needs) (λ c. search needs) (λ c. search needs) (λ c. search needs) returns)

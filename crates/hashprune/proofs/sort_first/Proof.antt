@@ -8,12 +8,6 @@ use borrow.Author.Needs.{needs}
 use Rattle.hashprune.proofs.sort_first.Statement.{statement}
 use Rattle.hashprune.proofs.sort_first.Tie as tie
 
-slice-aggregate-sort-pairs : tie.Need-slice-aggregate-sort-pairs
-slice-aggregate-sort-pairs c = simp length-take (omega arith)
-
-slice-aggregate-sort-pairs-2 : tie.Need-slice-aggregate-sort-pairs-2
-slice-aggregate-sort-pairs-2 c = simp length-take (omega arith)
-
 returns : tie.Need-returns
 returns c =
     let s = c .before .before .before .before .before .before .before .before .before .before .before .before .before .before .before .before .before in
@@ -28,11 +22,8 @@ sort-first-spec =
     tie.close
     (tie.spec
     -- slice-relend-prefix-sort-pairs
-    (λ c. search needs)
-    slice-aggregate-sort-pairs
+    (λ c. search needs) (λ c. simp length-take (omega arith))
     -- slice-relend-prefix-sort-pairs
-    (λ c. search needs)
-    slice-aggregate-sort-pairs-2
+    (λ c. search needs) (λ c. simp length-take (omega arith))
     -- sort_pairs, lengths stay
-    (λ c κs. search needs) (λ c. search needs) (λ c. search needs) (λ c. search needs) (λ c. search needs)
-    returns)
+    (λ c κs. search needs) (λ c. search needs) (λ c. search needs) (λ c. search needs) (λ c. search needs) returns)

@@ -19,8 +19,8 @@ returns-2 c =
     sym (ap (λ (t : Bool). t && eqb (getD (a .list .now) (a .at) 0) (a .x)) (le-ltb (a .at) (length (a .list .now)) (c .if1 .left)))
 
 pub stands-at-spec : {M : Type 1} → statement M
-stands-at-spec = tie.close (tie.spec
+stands-at-spec =
+    tie.close
+    (tie.spec
     -- result
-    (λ c. search needs) (λ c. search needs)
-    returns
-    returns-2)
+    (λ c. search needs) (λ c. search needs) returns returns-2)

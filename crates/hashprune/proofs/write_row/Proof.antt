@@ -52,15 +52,5 @@ pub write-row-spec : {M : Type 1} → statement M
 write-row-spec =
     tie.close
     (tie.spec
-    Inv-loop
-    μ-loop
-    (λ c. search needs) (λ c κs. search needs) (λ c. search needs) (λ c. search needs)
-    loop-holds
-    (λ c. search needs) (λ c κs. search needs)
-    mul-row
-    (λ c. search needs)
-    add-k
-    (λ c. search needs)
-    loop-again
-    same-length
-    returns)
+    Inv-loop μ-loop (λ c. search needs) (λ c κs. search needs) (λ c. search needs) (λ c. search needs) loop-holds (λ c. search needs)
+    (λ c κs. search needs) mul-row (λ c. search needs) add-k (λ c. search needs) loop-again same-length returns)

@@ -6,21 +6,13 @@ use borrow.Author.Needs.{needs}
 use Rattle.histories.proofs.add.Statement.{statement}
 use Rattle.histories.proofs.add.Tie as tie
 
-slice-aggregate-add-slice : tie.Need-slice-aggregate-add-slice
-slice-aggregate-add-slice c = sym (length-take-le _ _ (omega arith))
-
-slice-aggregate-add-slice-2 : tie.Need-slice-aggregate-add-slice-2
-slice-aggregate-add-slice-2 c = sym (length-take-le _ _ (omega arith))
-
 pub add-spec : {M : Type 1} → statement M
 add-spec =
     tie.close
     (tie.spec
     -- lesser, slice-relend-prefix-add-slice
-    (λ c κs. search needs) (λ c κs. search needs) (λ c. search needs)
-    slice-aggregate-add-slice
+    (λ c κs. search needs) (λ c κs. search needs) (λ c. search needs) (λ c. sym (length-take-le _ _ (omega arith)))
     -- slice-relend-prefix-add-slice
-    (λ c. search needs)
-    slice-aggregate-add-slice-2
+    (λ c. search needs) (λ c. sym (length-take-le _ _ (omega arith)))
     -- add_slice, the return, lengths stay
     (λ c κs. search needs) (λ c. search needs) (λ c. search needs) (λ c. search needs))

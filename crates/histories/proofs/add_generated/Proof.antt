@@ -18,8 +18,7 @@ pub add-generated-spec : {M : Type 1} → statement M
 add-generated-spec =
     tie.close
     (tie.spec
-    Inv-loop
-    μ-loop
+    Inv-loop μ-loop
     -- the loop begins, generate, add, the return, wrapping_add_u32, i, lengths stay
     (λ c. search needs) (λ c κs. search needs) (λ c κs. search needs) (λ c. search needs) (λ c. search needs) (λ c. search needs) (λ c. search needs)
     (λ c κs. search needs) (λ c. search needs)

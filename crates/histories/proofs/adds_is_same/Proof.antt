@@ -6,15 +6,12 @@ use borrow.Author.Needs.{needs}
 use Rattle.histories.proofs.adds_is_same.Statement.{statement}
 use Rattle.histories.proofs.adds_is_same.Tie as tie
 
-slice-aggregate-add-generated : tie.Need-slice-aggregate-add-generated
-slice-aggregate-add-generated c = sym (length-take-le _ _ (omega arith))
-
 pub adds-is-same-spec : {M : Type 1} → statement M
 adds-is-same-spec =
     tie.close
     (tie.spec
     -- generated_dimension, lesser, token, slice-relend-prefix-add-generated
     (λ c κs. search needs) (λ c κs. search needs) (λ c κs. search needs) (λ c κs. search needs) (λ c κs. search needs) (λ c. search needs)
-    slice-aggregate-add-generated
+    (λ c. sym (length-take-le _ _ (omega arith)))
     -- add_generated, word, the return, lengths stay
     (λ c κs. search needs) (λ c κs. search needs) (λ c. search needs) (λ c. search needs) (λ c. search needs) (λ c. search needs))

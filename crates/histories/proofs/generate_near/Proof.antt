@@ -18,8 +18,7 @@ pub generate-near-spec : {M : Type 1} → statement M
 generate-near-spec =
     tie.close
     (tie.spec
-    Inv-loop
-    μ-loop
+    Inv-loop μ-loop
     -- the loop begins, next_plane, number_of, vector, i, the loop measure, the loop goes on
     (λ c. search needs) (λ c κs. search needs) (λ c κs. search needs) (λ c κs. search needs) (λ c κs. search needs) (λ c. search needs)
     (λ c. search needs) (λ c. search needs) (λ c. search needs) (λ c. search needs)

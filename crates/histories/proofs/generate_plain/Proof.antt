@@ -18,10 +18,9 @@ pub generate-plain-spec : {M : Type 1} → statement M
 generate-plain-spec =
     tie.close
     (tie.spec
-    Inv-loop
-    μ-loop
+    Inv-loop μ-loop
     -- the loop begins, next_plane, tie_of, number_of, vector, i, the loop measure
-    (λ c. search needs) (λ c κs. search needs) (λ c κs. search needs) (λ c κs. search needs) (λ c. search needs) (λ c. search needs)
-    (λ c. search needs) (λ c. search needs)
+    (λ c. search needs) (λ c κs. search needs) (λ c κs. search needs) (λ c κs. search needs) (λ c. search needs) (λ c. search needs) (λ c. search needs)
+    (λ c. search needs)
     -- the loop goes on, the return, lengths stay
     (λ c. search needs) (λ c. search needs) (λ c. search needs))

@@ -6,21 +6,14 @@ use borrow.Author.Needs.{needs}
 use Rattle.histories.proofs.new_is_same.Statement.{statement}
 use Rattle.histories.proofs.new_is_same.Tie as tie
 
-slice-aggregate-new : tie.Need-slice-aggregate-new
-slice-aggregate-new c = sym (length-take-le _ _ (omega arith))
-
-slice-aggregate-new-2 : tie.Need-slice-aggregate-new-2
-slice-aggregate-new-2 c = sym (length-take-le _ _ (omega arith))
-
 pub new-is-same-spec : {M : Type 1} → statement M
 new-is-same-spec =
     tie.close
     (tie.spec
     -- lesser, word, params_asked, slice-relend-prefix-new
     (λ c κs. search needs) (λ c κs. search needs) (λ c κs. search needs) (λ c κs. search needs) (λ c κs. search needs) (λ c. search needs)
-    slice-aggregate-new
+    (λ c. sym (length-take-le _ _ (omega arith)))
     -- slice-relend-prefix-new
-    (λ c. search needs)
-    slice-aggregate-new-2
+    (λ c. search needs) (λ c. sym (length-take-le _ _ (omega arith)))
     -- new, word, the return, lengths stay
     (λ c κs. search needs) (λ c κs. search needs) (λ c. search needs) (λ c. search needs) (λ c. search needs))

@@ -17,8 +17,7 @@ pub sum-words-spec : {M : Type 1} → statement M
 sum-words-spec =
     tie.close
     (tie.spec
-    Inv-loop
-    μ-loop
+    Inv-loop μ-loop
     -- the loop begins, sum_on, i, the loop measure, the loop goes on, the return
     (λ c. search needs) (λ c. search needs) (λ c. search needs) (λ c κs. search needs) (λ c. search needs) (λ c. search needs) (λ c. search needs)
     (λ c. search needs))

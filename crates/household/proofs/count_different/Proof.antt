@@ -39,14 +39,9 @@ pub count-different-spec : {M : Type 1} → statement M
 count-different-spec =
     tie.close
     (tie.spec
-    Inv-loop
-    μ-loop
-    loop-holds
+    Inv-loop μ-loop loop-holds
     -- doc, i, occurs, part-occurs-start, part-occurs-end, count
     (λ c. search needs) (λ c. search needs) (λ c. search needs) (λ c. search needs) (λ c. search needs) (λ c. search needs) (λ c. search needs)
-    (λ c κs. search needs) (λ c. search needs)
-    add-count
+    (λ c κs. search needs) (λ c. search needs) add-count
     -- the loop measure
-    (λ c. search needs)
-    loop-again
-    returns)
+    (λ c. search needs) loop-again returns)

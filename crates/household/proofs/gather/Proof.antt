@@ -41,16 +41,11 @@ pub gather-spec : {M : Type 1} → statement M
 gather-spec =
     tie.close
     (tie.spec
-    Inv-loop
-    μ-loop
-    loop-holds
+    Inv-loop μ-loop loop-holds
     -- today, day_of, sighted
     (λ c. search needs) (λ c. search needs) (λ c. search needs) (λ c. search needs) (λ c. search needs) (λ c. search needs) (λ c κs. search needs)
-    (λ c. search needs)
-    add-sighted
+    (λ c. search needs) add-sighted
     -- i, the loop measure
-    (λ c. search needs) (λ c. search needs)
-    loop-again
+    (λ c. search needs) (λ c. search needs) loop-again
     -- lengths stay
-    (λ c. search needs)
-    returns)
+    (λ c. search needs) returns)

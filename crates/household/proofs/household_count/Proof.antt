@@ -57,11 +57,6 @@ household-count-spec =
     (tie.spec
     returns
     -- gather
-    (λ c. search needs)
-    gather-requires
-    array-share-prefix-today
-    slice-aggregate-count-different
+    (λ c. search needs) gather-requires array-share-prefix-today slice-aggregate-count-different
     -- count_different
-    (λ c κs. search needs)
-    cast-t16
-    returns-2)
+    (λ c κs. search needs) cast-t16 returns-2)

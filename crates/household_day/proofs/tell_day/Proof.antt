@@ -6,20 +6,12 @@ use borrow.Author.Needs.{needs}
 use Rattle.household_day.proofs.tell_day.Statement.{statement}
 use Rattle.household_day.proofs.tell_day.Tie as tie
 
-slice-aggregate-household-count : tie.Need-slice-aggregate-household-count
-slice-aggregate-household-count c = sym (length-take-le _ _ (omega arith))
-
-slice-aggregate-household-count-2 : tie.Need-slice-aggregate-household-count-2
-slice-aggregate-household-count-2 c = sym (length-take-le _ _ (omega arith))
-
 pub tell-day-spec : {M : Type 1} → statement M
 tell-day-spec =
     tie.close
     (tie.spec
     -- the return, write, write_number
-    (λ c. search needs) (λ c. search needs) (λ c. search needs) (λ c κs. search needs) (λ c κs. search needs) (λ c. search needs)
-    (λ c κs. search needs)
-    slice-aggregate-household-count
-    slice-aggregate-household-count-2
+    (λ c. search needs) (λ c. search needs) (λ c. search needs) (λ c κs. search needs) (λ c κs. search needs) (λ c. search needs) (λ c κs. search needs)
+    (λ c. sym (length-take-le _ _ (omega arith))) (λ c. sym (length-take-le _ _ (omega arith)))
     -- household_count, write_count, the return
     (λ c κs. search needs) (λ c κs. search needs) (λ c. search needs))

@@ -14,7 +14,6 @@ pub tell-days-spec : {M : Type 1} → statement M
 tell-days-spec =
     tie.close
     (tie.spec
-    Inv-loop
-    μ-loop
+    Inv-loop μ-loop
     -- arg_count, the loop begins, tell_asked, i, the loop measure, the loop goes on, the return
     (λ c κs. search needs) (λ c. search needs) (λ c κs. search needs) (λ c. search needs) (λ c. search needs) (λ c. search needs) (λ c. search needs))

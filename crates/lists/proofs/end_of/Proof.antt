@@ -11,7 +11,8 @@ returns : tie.Need-returns
 returns c = c .word-at .ensures ∙ ap (λ (b : List ℕ). word b (c .before .before .before .args .side)) (c .before .block-in .ensures)
 
 pub end-of-spec : {M : Type 1} → statement M
-end-of-spec = tie.close (tie.spec
+end-of-spec =
+    tie.close
+    (tie.spec
     -- stride, block_in, word_at
-    (λ c. search needs) (λ c κs. search needs) (λ c κs. search needs)
-    returns)
+    (λ c. search needs) (λ c κs. search needs) (λ c κs. search needs) returns)

@@ -11,7 +11,8 @@ returns : tie.Need-returns
 returns c = c .word-at .ensures ∙ ap (λ (row : List ℕ). word row (c .before .before .before .args .e)) (c .before .row-of .ensures)
 
 pub entry-of-spec : {M : Type 1} → statement M
-entry-of-spec = tie.close (tie.spec
+entry-of-spec =
+    tie.close
+    (tie.spec
     -- row_of, word_at
-    (λ c κs. search needs) (λ c κs. search needs)
-    returns)
+    (λ c κs. search needs) (λ c κs. search needs) returns)

@@ -19,12 +19,6 @@ rest ws at size h =
     let long = length-drop at ws in
     take-all (length ws - at) (drop at ws) (omega arith) ∙ sym (take-all size (drop at ws) (omega arith))
 
-mul-at : tie.Need-mul-at
-mul-at c = omega (arith, small (c .args .i) (c .args .stride) (omega arith) (omega arith))
-
-add-end : tie.Need-add-end
-add-end c = omega (arith, small (c .args .i) (c .args .stride) (omega arith) (omega arith))
-
 returns : tie.Need-returns
 returns c =
     let a = c .before .before .args in
@@ -46,14 +40,11 @@ pub read-block-spec : {M : Type 1} → statement M
 read-block-spec =
     tie.close
     (tie.spec
-    mul-at
-    add-end
+    (λ c. omega (arith, small (c .args .i) (c .args .stride) (omega arith) (omega arith)))
+    (λ c. omega (arith, small (c .args .i) (c .args .stride) (omega arith) (omega arith)))
     -- result, part-result-start, part-result-end
-    (λ c. search needs) (λ c. search needs) (λ c. search needs) (λ c. search needs)
-    returns
+    (λ c. search needs) (λ c. search needs) (λ c. search needs) (λ c. search needs) returns
     -- result, part-result-start, part-result-end
-    (λ c. search needs) (λ c. search needs) (λ c. search needs) (λ c. search needs)
-    returns-2
+    (λ c. search needs) (λ c. search needs) (λ c. search needs) (λ c. search needs) returns-2
     -- result, part-result-start, part-result-end
-    (λ c. search needs) (λ c. search needs) (λ c. search needs) (λ c. search needs)
-    returns-3)
+    (λ c. search needs) (λ c. search needs) (λ c. search needs) (λ c. search needs) returns-3)

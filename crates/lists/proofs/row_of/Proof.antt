@@ -30,11 +30,8 @@ row-of-spec =
     tie.close
     (tie.spec
     -- stride, block_in, if1, result, part-result-start, part-result-end
-    (λ c. search needs) (λ c κs. search needs) (λ c. search needs) (λ c. search needs) (λ c. search needs) (λ c. search needs) (λ c. search needs)
-    returns
+    (λ c. search needs) (λ c κs. search needs) (λ c. search needs) (λ c. search needs) (λ c. search needs) (λ c. search needs) (λ c. search needs) returns
     -- count, last, result, part-result-start, part-result-end
-    (λ c. search needs) (λ c. search needs) (λ c. search needs) (λ c. search needs) (λ c. search needs) (λ c. search needs) (λ c. search needs)
-    returns-2
+    (λ c. search needs) (λ c. search needs) (λ c. search needs) (λ c. search needs) (λ c. search needs) (λ c. search needs) (λ c. search needs) returns-2
     -- result, part-result-start, part-result-end
-    (λ c. search needs) (λ c. search needs) (λ c. search needs) (λ c. search needs)
-    returns-3)
+    (λ c. search needs) (λ c. search needs) (λ c. search needs) (λ c. search needs) returns-3)

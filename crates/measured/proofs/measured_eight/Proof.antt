@@ -16,8 +16,7 @@ pub measured-eight-spec : {M : Type 1} → statement M
 measured-eight-spec =
     tie.close
     (tie.spec
-    Inv-loop
-    μ-loop
+    Inv-loop μ-loop
     -- the loop begins, if1, the return, if2, put_eight, part-put-eight-start, lengths stay
     (λ c. search needs) (λ c. search needs) (λ c. search needs) (λ c. search needs) (λ c. search needs) (λ c. search needs) (λ c. search needs)
     (λ c. search needs) (λ c. search needs) (λ c. search needs)

@@ -20,8 +20,7 @@ pub measured-one-spec : {M : Type 1} → statement M
 measured-one-spec =
     tie.close
     (tie.spec
-    Inv-loop
-    μ-loop
+    Inv-loop μ-loop
     -- the loop begins, if1, the return, end, cosine_distance_normalized, lengths stay
     (λ c. search needs) (λ c. search needs) (λ c. search needs) (λ c. search needs) (λ c. search needs) (λ c. search needs) (λ c. search needs)
     part-cosine-distance-normalized-start

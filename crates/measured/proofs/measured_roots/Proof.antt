@@ -16,8 +16,7 @@ pub measured-roots-spec : {M : Type 1} → statement M
 measured-roots-spec =
     tie.close
     (tie.spec
-    Inv-loop
-    μ-loop
+    Inv-loop μ-loop
     -- the loop begins, the return, sqrt, out, i, the loop measure, lengths stay
     (λ c. search needs) (λ c. search needs) (λ c. search needs) (λ c. search needs) (λ c. search needs) (λ c κs. search needs) (λ c. search needs)
     (λ c. search needs) (λ c. search needs) (λ c. search needs)

@@ -12,7 +12,8 @@ unfolding lengthOf
 returns c = c .sqrt .ensures ∙ ap (rootOf binary32) (c .before .sum-of-squares .ensures)
 
 pub norm-spec : {M : Type 1} → statement M
-norm-spec = tie.close (tie.spec
+norm-spec =
+    tie.close
+    (tie.spec
     -- sum_of_squares, sqrt
-    (λ c κs. search needs) (λ c κs. search needs)
-    returns)
+    (λ c κs. search needs) (λ c κs. search needs) returns)

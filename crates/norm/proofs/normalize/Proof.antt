@@ -18,10 +18,9 @@ returns-2 c =
 
 pub normalize-spec : {M : Type 1} → statement M
 normalize-spec =
-    tie.close (tie.spec
+    tie.close
+    (tie.spec
     -- norm, divide, lengths stay
-    (λ c κs. search needs) (λ c κs. search needs) (λ c. search needs)
-    returns
+    (λ c κs. search needs) (λ c κs. search needs) (λ c. search needs) returns
     -- lengths stay
-    (λ c. search needs)
-    returns-2)
+    (λ c. search needs) returns-2)

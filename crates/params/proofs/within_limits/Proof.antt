@@ -5,12 +5,9 @@ use Rattle.params.specs.Limits.{withinLimits}
 use Rattle.params.proofs.within_limits.Statement.{statement}
 use Rattle.params.proofs.within_limits.Tie as tie
 
-is-finite-requires : tie.Need-is-finite-requires
-is-finite-requires c κs = search needs
-
 returns : tie.Need-returns
 unfolding withinLimits ofBits
 returns c = rw (c .before .is-finite .ensures)
 
 pub within-limits-spec : {M : Type 1} → statement M
-within-limits-spec = tie.close (tie.spec is-finite-requires returns)
+within-limits-spec = tie.close (tie.spec (λ c κs. search needs) returns)

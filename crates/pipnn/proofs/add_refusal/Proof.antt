@@ -102,18 +102,12 @@ add-refusal-spec =
     tie.close
     (tie.spec
     -- opening_refusal
-    (λ c κs. search needs)
-    returns
+    (λ c κs. search needs) returns
     -- word_at
-    (λ c κs. search needs)
-    returns-2
+    (λ c κs. search needs) returns-2
     -- word_at, if3
-    (λ c κs. search needs) (λ c. search needs)
-    returns-3
+    (λ c κs. search needs) (λ c. search needs) returns-3
     -- all_finite
-    (λ c κs. search needs)
-    returns-4
+    (λ c κs. search needs) returns-4
     -- word_at
-    (λ c κs. search needs) (λ c κs. search needs)
-    returns-5
-    returns-6)
+    (λ c κs. search needs) (λ c κs. search needs) returns-5 returns-6)

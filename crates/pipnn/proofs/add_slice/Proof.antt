@@ -69,15 +69,10 @@ add-slice-spec =
     tie.close
     (tie.spec
     -- add_refusal, lengths stay
-    (λ c κs. search needs) (λ c. search needs) (λ c. search needs)
-    returns
+    (λ c κs. search needs) (λ c. search needs) (λ c. search needs) returns
     -- word_at, floats_size
-    (λ c κs. search needs) (λ c κs. search needs) (λ c κs. search needs)
-    put-vector-requires
+    (λ c κs. search needs) (λ c κs. search needs) (λ c κs. search needs) put-vector-requires
     -- put_doc
-    (λ c κs. search needs)
-    add-words
-    slice-write-words
+    (λ c κs. search needs) add-words slice-write-words
     -- lengths stay
-    (λ c. search needs) (λ c. search needs)
-    returns-2)
+    (λ c. search needs) (λ c. search needs) returns-2)

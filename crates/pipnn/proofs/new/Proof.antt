@@ -28,15 +28,6 @@ returns : tie.Need-returns
 unfolding newSpec
 returns c = left-alone (refusal (c .before .before .before .before .before .before)) _ _ _ _ _ (c .before .new-refusal .ensures) (c .if1 .taken)
 
-cast-degree : tie.Need-cast-degree
-cast-degree c = let t = taken (c .before) in omega (arith, t .params .degree-most)
-
-put-header-requires : tie.Need-put-header-requires
-put-header-requires c κs = let t = taken (c .before .before .before .before) in (omega arith, t .limits)
-
-part-clear-words-end : tie.Need-part-clear-words-end
-part-clear-words-end c = let t = taken (c .before .before .before .before .before .before .before) in omega arith
-
 slice-relend-prefix-clear-floats : tie.Need-slice-relend-prefix-clear-floats
 slice-relend-prefix-clear-floats c =
     let at-floats-size = c .before .before .before .before .before .before .before .before in
@@ -79,19 +70,12 @@ new-spec =
     tie.close
     (tie.spec
     -- new_refusal, lengths stay
-    (λ c κs. search needs) (λ c. search needs) (λ c. search needs)
-    returns
-    cast-degree
+    (λ c κs. search needs) (λ c. search needs) (λ c. search needs) returns (λ c. let t = taken (c .before) in omega (arith, t .params .degree-most))
     -- words_size, floats_size
-    (λ c κs. search needs) (λ c κs. search needs)
-    put-header-requires
+    (λ c κs. search needs) (λ c κs. search needs) (λ c κs. let t = taken (c .before .before .before .before) in (omega arith, t .limits))
     -- clear_words, part-clear-words-start
-    (λ c. search needs) (λ c. search needs)
-    part-clear-words-end
+    (λ c. search needs) (λ c. search needs) (λ c. let t = taken (c .before .before .before .before .before .before .before) in omega arith)
     -- clear_words
-    (λ c κs. search needs)
-    slice-relend-prefix-clear-floats
-    slice-aggregate-clear-floats
+    (λ c κs. search needs) slice-relend-prefix-clear-floats slice-aggregate-clear-floats
     -- clear_floats, lengths stay
-    (λ c κs. search needs) (λ c. search needs) (λ c. search needs)
-    returns-2)
+    (λ c κs. search needs) (λ c. search needs) (λ c. search needs) returns-2)

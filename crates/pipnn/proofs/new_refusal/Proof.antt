@@ -47,9 +47,6 @@ returns-2 c =
     turned-at 1 (K (c .before .before .before .before .before .before .before)) (passed-1 (c .before .before .before))
     (ap not (sym (second (c .before)) ∙ not-true _ (c .if2 .taken)))
 
-cast-degree : tie.Need-cast-degree
-cast-degree c = let limits = within _ (both-true _ _ (taken (c .before)) .0) in omega arith
-
 returns-3 : tie.Need-returns-3
 unfolding newChecks
 returns-3 c =
@@ -72,13 +69,8 @@ new-refusal-spec =
     tie.close
     (tie.spec
     -- dimension_within
-    (λ c κs. search needs)
-    returns
+    (λ c κs. search needs) returns
     -- within_limits, capacity_within
-    (λ c κs. search needs) (λ c κs. search needs)
-    returns-2
-    cast-degree
+    (λ c κs. search needs) (λ c κs. search needs) returns-2 (λ c. let limits = within _ (both-true _ _ (taken (c .before)) .0) in omega arith)
     -- store_short
-    (λ c κs. search needs)
-    returns-3
-    returns-4)
+    (λ c κs. search needs) returns-3 returns-4)

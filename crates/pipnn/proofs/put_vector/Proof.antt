@@ -24,5 +24,4 @@ put-vector-spec =
     (λ c. search needs) (λ c. search needs) (λ c. search needs) (λ c. search needs) (λ c. search needs) (λ c κs. search needs) (λ c. search needs)
     (λ c. search needs)
     -- part-normalize-start, part-normalize-end, normalize, lengths stay
-    (λ c. search needs) (λ c. search needs) (λ c κs. search needs) (λ c. search needs)
-    returns)
+    (λ c. search needs) (λ c. search needs) (λ c κs. search needs) (λ c. search needs) returns)

@@ -15,8 +15,7 @@ pub tell-all-spec : {M : Type 1} → statement M
 tell-all-spec =
     tie.close
     (tie.spec
-    Inv-loop
-    μ-loop
+    Inv-loop μ-loop
     -- start, the loop begins, the return, read_on, front_bytes, tell_rest, lengths stay
     (λ c κs. search needs) (λ c. search needs) (λ c. search needs) (λ c. search needs) (λ c. search needs) (λ c. search needs) (λ c. search needs)
     (λ c κs. search needs) (λ c κs. search needs) (λ c κs. search needs) (λ c. search needs) (λ c. search needs)

@@ -16,8 +16,7 @@ pub tell-lines-spec : {M : Type 1} → statement M
 tell-lines-spec =
     tie.close
     (tie.spec
-    Inv-loop
-    μ-loop
+    Inv-loop μ-loop
     -- the loop begins, line_end, the return, tell_line, part-tell-line-start, lengths stay
     (λ c. search needs) (λ c κs. search needs) (λ c. search needs) (λ c. search needs) (λ c. search needs) (λ c. search needs) (λ c. search needs)
     (λ c. search needs)

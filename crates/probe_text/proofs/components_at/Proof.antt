@@ -23,13 +23,11 @@ pub components-at-spec : {M : Type 1} → statement M
 components-at-spec =
     tie.close
     (tie.spec
-    Inv-loop
-    μ-loop
+    Inv-loop μ-loop
     -- the loop begins, component_at, bits, enum-told, the return, word, f32_from, lengths stay
     (λ c. search needs) (λ c κs. search needs) (λ c. search needs) (λ c. search needs) (λ c. search needs) (λ c. search needs) (λ c κs. search needs)
     (λ c κs. search needs)
     -- keep
-    (λ c κs. search needs)
-    loop-less
+    (λ c κs. search needs) loop-less
     -- the loop goes on, the return, lengths stay
     (λ c. search needs) (λ c. search needs) (λ c. search needs))

@@ -14,8 +14,7 @@ pub hexadecimal-at-spec : {M : Type 1} → statement M
 hexadecimal-at-spec =
     tie.close
     (tie.spec
-    Inv-loop
-    μ-loop
+    Inv-loop μ-loop
     -- the loop begins, the return, digit, value, i, left, the loop measure, the loop goes on
     (λ c. search needs) (λ c. search needs) (λ c. search needs) (λ c κs. search needs) (λ c. search needs) (λ c. search needs) (λ c. search needs)
     (λ c. search needs) (λ c. search needs) (λ c. search needs) (λ c. search needs) (λ c. search needs))

@@ -15,8 +15,7 @@ pub past-spec : {M : Type 1} → statement M
 past-spec =
     tie.close
     (tie.spec
-    Inv-loop
-    μ-loop
+    Inv-loop μ-loop
     -- the loop begins, the return, if2, i, the loop measure, the loop goes on
     (λ c. search needs) (λ c. search needs) (λ c. search needs) (λ c. search needs) (λ c. search needs) (λ c. search needs) (λ c. search needs)
     (λ c. search needs) (λ c. search needs))

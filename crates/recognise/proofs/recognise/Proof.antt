@@ -51,14 +51,10 @@ recognise-spec =
     tie.close
     (tie.spec
     -- search_with_ef, lengths stay
-    (λ c. search needs) (λ c. search needs) (λ c κs. search needs) (λ c. search needs) (λ c. search needs)
-    returns
+    (λ c. search needs) (λ c. search needs) (λ c κs. search needs) (λ c. search needs) (λ c. search needs) returns
     -- is_finite, lengths stay
-    (λ c κs. search needs) (λ c. search needs) (λ c. search needs)
-    returns-2
+    (λ c κs. search needs) (λ c. search needs) (λ c. search needs) returns-2
     -- lengths stay
-    (λ c. search needs) (λ c. search needs)
-    returns-3
+    (λ c. search needs) (λ c. search needs) returns-3
     -- decide, lengths stay
-    (λ c. search needs) (λ c. search needs) (λ c κs. search needs) (λ c. search needs) (λ c. search needs)
-    returns-4)
+    (λ c. search needs) (λ c. search needs) (λ c κs. search needs) (λ c. search needs) (λ c. search needs) returns-4)

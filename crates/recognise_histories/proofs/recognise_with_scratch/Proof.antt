@@ -6,22 +6,14 @@ use borrow.Author.Needs.{needs}
 use Rattle.recognise_histories.proofs.recognise_with_scratch.Statement.{statement}
 use Rattle.recognise_histories.proofs.recognise_with_scratch.Tie as tie
 
-slice-aggregate-recognise : tie.Need-slice-aggregate-recognise
-slice-aggregate-recognise c = sym (length-take-le _ _ (omega arith))
-
-slice-aggregate-recognise-2 : tie.Need-slice-aggregate-recognise-2
-slice-aggregate-recognise-2 c = sym (length-take-le _ _ (omega arith))
-
 pub recognise-with-scratch-spec : {M : Type 1} → statement M
 recognise-with-scratch-spec =
     tie.close
     (tie.spec
     -- size, lesser, word, float, scratch_words, scratch_floats, array-borrow-prefix-sw
     (λ c κs. search needs) (λ c κs. search needs) (λ c κs. search needs) (λ c κs. search needs) (λ c κs. search needs) (λ c κs. search needs)
-    (λ c κs. search needs) (λ c κs. search needs) (λ c. search needs)
-    slice-aggregate-recognise
+    (λ c κs. search needs) (λ c κs. search needs) (λ c. search needs) (λ c. sym (length-take-le _ _ (omega arith)))
     -- array-borrow-prefix-sf
-    (λ c. search needs)
-    slice-aggregate-recognise-2
+    (λ c. search needs) (λ c. sym (length-take-le _ _ (omega arith)))
     -- recognise, the return
     (λ c κs. search needs) (λ c. search needs))

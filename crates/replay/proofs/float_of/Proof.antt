@@ -9,8 +9,5 @@ int-to-float-result : tie.Need-int-to-float-result
 unfolding inFloat
 int-to-float-result c = le→leb (c .before .args .x) 16777216 (c .before .pre)
 
-returns : tie.Need-returns
-returns c = search needs
-
 pub float-of-spec : {M : Type 1} → statement M
-float-of-spec = tie.close (tie.spec int-to-float-result returns)
+float-of-spec = tie.close (tie.spec int-to-float-result (λ c. search needs))

@@ -25,9 +25,7 @@ pub floats-spec : {M : Type 1} → statement M
 floats-spec =
     tie.close
     (tie.spec
-    Inv-loop
-    μ-loop
+    Inv-loop μ-loop
     -- lesser, the loop begins, float, out, i, the loop measure, the loop goes on, lengths stay
     (λ c κs. search needs) (λ c. search needs) (λ c κs. search needs) (λ c. search needs) (λ c. search needs) (λ c. search needs) (λ c. search needs)
-    (λ c. search needs) (λ c. search needs)
-    returns)
+    (λ c. search needs) (λ c. search needs) returns)

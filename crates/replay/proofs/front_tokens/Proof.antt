@@ -6,13 +6,11 @@ use borrow.Author.Needs.{needs}
 use Rattle.replay.proofs.front_tokens.Statement.{statement}
 use Rattle.replay.proofs.front_tokens.Tie as tie
 
-slice-aggregate-result : tie.Need-slice-aggregate-result
-slice-aggregate-result c = sym (length-take-le (c .before .before .args .n) (c .before .before .args .xs .now) (omega arith))
-
 pub front-tokens-spec : {M : Type 1} → statement M
-front-tokens-spec = tie.close (tie.spec
+front-tokens-spec =
+    tie.close
+    (tie.spec
     -- the return
-    (λ c. search needs)
-    slice-aggregate-result
+    (λ c. search needs) (λ c. sym (length-take-le (c .before .before .args .n) (c .before .before .args .xs .now) (omega arith)))
     -- the return
     (λ c. search needs))

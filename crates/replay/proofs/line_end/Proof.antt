@@ -15,7 +15,6 @@ pub line-end-spec : {M : Type 1} → statement M
 line-end-spec =
     tie.close
     (tie.spec
-    Inv-loop
-    μ-loop
+    Inv-loop μ-loop
     -- the loop begins, if1, the return, i, the loop measure, the loop goes on
     (λ c. search needs) (λ c. search needs) (λ c. search needs) (λ c. search needs) (λ c. search needs) (λ c. search needs) (λ c. search needs))

@@ -15,8 +15,7 @@ pub past-name-spec : {M : Type 1} → statement M
 past-name-spec =
     tie.close
     (tie.spec
-    Inv-loop
-    μ-loop
+    Inv-loop μ-loop
     -- the loop begins, if1, result, the return, i, the loop measure, the loop goes on
     (λ c. search needs) (λ c. search needs) (λ c. search needs) (λ c. search needs) (λ c. search needs) (λ c. search needs) (λ c. search needs)
     (λ c. search needs))

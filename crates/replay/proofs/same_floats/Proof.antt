@@ -15,8 +15,7 @@ pub same-floats-spec : {M : Type 1} → statement M
 same-floats-spec =
     tie.close
     (tie.spec
-    Inv-loop
-    μ-loop
+    Inv-loop μ-loop
     -- the loop begins, bits_of, word, i, the loop measure, the loop goes on, the return
     (λ c. search needs) (λ c. search needs) (λ c. search needs) (λ c κs. search needs) (λ c κs. search needs) (λ c. search needs) (λ c. search needs)
     (λ c. search needs) (λ c. search needs))

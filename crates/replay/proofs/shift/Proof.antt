@@ -16,8 +16,7 @@ pub shift-spec : {M : Type 1} → statement M
 shift-spec =
     tie.close
     (tie.spec
-    Inv-loop
-    μ-loop
+    Inv-loop μ-loop
     -- the return, the loop begins, text, i, the loop measure, the loop goes on, lengths stay
     (λ c. search needs) (λ c. search needs) (λ c. search needs) (λ c. search needs) (λ c. search needs) (λ c. search needs) (λ c. search needs)
     (λ c. search needs) (λ c. search needs) (λ c. search needs) (λ c. search needs))

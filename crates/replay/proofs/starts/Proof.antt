@@ -15,8 +15,7 @@ pub starts-spec : {M : Type 1} → statement M
 starts-spec =
     tie.close
     (tie.spec
-    Inv-loop
-    μ-loop
+    Inv-loop μ-loop
     -- the return, rest, part-rest-start, part-rest-end, the loop begins, if3, i
     (λ c. search needs) (λ c. search needs) (λ c. search needs) (λ c. search needs) (λ c. search needs) (λ c. search needs) (λ c. search needs)
     (λ c. search needs) (λ c. search needs) (λ c. search needs)

@@ -16,8 +16,7 @@ pub words-spec : {M : Type 1} → statement M
 words-spec =
     tie.close
     (tie.spec
-    Inv-loop
-    μ-loop
+    Inv-loop μ-loop
     -- lesser, the loop begins, word, out, i, the loop measure, the loop goes on, lengths stay
     (λ c κs. search needs) (λ c. search needs) (λ c κs. search needs) (λ c. search needs) (λ c. search needs) (λ c. search needs) (λ c. search needs)
     (λ c. search needs) (λ c. search needs)

@@ -6,22 +6,14 @@ use borrow.Author.Needs.{needs}
 use Rattle.replay_numbers.proofs.centroid_is_same.Statement.{statement}
 use Rattle.replay_numbers.proofs.centroid_is_same.Tie as tie
 
-slice-aggregate-centroid : tie.Need-slice-aggregate-centroid
-slice-aggregate-centroid c = sym (length-take-le _ _ (omega arith))
-
-slice-aggregate-centroid-2 : tie.Need-slice-aggregate-centroid-2
-slice-aggregate-centroid-2 c = sym (length-take-le _ _ (omega arith))
-
 pub centroid-is-same-spec : {M : Type 1} → statement M
 centroid-is-same-spec =
     tie.close
     (tie.spec
     -- size, floats, the return, word, n, slice-reshare-prefix-centroid, lengths stay
-    (λ c κs. search needs) (λ c κs. search needs) (λ c. search needs) (λ c. search needs) (λ c κs. search needs) (λ c. search needs)
-    (λ c. search needs)
-    slice-aggregate-centroid
+    (λ c κs. search needs) (λ c κs. search needs) (λ c. search needs) (λ c. search needs) (λ c κs. search needs) (λ c. search needs) (λ c. search needs)
+    (λ c. sym (length-take-le _ _ (omega arith)))
     -- slice-relend-prefix-centroid
-    (λ c. search needs)
-    slice-aggregate-centroid-2
+    (λ c. search needs) (λ c. sym (length-take-le _ _ (omega arith)))
     -- centroid, front, same_floats, the return, lengths stay
     (λ c κs. search needs) (λ c κs. search needs) (λ c κs. search needs) (λ c. search needs) (λ c. search needs) (λ c. search needs))

@@ -23,14 +23,12 @@ pub first-is-same-spec : {M : Type 1} → statement M
 first-is-same-spec =
     tie.close
     (tie.spec
-    Inv-loop
-    μ-loop
+    Inv-loop μ-loop
     -- size, lesser, the return, the loop begins, float, key, slice-relend-prefix-keep-first
     (λ c κs. search needs) (λ c κs. search needs) (λ c κs. search needs) (λ c. search needs) (λ c. search needs) (λ c κs. search needs)
-    (λ c κs. search needs) (λ c. search needs)
-    slice-aggregate-keep-first
+    (λ c κs. search needs) (λ c. search needs) slice-aggregate-keep-first
     -- keep_first, i, the loop measure, the loop goes on, front_words, same_words, lengths stay
-    (λ c. search needs) (λ c κs. search needs) (λ c. search needs) (λ c. search needs) (λ c. search needs) (λ c κs. search needs)
-    (λ c κs. search needs) (λ c. search needs) (λ c. search needs)
+    (λ c. search needs) (λ c κs. search needs) (λ c. search needs) (λ c. search needs) (λ c. search needs) (λ c κs. search needs) (λ c κs. search needs)
+    (λ c. search needs) (λ c. search needs)
     -- the return
     (λ c. search needs))

@@ -17,20 +17,8 @@ use Rattle.search.proofs.find.Tie as tie
 short : (s : tie.Start) → length (s .args .query .now) ≤ 64
 short s = query-short _ _ (s .args .words .now) (s .args .floats .now) (s .args .query .now) (s .args .k) (s .args .ef) (s .args .docs .now) (s .args .distances .now) (s .pre)
 
-array-borrow-prefix-room : tie.Need-array-borrow-prefix-room
-array-borrow-prefix-room c = omega (arith, short (c .before .before .before .before .before .before .before))
-
 slice-aggregate-scale-into : tie.Need-slice-aggregate-scale-into
 slice-aggregate-scale-into c = sym (length-take-le _ _ (short (c .before .before .before .before .before .before .before .before)))
-
-scale-into-requires : tie.Need-scale-into-requires
-scale-into-requires c κs = length-take-le _ _ (short (c .before .before .before .before .before .before .before .before))
-
-array-share-prefix-room : tie.Need-array-share-prefix-room
-array-share-prefix-room c = room-long _ _ _ (c .before .scale-into .ensures)
-
-slice-aggregate-find-scaled : tie.Need-slice-aggregate-find-scaled
-slice-aggregate-find-scaled c = sym (room-length _ _ _ (c .before .before .scale-into .ensures))
 
 find-scaled-requires : tie.Need-find-scaled-requires
 find-scaled-requires c κs =
@@ -53,12 +41,8 @@ pub find-spec : {M : Type 1} → statement M
 find-spec =
     tie.close
     (tie.spec
-    array-borrow-prefix-room
-    slice-aggregate-scale-into
-    scale-into-requires
-    array-share-prefix-room
-    slice-aggregate-find-scaled
-    find-scaled-requires
+    (λ c. omega (arith, short (c .before .before .before .before .before .before .before))) slice-aggregate-scale-into
+    (λ c κs. length-take-le _ _ (short (c .before .before .before .before .before .before .before .before)))
+    (λ c. room-long _ _ _ (c .before .scale-into .ensures)) (λ c. sym (room-length _ _ _ (c .before .before .scale-into .ensures))) find-scaled-requires
     -- lengths stay
-    (λ c. search needs) (λ c. search needs) (λ c. search needs) (λ c. search needs)
-    returns)
+    (λ c. search needs) (λ c. search needs) (λ c. search needs) (λ c. search needs) returns)

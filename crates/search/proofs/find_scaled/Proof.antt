@@ -37,21 +37,6 @@ fit c = replying.parts-fit _ _ _ _ _ _ _ _ _ _ (c .parts-of .result) (c .parts-o
 few : (c : tie.After-parts-of) → word (start c .args .words .now) nodesAt ≤ 1024
 few c = let s = start c in let a = s .args in replying.few _ _ (a .scaled .now) (a .k) (a .ef) _ _ _ _ (s .pre)
 
-slice-aggregate-beam-search : tie.Need-slice-aggregate-beam-search
-slice-aggregate-beam-search c = sym (length-take-le _ _ (fit (c .before .before .before) .vectors-end))
-
-mul-beam-search : tie.Need-mul-beam-search
-mul-beam-search c = omega (arith, fit (c .before .before .before) .rows-small)
-
-part-beam-search-end : tie.Need-part-beam-search-end
-part-beam-search-end c = fit (c .before .before .before) .rows-end
-
-mul-beam-search-2 : tie.Need-mul-beam-search-2
-mul-beam-search-2 c = omega (arith, fit (c .before .before .before .before) .bridges-small)
-
-part-beam-search-end-2 : tie.Need-part-beam-search-end-2
-part-beam-search-end-2 c = fit (c .before .before .before .before) .bridges-end
-
 array-borrow-prefix-nodes : tie.Need-array-borrow-prefix-nodes
 array-borrow-prefix-nodes c =
     let at-wanted = c .before .before .before .before in
@@ -127,27 +112,19 @@ find-scaled-spec =
     (tie.spec
     parts-of-requires
     -- wanted, larger
-    (λ c κs. search needs) (λ c κs. search needs)
-    slice-aggregate-beam-search
-    mul-beam-search
+    (λ c κs. search needs) (λ c κs. search needs) (λ c. sym (length-take-le _ _ (fit (c .before .before .before) .vectors-end)))
+    (λ c. omega (arith, fit (c .before .before .before) .rows-small))
     -- beam_search, part-beam-search-start
-    (λ c. search needs) (λ c. search needs)
-    part-beam-search-end
-    mul-beam-search-2
+    (λ c. search needs) (λ c. search needs) (λ c. fit (c .before .before .before) .rows-end)
+    (λ c. omega (arith, fit (c .before .before .before .before) .bridges-small))
     -- beam_search, part-beam-search-start
-    (λ c. search needs) (λ c. search needs)
-    part-beam-search-end-2
-    array-borrow-prefix-nodes
+    (λ c. search needs) (λ c. search needs) (λ c. fit (c .before .before .before .before) .bridges-end) array-borrow-prefix-nodes
     slice-aggregate-beam-search-2
     -- slice-relend-prefix-beam-search
-    (λ c. search needs)
-    slice-aggregate-beam-search-3
+    (λ c. search needs) slice-aggregate-beam-search-3
     -- beam_search
-    (λ c κs. search needs)
-    slice-aggregate-put-docs
+    (λ c κs. search needs) slice-aggregate-put-docs
     -- put_docs
-    (λ c. search needs)
-    put-docs-requires
+    (λ c. search needs) put-docs-requires
     -- lengths stay
-    (λ c. search needs) (λ c. search needs) (λ c. search needs) (λ c. search needs)
-    returns)
+    (λ c. search needs) (λ c. search needs) (λ c. search needs) (λ c. search needs) returns)

@@ -54,12 +54,9 @@ pub put-docs-spec : {M : Type 1} → statement M
 put-docs-spec =
     tie.close
     (tie.spec
-    Inv-loop
-    μ-loop
-    loop-holds
+    Inv-loop μ-loop loop-holds
     -- doc_of, docs, i, the loop measure
     (λ c. search needs) (λ c. search needs) (λ c κs. search needs) (λ c. search needs) (λ c. search needs) (λ c. search needs) (λ c. search needs)
     loop-again
     -- lengths stay
-    (λ c. search needs)
-    returns)
+    (λ c. search needs) returns)

@@ -15,7 +15,8 @@ returns c =
     c .before .before .normalize .ensures ∙ ap (scaledOf binary32) (copy .ensures ∙ copied-whole (a .out .now) (a .query .now) (omega arith))
 
 pub scale-into-spec : {M : Type 1} → statement M
-scale-into-spec = tie.close (tie.spec
+scale-into-spec =
+    tie.close
+    (tie.spec
     -- copy_floats, normalize, lengths stay
-    (λ c κs. search needs) (λ c κs. search needs) (λ c. search needs)
-    returns)
+    (λ c κs. search needs) (λ c κs. search needs) (λ c. search needs) returns)

@@ -124,19 +124,12 @@ search-refusal-spec =
     tie.close
     (tie.spec
     -- opening_refusal
-    (λ c κs. search needs)
-    returns
+    (λ c κs. search needs) returns
     -- word_at
-    (λ c κs. search needs)
-    returns-2
+    (λ c κs. search needs) returns-2
     -- word_at, if3
-    (λ c κs. search needs) (λ c. search needs)
-    returns-3
+    (λ c κs. search needs) (λ c. search needs) returns-3
     -- all_finite
-    (λ c κs. search needs)
-    returns-4
-    returns-5
+    (λ c κs. search needs) returns-4 returns-5
     -- wanted
-    (λ c κs. search needs)
-    returns-6
-    returns-7)
+    (λ c κs. search needs) returns-6 returns-7)

@@ -26,8 +26,6 @@ search-with-ef-spec =
     tie.close
     (tie.spec
     -- search_refusal, lengths stay
-    (λ c κs. search needs) (λ c. search needs) (λ c. search needs)
-    returns
+    (λ c κs. search needs) (λ c. search needs) (λ c. search needs) returns
     -- find, lengths stay
-    (λ c κs. search needs) (λ c. search needs) (λ c. search needs) (λ c. search needs) (λ c. search needs)
-    returns-2)
+    (λ c κs. search needs) (λ c. search needs) (λ c. search needs) (λ c. search needs) (λ c. search needs) returns-2)

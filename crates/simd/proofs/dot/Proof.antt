@@ -32,7 +32,4 @@ dot-spec =
     tie.close
     (tie.spec
     -- dot_within, the return
-    (λ c κs. search needs) (λ c. search needs)
-    slice-aggregate-dot-within
-    dot-within-requires-2
-    returns-2)
+    (λ c κs. search needs) (λ c. search needs) slice-aggregate-dot-within dot-within-requires-2 returns-2)

@@ -67,16 +67,12 @@ pub dot8-rest-spec : {M : Type 1} → statement M
 dot8-rest-spec =
     tie.close
     (tie.spec
-    Inv-loop
-    μ-loop
+    Inv-loop μ-loop
     -- i
-    (λ c. search needs)
-    loop-holds
+    (λ c. search needs) loop-holds
     -- x, sum_a, sum_b, sum_c, sum_d, sum_e
     (λ c. search needs) (λ c. search needs) (λ c. search needs) (λ c. search needs) (λ c. search needs) (λ c. search needs) (λ c. search needs)
     (λ c. search needs) (λ c. search needs) (λ c. search needs) (λ c. search needs) (λ c. search needs)
     -- sum_f, sum_g, sum_h, i, the loop measure
     (λ c. search needs) (λ c. search needs) (λ c. search needs) (λ c. search needs) (λ c. search needs) (λ c. search needs) (λ c. search needs)
-    (λ c. search needs)
-    loop-again
-    returns)
+    (λ c. search needs) loop-again returns)

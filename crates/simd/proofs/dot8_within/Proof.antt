@@ -103,24 +103,12 @@ pub dot8-within-spec : {M : Type 1} → statement M
 dot8-within-spec =
     tie.close
     (tie.spec
-    Inv-loop
-    μ-loop
-    loop-holds
+    Inv-loop μ-loop loop-holds
     -- loop, next, x, y, z, w
     (λ c. search needs) (λ c. search needs) (λ c. search needs) (λ c. search needs) (λ c. search needs) (λ c. search needs) (λ c. search needs)
     (λ c. search needs) (λ c. search needs) (λ c. search needs) (λ c. search needs) (λ c. search needs)
     -- w
-    (λ c. search needs)
-    add-four-requires
-    add-four-requires-2
-    add-four-requires-3
-    add-four-requires-4
-    add-four-requires-5
-    add-four-requires-6
-    add-four-requires-7
-    add-four-requires-8
-    loop-less
-    loop-again
+    (λ c. search needs) add-four-requires add-four-requires-2 add-four-requires-3 add-four-requires-4 add-four-requires-5 add-four-requires-6
+    add-four-requires-7 add-four-requires-8 loop-less loop-again
     -- dot8_rest
-    (λ c κs. search needs)
-    returns)
+    (λ c κs. search needs) returns)

@@ -15,12 +15,6 @@ use borrow.Author.Needs.{needs}
 use Rattle.simd.proofs.dot_block.Statement.{statement}
 use Rattle.simd.proofs.dot_block.Tie as tie
 
-slice-aggregate-dot-block-within : tie.Need-slice-aggregate-dot-block-within
-slice-aggregate-dot-block-within c = sym (length-take-le _ _ (omega arith))
-
-dot-block-within-requires-2 : tie.Need-dot-block-within-requires-2
-dot-block-within-requires-2 c κs = simp length-take (omega arith)
-
 cut : (q block : List Float) (j : ℕ) → dotOf binary32 (take (length block / 8) q) (rowIn block j) ≡ dotOf binary32 q (rowIn block j)
 unfolding dotOf
 cut q block j =
@@ -47,7 +41,4 @@ dot-block-spec =
     tie.close
     (tie.spec
     -- dot_block_within, the return
-    (λ c κs. search needs) (λ c. search needs)
-    slice-aggregate-dot-block-within
-    dot-block-within-requires-2
-    returns-2)
+    (λ c κs. search needs) (λ c. search needs) (λ c. sym (length-take-le _ _ (omega arith))) (λ c κs. simp length-take (omega arith)) returns-2)

@@ -22,12 +22,6 @@ returns : tie.Need-returns
 unfolding ofBits
 returns c = let a = c .before .args in sym (no-dimension (a .planes .now) (a .dimension) (a .bits) (a .k) (c .if1 .taken))
 
-mul-plane : tie.Need-mul-plane
-mul-plane c = let a = c .before .args in omega (arith, div-le-self (a .k / 8) (a .dimension))
-
-add-plane : tie.Need-add-plane
-add-plane c = let a = c .before .args in omega (arith, div-le-self (a .k / 8) (a .dimension))
-
 returns-2 : tie.Need-returns-2
 unfolding ofBits
 returns-2 c = let a = c .before .before .args in sym (past-planes (a .planes .now) (a .dimension) (a .bits) (a .k) (c .if2 .taken))
@@ -63,15 +57,9 @@ block-number-spec =
     (tie.spec
     returns
     -- plane
-    (λ c. search needs)
-    mul-plane
-    add-plane
-    returns-2
-    mul-at
+    (λ c. search needs) (λ c. let a = c .before .args in omega (arith, div-le-self (a .k / 8) (a .dimension)))
+    (λ c. let a = c .before .args in omega (arith, div-le-self (a .k / 8) (a .dimension))) returns-2 mul-at
     -- at
-    (λ c. search needs)
-    add-at
-    returns-3
+    (λ c. search needs) add-at returns-3
     -- result
-    (λ c. search needs) (λ c. search needs)
-    returns-4)
+    (λ c. search needs) (λ c. search needs) returns-4)

@@ -12,12 +12,6 @@ use borrow.Author.Needs.{needs}
 use Rattle.simhash.proofs.hash_block.Statement.{statement}
 use Rattle.simhash.proofs.hash_block.Tie as tie
 
-slice-aggregate-hash-block-within : tie.Need-slice-aggregate-hash-block-within
-slice-aggregate-hash-block-within c = sym (length-take-le _ _ (omega arith))
-
-hash-block-within-requires-2 : tie.Need-hash-block-within-requires-2
-hash-block-within-requires-2 c κs = simp length-take (omega arith)
-
 returns-2 : tie.Need-returns-2
 returns-2 c =
     let a = c .before .before .before .before .before .args in
@@ -30,7 +24,4 @@ hash-block-spec =
     tie.close
     (tie.spec
     -- hash_block_within, the return
-    (λ c κs. search needs) (λ c. search needs)
-    slice-aggregate-hash-block-within
-    hash-block-within-requires-2
-    returns-2)
+    (λ c κs. search needs) (λ c. search needs) (λ c. sym (length-take-le _ _ (omega arith))) (λ c κs. simp length-take (omega arith)) returns-2)

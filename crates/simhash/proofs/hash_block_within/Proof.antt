@@ -62,9 +62,7 @@ pub hash-block-within-spec : {M : Type 1} → statement M
 hash-block-within-spec =
     tie.close
     (tie.spec
-    Inv-loop
-    μ-loop
-    loop-holds
+    Inv-loop μ-loop loop-holds
     -- x, sum_a, sum_b, sum_c, sum_d
     (λ c. search needs) (λ c. search needs) (λ c. search needs) (λ c. search needs) (λ c. search needs) (λ c. search needs) (λ c. search needs)
     (λ c. search needs) (λ c. search needs) (λ c. search needs) (λ c. search needs) (λ c. search needs)
@@ -72,8 +70,6 @@ hash-block-within-spec =
     (λ c. search needs) (λ c. search needs) (λ c. search needs) (λ c. search needs) (λ c. search needs) (λ c. search needs) (λ c. search needs)
     (λ c. search needs) (λ c. search needs) (λ c. search needs) (λ c. search needs) (λ c. search needs)
     -- sum_h, at, i, the loop measure
-    (λ c. search needs) (λ c. search needs) (λ c. search needs) (λ c. search needs)
-    loop-again
+    (λ c. search needs) (λ c. search needs) (λ c. search needs) (λ c. search needs) loop-again
     -- eight_bits
-    (λ c κs. search needs)
-    returns)
+    (λ c κs. search needs) returns)

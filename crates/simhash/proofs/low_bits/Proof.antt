@@ -11,12 +11,6 @@ use Rattle.simhash.proofs.low_bits.Tie as tie
 shifted : (k : ℕ) → k < 16 → 1 * 2 ^ k % 2 ^ 32 ≡ 2 ^ k
 shifted k h = shl-exact {a = 1} 1 k 32 (lit< tt) (omega arith) ∙ one-mul (2 ^ k)
 
-shl-result : tie.Need-shl-result
-shl-result c = omega arith
-
-rem-result : tie.Need-rem-result
-rem-result c = let k = c .before .args .bits in omega (arith, shifted k (c .if1 .taken), pow-pos k)
-
 returns : tie.Need-returns
 returns c =
     let h = c .before .args .hash in
@@ -30,4 +24,7 @@ returns-2 c =
     ap (λ (n : ℕ). c .before .args .hash % 2 ^ n) most
 
 pub low-bits-spec : {M : Type 1} → statement M
-low-bits-spec = tie.close (tie.spec shl-result rem-result returns returns-2)
+low-bits-spec =
+    tie.close
+    (tie.spec
+    (λ c. omega arith) (λ c. let k = c .before .args .bits in omega (arith, shifted k (c .if1 .taken), pow-pos k)) returns returns-2)

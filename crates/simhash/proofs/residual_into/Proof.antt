@@ -98,17 +98,5 @@ pub residual-into-spec : {M : Type 1} → statement M
 residual-into-spec =
     tie.close
     (tie.spec
-    Inv-loop
-    μ-loop
-    loop-holds
-    mul-out
-    shared-slice-read-out
-    mul-out-2
-    shared-slice-read-out-2
-    mul-out-3
-    slice-write-out
-    add-i
-    loop-less
-    loop-again
-    same-length
-    returns)
+    Inv-loop μ-loop loop-holds mul-out shared-slice-read-out mul-out-2 shared-slice-read-out-2 mul-out-3 slice-write-out add-i loop-less loop-again
+    same-length returns)

@@ -18,9 +18,6 @@ returns c =
     ∙ ap (λ (h : ℕ). h % 2 ^ min (a .bits) 16) (c .before .before .hash-block .ensures ∙ low-byte r l)
     ∙ bits-cut (bitIn r l) (min (a .bits) 16) 8 (omega arith)
 
-mul-low-bits : tie.Need-mul-low-bits
-mul-low-bits c = let h = one-byte _ _ (c .hash-block2 .ensures) in omega arith
-
 add-low-bits : tie.Need-add-low-bits
 add-low-bits c =
     let h = one-byte _ _ (c .hash-block2 .ensures) in
@@ -43,12 +40,9 @@ simhash-residual-spec =
     tie.close
     (tie.spec
     -- hash_block, low_bits
-    (λ c κs. search needs) (λ c κs. search needs)
-    returns
+    (λ c κs. search needs) (λ c κs. search needs) returns
     -- second_block, hash_block, part-hash-block-start, part-hash-block-end
     (λ c κs. search needs) (λ c. search needs) (λ c. search needs) (λ c. search needs) (λ c. search needs) (λ c κs. search needs)
-    mul-low-bits
-    add-low-bits
+    (λ c. let h = one-byte _ _ (c .hash-block2 .ensures) in omega arith) add-low-bits
     -- low_bits
-    (λ c κs. search needs)
-    returns-2)
+    (λ c κs. search needs) returns-2)

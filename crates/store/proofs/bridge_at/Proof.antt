@@ -10,9 +10,10 @@ add-result : tie.Need-add-result
 add-result c = omega (arith, product-le (c .before .args .capacity) (rowSize (c .before .args .degree)) 4294967295 65536 (omega arith) (omega arith))
 
 pub bridge-at-spec : {M : Type 1} → statement M
-bridge-at-spec = tie.close (tie.spec
+bridge-at-spec =
+    tie.close
+    (tie.spec
     -- bridges_at, result
-    (λ c κs. search needs) (λ c. search needs)
-    add-result
+    (λ c κs. search needs) (λ c. search needs) add-result
     -- the return
     (λ c. search needs))

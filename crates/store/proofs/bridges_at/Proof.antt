@@ -11,14 +11,9 @@ mul-result c = omega (arith, product-le (c .before .before .args .capacity) (c .
 add-result : tie.Need-add-result
 add-result c = omega (arith, product-le (c .before .before .args .capacity) (c .row-size .result) 4294967295 65536 (omega arith) (omega arith))
 
-returns : tie.Need-returns
-returns c = cc
-
 pub bridges-at-spec : {M : Type 1} → statement M
 bridges-at-spec =
-    tie.close (tie.spec
+    tie.close
+    (tie.spec
     -- rows_at, row_size
-    (λ c κs. search needs) (λ c κs. search needs)
-    mul-result
-    add-result
-    returns)
+    (λ c κs. search needs) (λ c κs. search needs) mul-result add-result (λ c. cc))

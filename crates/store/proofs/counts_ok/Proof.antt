@@ -74,15 +74,8 @@ pub counts-ok-spec : {M : Type 1} → statement M
 counts-ok-spec =
     tie.close
     (tie.spec
-    Inv-loop
-    μ-loop
+    Inv-loop μ-loop
     -- row_size
-    (λ c κs. search needs)
-    loop-holds
-    mul-ok
-    shared-slice-read-ok
-    add-at
+    (λ c κs. search needs) loop-holds mul-ok shared-slice-read-ok add-at
     -- i, the loop measure
-    (λ c. search needs) (λ c. search needs)
-    loop-again
-    returns)
+    (λ c. search needs) (λ c. search needs) loop-again returns)

@@ -64,18 +64,10 @@ pub each-row-ok-spec : {M : Type 1} → statement M
 each-row-ok-spec =
     tie.close
     (tie.spec
-    Inv-loop
-    μ-loop
+    Inv-loop μ-loop
     -- row_size
-    (λ c κs. search needs)
-    loop-holds
-    add-end
-    mul-row-ok
+    (λ c κs. search needs) loop-holds add-end mul-row-ok
     -- row_ok, part-row-ok-start
-    (λ c. search needs) (λ c. search needs)
-    part-row-ok-end
-    row-ok-requires
+    (λ c. search needs) (λ c. search needs) part-row-ok-end row-ok-requires
     -- i, the loop measure
-    (λ c. search needs) (λ c. search needs)
-    loop-again
-    returns)
+    (λ c. search needs) (λ c. search needs) loop-again returns)

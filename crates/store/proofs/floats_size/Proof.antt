@@ -8,8 +8,5 @@ use Rattle.store.proofs.floats_size.Tie as tie
 mul-result : tie.Need-mul-result
 mul-result c = omega (arith, product-le (c .args .capacity) (c .args .dimension) 4294967295 4294967295 (omega arith) (omega arith))
 
-returns : tie.Need-returns
-returns c = search needs
-
 pub floats-size-spec : {M : Type 1} → statement M
-floats-size-spec = tie.close (tie.spec mul-result returns)
+floats-size-spec = tie.close (tie.spec mul-result (λ c. search needs))

@@ -59,15 +59,11 @@ pub nodes-by-fours-spec : {M : Type 1} → statement M
 nodes-by-fours-spec =
     tie.close
     (tie.spec
-    Inv-loop
-    μ-loop
+    Inv-loop μ-loop
     -- the rest past the quarters, and the call that tests it
-    (λ c. search needs) (λ c. search needs) (λ c. search needs) (λ c. search needs) (λ c. search needs) (λ c κs. search needs)
-    loop-holds
+    (λ c. search needs) (λ c. search needs) (λ c. search needs) (λ c. search needs) (λ c. search needs) (λ c κs. search needs) loop-holds
     -- the four entries of a turn
     (λ c. search needs) (λ c. search needs) (λ c. search needs) (λ c. search needs) (λ c. search needs) (λ c. search needs) (λ c. search needs)
     (λ c. search needs) (λ c. search needs) (λ c. search needs) (λ c. search needs) (λ c. search needs) (λ c. search needs)
     -- the step, the measure
-    (λ c. search needs) (λ c. search needs)
-    loop-again
-    returns)
+    (λ c. search needs) (λ c. search needs) loop-again returns)

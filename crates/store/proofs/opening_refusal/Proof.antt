@@ -41,17 +41,11 @@ returns : tie.Need-returns
 unfolding opening
 returns c = turned-at 0 (K (c .before .before .before)) tt (lt-ltb _ _ (c .if1 .taken))
 
-header-ok-requires : tie.Need-header-ok-requires
-header-ok-requires c κs = search needs
-
 returns-2 : tie.Need-returns-2
 unfolding opening
 returns-2 c =
     turned-at 1 (K (c .before .before .before .before .before)) (passed-1 (c .before .before))
     (ap not (sym (c .before .header-ok .ensures) ∙ not-true _ (c .if2 .taken)))
-
-too-short-requires : tie.Need-too-short-requires
-too-short-requires c κs = head c
 
 returns-3 : tie.Need-returns-3
 unfolding opening
@@ -78,14 +72,4 @@ returns-5 c =
     (p .0, (p .1 .0, (p .1 .1 .0, (ap not (sym (c .before .rest-ok .ensures) ∙ not-false _ (c .if4 .left)), tt))))
 
 pub opening-refusal-spec : {M : Type 1} → statement M
-opening-refusal-spec =
-    tie.close
-    (tie.spec
-    returns
-    header-ok-requires
-    returns-2
-    too-short-requires
-    returns-3
-    rest-ok-requires
-    returns-4
-    returns-5)
+opening-refusal-spec = tie.close (tie.spec returns (λ c κs. search needs) returns-2 (λ c κs. head c) returns-3 rest-ok-requires returns-4 returns-5)

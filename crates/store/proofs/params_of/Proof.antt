@@ -13,8 +13,7 @@ params-of-spec =
     tie.close
     (tie.spec
     -- word_at, high, low, fraction, f64_from
-    (λ c κs. search needs) (λ c. search needs) (λ c κs. search needs) (λ c. search needs) (λ c. search needs) (λ c. search needs)
-    (λ c κs. search needs) (λ c κs. search needs) (λ c κs. search needs) (λ c κs. search needs) (λ c κs. search needs) (λ c κs. search needs)
+    (λ c κs. search needs) (λ c. search needs) (λ c κs. search needs) (λ c. search needs) (λ c. search needs) (λ c. search needs) (λ c κs. search needs)
+    (λ c κs. search needs) (λ c κs. search needs) (λ c κs. search needs) (λ c κs. search needs) (λ c κs. search needs)
     -- word_at, f32_from
-    (λ c κs. search needs) (λ c κs. search needs) (λ c κs. search needs)
-    returns)
+    (λ c κs. search needs) (λ c κs. search needs) (λ c κs. search needs) returns)

@@ -16,9 +16,6 @@ head s = header (s .args .words .now) (s .pre .0)
 within : (s : tie.Start) → Room (s .args .words .now) (s .args .floats .now)
 within s = room (s .args .words .now) (s .args .floats .now) (head s) (s .pre .1 .0) (s .pre .1 .1)
 
-cast-degree : tie.Need-cast-degree
-cast-degree c = let h = head (c .before .before .before .before .before) in omega arith
-
 rows-ok-requires : tie.Need-rows-ok-requires
 rows-ok-requires c κs =
     let s = c .before .before .before .before .before .before .before .before .before in
@@ -83,15 +80,10 @@ rest-ok-spec =
     tie.close
     (tie.spec
     -- word_at
-    (λ c κs. search needs) (λ c κs. search needs) (λ c κs. search needs)
-    cast-degree
+    (λ c κs. search needs) (λ c κs. search needs) (λ c κs. search needs) (λ c. let h = head (c .before .before .before .before .before) in omega arith)
     -- word_at, floats_size, rows_at
-    (λ c κs. search needs) (λ c κs. search needs) (λ c κs. search needs) (λ c κs. search needs)
-    rows-ok-requires
+    (λ c κs. search needs) (λ c κs. search needs) (λ c κs. search needs) (λ c κs. search needs) rows-ok-requires
     -- bridges_at
-    (λ c κs. search needs)
-    bridges-ok-requires
-    slice-aggregate-all-finite
+    (λ c κs. search needs) bridges-ok-requires slice-aggregate-all-finite
     -- all_finite
-    (λ c κs. search needs)
-    returns)
+    (λ c κs. search needs) returns)

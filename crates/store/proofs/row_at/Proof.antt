@@ -11,15 +11,9 @@ mul-result c = omega (arith, product-le (c .before .before .before .args .node .
 add-result : tie.Need-add-result
 add-result c = omega (arith, product-le (c .before .before .before .args .node .0) (c .row-size .result) 4294967295 65536 (omega (arith, c .before .struct-known .given)) (omega arith))
 
-returns : tie.Need-returns
-returns c = cc
-
 pub row-at-spec : {M : Type 1} → statement M
 row-at-spec =
     tie.close
     (tie.spec
     -- rows_at, result, row_size
-    (λ c κs. search needs) (λ c. search needs) (λ c κs. search needs)
-    mul-result
-    add-result
-    returns)
+    (λ c κs. search needs) (λ c. search needs) (λ c κs. search needs) mul-result add-result (λ c. cc))

@@ -25,8 +25,6 @@ row-ok-spec =
     tie.close
     (tie.spec
     -- count
-    (λ c. search needs)
-    returns
+    (λ c. search needs) returns
     -- end, all_nodes, part-all-nodes-start, part-all-nodes-end
-    (λ c. search needs) (λ c. search needs) (λ c. search needs) (λ c. search needs) (λ c. search needs) (λ c κs. search needs)
-    returns-2)
+    (λ c. search needs) (λ c. search needs) (λ c. search needs) (λ c. search needs) (λ c. search needs) (λ c κs. search needs) returns-2)

@@ -17,15 +17,6 @@ use Rattle.store.proofs.rows_ok.Tie as tie
 fits : (c : tie.After-row-size) → c .before .before .args .from + c .before .before .args .n * c .row-size .result ≤ length (c .before .before .args .words .now)
 fits c = let s = c .before .before in omega (arith, s .pre, ap (λ (k : ℕ). s .args .n * k) (c .row-size .ensures))
 
-mul-end : tie.Need-mul-end
-mul-end c = omega (arith, fits c)
-
-add-end : tie.Need-add-end
-add-end c = omega (arith, fits c)
-
-part-nodes-by-fours-end : tie.Need-part-nodes-by-fours-end
-part-nodes-by-fours-end c = fits (c .before)
-
 returns : tie.Need-returns
 returns c =
     let a = c .before .before .before .before .before .before .args in
@@ -35,23 +26,15 @@ returns c =
     sym (rows-flat (a .degree) (a .n) (rowSize (a .degree)) (a .n) (drop (a .from) (a .words .now)) (sym (c .before .before .before .counts-ok .ensures) ∙ t .0)
     (ap (λ (k : ℕ). every (isNode (a .n)) (take k (drop (a .from) (a .words .now)))) (sym many) ∙ c .before .nodes-by-fours .ensures (t .1)))
 
-returns-2 : tie.Need-returns-2
-returns-2 c = c .each-row-ok .ensures
-
 pub rows-ok-spec : {M : Type 1} → statement M
 rows-ok-spec =
     tie.close
     (tie.spec
     -- row_size
-    (λ c κs. search needs)
-    mul-end
-    add-end
+    (λ c κs. search needs) (λ c. omega (arith, fits c)) (λ c. omega (arith, fits c))
     -- counts_ok, nodes_by_fours, part-nodes-by-fours-start
-    (λ c κs. search needs) (λ c. search needs) (λ c. search needs) (λ c. search needs)
-    part-nodes-by-fours-end
+    (λ c κs. search needs) (λ c. search needs) (λ c. search needs) (λ c. search needs) (λ c. fits (c .before))
     -- nodes_by_fours
-    (λ c κs. search needs)
-    returns
+    (λ c κs. search needs) returns
     -- each_row_ok
-    (λ c κs. search needs)
-    returns-2)
+    (λ c κs. search needs) (λ c. c .each-row-ok .ensures))

@@ -3,11 +3,9 @@ use borrow.Author.Needs.{needs}
 use Rattle.store.proofs.store_short.Statement.{statement}
 use Rattle.store.proofs.store_short.Tie as tie
 
-returns : tie.Need-returns
-returns c = cc
-
 pub store-short-spec : {M : Type 1} → statement M
-store-short-spec = tie.close (tie.spec
+store-short-spec =
+    tie.close
+    (tie.spec
     -- words_size, floats_size
-    (λ c κs. search needs) (λ c κs. search needs)
-    returns)
+    (λ c κs. search needs) (λ c κs. search needs) (λ c. cc))

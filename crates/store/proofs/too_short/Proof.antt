@@ -17,8 +17,6 @@ too-short-spec =
     tie.close
     (tie.spec
     -- word_at
-    (λ c κs. search needs) (λ c κs. search needs)
-    cast-degree
+    (λ c κs. search needs) (λ c κs. search needs) cast-degree
     -- word_at, store_short, scratch_short
-    (λ c κs. search needs) (λ c κs. search needs) (λ c κs. search needs)
-    returns)
+    (λ c κs. search needs) (λ c κs. search needs) (λ c κs. search needs) returns)

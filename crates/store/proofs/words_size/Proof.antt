@@ -13,10 +13,10 @@ add-result-2 : tie.Need-add-result-2
 add-result-2 c = omega (arith, product-le (c .args .capacity) (4 + c .args .degree) 4294967295 65539 (omega arith) (omega arith))
 
 pub words-size-spec : {M : Type 1} → statement M
-words-size-spec = tie.close (tie.spec
+words-size-spec =
+    tie.close
+    (tie.spec
     -- result
-    (λ c. search needs)
-    mul-result
-    add-result-2
+    (λ c. search needs) mul-result add-result-2
     -- the return
     (λ c. search needs))

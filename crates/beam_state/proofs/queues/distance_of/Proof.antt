@@ -32,7 +32,4 @@ distance-of-spec =
     tie.close
     (tie.spec
     -- at, result
-    (λ c. search needs) (λ c. search needs) (λ c. search needs)
-    returns
-    float-from-bits-result
-    returns-2)
+    (λ c. search needs) (λ c. search needs) (λ c. search needs) returns float-from-bits-result returns-2)

@@ -12,7 +12,8 @@ returns c =
     entering (a .node .0) (a .key) (a .tree .now) (at-put .put .last .0) (at-put .put .ensures)
 
 pub enter-spec : {M : Type 1} → statement M
-enter-spec = tie.close (tie.spec
+enter-spec =
+    tie.close
+    (tie.spec
     -- put, lengths stay
-    (λ c κs. search needs) (λ c. search needs)
-    returns)
+    (λ c κs. search needs) (λ c. search needs) returns)

@@ -69,20 +69,14 @@ keep-closest-spec =
     tie.close
     (tie.spec
     -- hold, one more held
-    (λ c κs. search needs) (λ c. search needs)
-    float-from-bits-t15
+    (λ c κs. search needs) (λ c. search needs) float-from-bits-t15
     -- lengths stay
-    (λ c. search needs)
-    returns
+    (λ c. search needs) returns
     -- first
-    (λ c κs. search needs)
-    float-from-bits-t18
+    (λ c κs. search needs) float-from-bits-t18
     -- lengths stay
-    (λ c. search needs)
-    returns-2
+    (λ c. search needs) returns-2
     -- value, hold, worst_of, lengths stay
-    (λ c. search needs) (λ c κs. search needs) (λ c κs. search needs) (λ c κs. search needs) (λ c. search needs)
-    returns-3
+    (λ c. search needs) (λ c κs. search needs) (λ c κs. search needs) (λ c κs. search needs) (λ c. search needs) returns-3
     -- lengths stay
-    (λ c. search needs)
-    returns-4)
+    (λ c. search needs) returns-4)

@@ -22,8 +22,6 @@ pop-spec =
     tie.close
     (tie.spec
     -- first, lengths stay
-    (λ c κs. search needs) (λ c. search needs)
-    returns
+    (λ c κs. search needs) (λ c. search needs) returns
     -- put, distance_of, lengths stay
-    (λ c κs. search needs) (λ c κs. search needs) (λ c. search needs)
-    returns-2)
+    (λ c κs. search needs) (λ c κs. search needs) (λ c. search needs) returns-2)

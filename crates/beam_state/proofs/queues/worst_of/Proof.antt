@@ -28,9 +28,6 @@ worst-of-spec =
     tie.close
     (tie.spec
     -- first
-    (λ c κs. search needs)
-    float-from-bits-result
-    returns
+    (λ c κs. search needs) float-from-bits-result returns
     -- value
-    (λ c. search needs) (λ c κs. search needs)
-    returns-2)
+    (λ c. search needs) (λ c κs. search needs) returns-2)

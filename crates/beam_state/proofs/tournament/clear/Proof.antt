@@ -49,16 +49,4 @@ returns c =
     subst (Tournament (replicate (length t / 4) emptyRank)) (sym (c .before .loop .inv .1 ∙ filled-end {A = ℕ} 0xffff_ffff t (c .before .loop .i) (omega arith))) (all-empty t)
 
 pub clear-spec : {M : Type 1} → statement M
-clear-spec =
-    tie.close
-    (tie.spec
-    Inv-loop
-    μ-loop
-    loop-holds
-    mul-tree
-    slice-write-tree
-    add-i
-    loop-less
-    loop-again
-    same-length
-    returns)
+clear-spec = tie.close (tie.spec Inv-loop μ-loop loop-holds mul-tree slice-write-tree add-i loop-less loop-again same-length returns)

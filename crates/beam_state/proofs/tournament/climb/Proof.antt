@@ -48,18 +48,10 @@ pub climb-spec : {M : Type 1} → statement M
 climb-spec =
     tie.close
     (tie.spec
-    Inv-loop
-    μ-loop
-    loop-holds
-    add-beside
+    Inv-loop μ-loop loop-holds add-beside
     -- beside
-    (λ c. search needs) (λ c. search needs)
-    rank-at-requires
+    (λ c. search needs) (λ c. search needs) rank-at-requires
     -- lesser_u64
-    (λ c κs. search needs)
-    lay-requires
+    (λ c κs. search needs) lay-requires
     -- the loop measure
-    (λ c. search needs)
-    loop-again
-    same-length
-    returns)
+    (λ c. search needs) loop-again same-length returns)

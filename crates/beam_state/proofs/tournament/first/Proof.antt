@@ -16,8 +16,9 @@ unfolding firstOf
 returns-2 c = sym (pick-false _ _ (le-ltb _ _ (c .before .before .if1 .left)))
 
 pub first-spec : {M : Type 1} → statement M
-first-spec = tie.close (tie.spec
+first-spec =
+    tie.close
+    (tie.spec
     returns
     -- indexes
-    (λ c. search needs) (λ c. search needs)
-    returns-2)
+    (λ c. search needs) (λ c. search needs) returns-2)

@@ -40,7 +40,4 @@ put-spec =
     tie.close
     (tie.spec
     -- the return, p, rank, lay
-    (λ c. search needs) (λ c. search needs) (λ c κs. search needs) (λ c κs. search needs)
-    climb-requires
-    same-length
-    returns-2)
+    (λ c. search needs) (λ c. search needs) (λ c κs. search needs) (λ c κs. search needs) climb-requires same-length returns-2)

@@ -30,12 +30,6 @@ pub candidates-at-spec : {M : Type 1} → statement M
 candidates-at-spec =
     tie.close
     (tie.spec
-    returns
-    returns-2
-    returns-3
-    returns-4
-    returns-5
-    returns-6
-    returns-7
+    returns returns-2 returns-3 returns-4 returns-5 returns-6 returns-7
     -- candidates_within, the return, lengths stay
     (λ c κs. search needs) (λ c. search needs) (λ c. search needs) (λ c. search needs))

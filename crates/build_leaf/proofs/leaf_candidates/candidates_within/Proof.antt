@@ -6,12 +6,6 @@ use borrow.Author.Needs.{needs}
 use Rattle.build_leaf.proofs.leaf_candidates.candidates_within.Statement.{statement}
 use Rattle.build_leaf.proofs.leaf_candidates.candidates_within.Tie as tie
 
-slice-aggregate-nearest : tie.Need-slice-aggregate-nearest
-slice-aggregate-nearest c = simp length-take (omega arith)
-
-slice-aggregate-nearest-2 : tie.Need-slice-aggregate-nearest-2
-slice-aggregate-nearest-2 c = simp length-take (omega arith)
-
 array-share-prefix-places : tie.Need-array-share-prefix-places
 array-share-prefix-places c =
     let n = c .before .before .nearest in
@@ -52,16 +46,10 @@ candidates-within-spec =
     tie.close
     (tie.spec
     -- lesser, most, array-borrow-prefix-keys
-    (λ c. search needs) (λ c κs. search needs) (λ c. search needs) (λ c. search needs)
-    slice-aggregate-nearest
+    (λ c. search needs) (λ c κs. search needs) (λ c. search needs) (λ c. search needs) (λ c. simp length-take (omega arith))
     -- array-borrow-prefix-places
-    (λ c. search needs)
-    slice-aggregate-nearest-2
+    (λ c. search needs) (λ c. simp length-take (omega arith))
     -- nearest
-    (λ c κs. search needs)
-    array-share-prefix-places
-    slice-aggregate-gather
-    gather-requires
+    (λ c κs. search needs) array-share-prefix-places slice-aggregate-gather gather-requires
     -- lengths stay
-    (λ c. search needs) (λ c. search needs)
-    returns)
+    (λ c. search needs) (λ c. search needs) returns)

@@ -84,20 +84,6 @@ pub gather-spec : {M : Type 1} → statement M
 gather-spec =
     tie.close
     (tie.spec
-    Inv-loop
-    μ-loop
-    loop-holds
-    (λ c. search needs) (λ c. search needs)
-    cast-place
-    mul-candidates
-    shared-slice-read-candidates
-    (λ c. search needs) (λ c. search needs)
-    mul-far
-    add-far
-    mul-far-2
-    shared-slice-read-far
-    (λ c. search needs) (λ c. search needs) (λ c. search needs) (λ c. search needs)
-    loop-again
-    same-length
-    same-length-2
-    returns)
+    Inv-loop μ-loop loop-holds (λ c. search needs) (λ c. search needs) cast-place mul-candidates shared-slice-read-candidates (λ c. search needs)
+    (λ c. search needs) mul-far add-far mul-far-2 shared-slice-read-far (λ c. search needs) (λ c. search needs) (λ c. search needs) (λ c. search needs)
+    loop-again same-length same-length-2 returns)

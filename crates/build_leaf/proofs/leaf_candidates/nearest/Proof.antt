@@ -20,5 +20,4 @@ nearest-spec =
     tie.close
     (tie.spec
     -- offer, lengths stay
-    (λ c κs. search needs) (λ c. search needs) (λ c κs. search needs) (λ c. search needs) (λ c. search needs)
-    returns)
+    (λ c κs. search needs) (λ c. search needs) (λ c κs. search needs) (λ c. search needs) (λ c. search needs) returns)

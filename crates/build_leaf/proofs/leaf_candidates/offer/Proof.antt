@@ -65,19 +65,8 @@ pub offer-spec : {M : Type 1} → statement M
 offer-spec =
     tie.close
     (tie.spec
-    Inv-loop
-    μ-loop
-    loop-holds
-    mul-key
-    add-key
-    mul-key-2
-    shared-slice-read-key
+    Inv-loop μ-loop loop-holds mul-key add-key mul-key-2 shared-slice-read-key
     -- key
-    (λ c κs. search needs)
-    cast-keep-first
+    (λ c κs. search needs) cast-keep-first
     -- keep_first, j, the loop measure
-    (λ c κs. search needs) (λ c. search needs) (λ c. search needs)
-    loop-again
-    same-length
-    same-length-2
-    returns)
+    (λ c κs. search needs) (λ c. search needs) (λ c. search needs) loop-again same-length same-length-2 returns)

@@ -58,16 +58,8 @@ pub distance-rows-spec : {M : Type 1} → statement M
 distance-rows-spec =
     tie.close
     (tie.spec
-    Inv-loop
-    μ-loop
-    loop-holds
+    Inv-loop μ-loop loop-holds
     -- get_vector
-    (λ c. search needs) (λ c. search needs) (λ c κs. search needs)
-    cosine-distance-normalized-block-requires
-    put-eight-requires
-    add-at
+    (λ c. search needs) (λ c. search needs) (λ c κs. search needs) cosine-distance-normalized-block-requires put-eight-requires add-at
     -- j, the loop measure
-    (λ c. search needs) (λ c. search needs)
-    loop-again
-    same-length
-    returns)
+    (λ c. search needs) (λ c. search needs) loop-again same-length returns)

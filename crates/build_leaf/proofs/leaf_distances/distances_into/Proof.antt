@@ -25,18 +25,6 @@ joined vectors d leaf first turned rest room floats e t filled =
 returns : tie.Need-returns
 returns c = λ few inside fits below. absurd (omega arith)
 
-returns-2 : tie.Need-returns-2
-returns-2 c = λ few inside fits below. absurd (omega arith)
-
-returns-3 : tie.Need-returns-3
-returns-3 c = λ few inside fits below. absurd (omega arith)
-
-slice-aggregate-turn-block : tie.Need-slice-aggregate-turn-block
-slice-aggregate-turn-block c = simp length-take (omega arith)
-
-turn-block-requires : tie.Need-turn-block-requires
-turn-block-requires c κs = (omega arith, simp length-take (omega arith))
-
 array-share-prefix-block : tie.Need-array-share-prefix-block
 array-share-prefix-block c =
     let k = simp length-take at (c .before .turn-block .kept .1 .1 .1 .1 .0) in
@@ -46,9 +34,6 @@ slice-aggregate-distance-rows : tie.Need-slice-aggregate-distance-rows
 slice-aggregate-distance-rows c =
     let k = simp length-take at (c .before .before .turn-block .kept .1 .1 .1 .1 .0) in
     simp (length-take, length-append, length-drop) (omega (arith, k))
-
-distance-rows-requires : tie.Need-distance-rows-requires
-distance-rows-requires c κs = omega arith
 
 returns-4 : tie.Need-returns-4
 returns-4 c =
@@ -61,16 +46,9 @@ pub distances-into-spec : {M : Type 1} → statement M
 distances-into-spec =
     tie.close
     (tie.spec
-    returns
-    returns-2
-    returns-3
+    returns (λ c. λ few inside fits below. absurd (omega arith)) (λ c. λ few inside fits below. absurd (omega arith))
     -- width, array-borrow-prefix-block
-    (λ c. search needs) (λ c. search needs)
-    slice-aggregate-turn-block
-    turn-block-requires
-    array-share-prefix-block
-    slice-aggregate-distance-rows
-    distance-rows-requires
+    (λ c. search needs) (λ c. search needs) (λ c. simp length-take (omega arith)) (λ c κs. (omega arith, simp length-take (omega arith)))
+    array-share-prefix-block slice-aggregate-distance-rows (λ c κs. omega arith)
     -- lengths stay
-    (λ c. search needs)
-    returns-4)
+    (λ c. search needs) returns-4)

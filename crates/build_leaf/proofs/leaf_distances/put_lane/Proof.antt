@@ -48,16 +48,8 @@ pub put-lane-spec : {M : Type 1} → statement M
 put-lane-spec =
     tie.close
     (tie.spec
-    Inv-loop
-    μ-loop
-    loop-holds
+    Inv-loop μ-loop loop-holds
     -- block
-    (λ c. search needs) (λ c. search needs)
-    mul-block-2
-    slice-write-block
-    add-at
+    (λ c. search needs) (λ c. search needs) mul-block-2 slice-write-block add-at
     -- c, the loop measure
-    (λ c. search needs) (λ c. search needs)
-    loop-again
-    same-length
-    returns)
+    (λ c. search needs) (λ c. search needs) loop-again same-length returns)

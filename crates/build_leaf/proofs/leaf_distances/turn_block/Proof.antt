@@ -49,16 +49,10 @@ pub turn-block-spec : {M : Type 1} → statement M
 turn-block-spec =
     tie.close
     (tie.spec
-    Inv-loop
-    μ-loop
+    Inv-loop μ-loop
     -- last
-    (λ c. search needs)
-    loop-holds
+    (λ c. search needs) loop-holds
     -- lesser, get_vector
-    (λ c. search needs) (λ c κs. search needs) (λ c. search needs) (λ c. search needs) (λ c κs. search needs)
-    put-lane-requires
+    (λ c. search needs) (λ c κs. search needs) (λ c. search needs) (λ c. search needs) (λ c κs. search needs) put-lane-requires
     -- g, the loop measure
-    (λ c. search needs) (λ c. search needs)
-    loop-again
-    same-length
-    returns)
+    (λ c. search needs) (λ c. search needs) loop-again same-length returns)

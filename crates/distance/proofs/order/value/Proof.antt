@@ -18,10 +18,9 @@ returns-2 c = c .f32-from2 .ensures ∙ ap (ofBits binary32) (sym (pick-false _ 
 
 pub value-spec : {M : Type 1} → statement M
 value-spec =
-    tie.close (tie.spec
+    tie.close
+    (tie.spec
     -- f32_from
-    (λ c κs. search needs)
-    returns
+    (λ c κs. search needs) returns
     -- f32_from
-    (λ c. search needs) (λ c κs. search needs)
-    returns-2)
+    (λ c. search needs) (λ c κs. search needs) returns-2)

@@ -36,12 +36,8 @@ get-vector-spec =
     tie.close
     (tie.spec
     -- at
-    (λ c. search needs)
-    mul-at
-    add-end
+    (λ c. search needs) mul-at add-end
     -- result, part-result-start, part-result-end
-    (λ c. search needs) (λ c. search needs) (λ c. search needs) (λ c. search needs)
-    returns
+    (λ c. search needs) (λ c. search needs) (λ c. search needs) (λ c. search needs) returns
     -- result, part-result-start, part-result-end
-    (λ c. search needs) (λ c. search needs) (λ c. search needs) (λ c. search needs)
-    returns-2)
+    (λ c. search needs) (λ c. search needs) (λ c. search needs) (λ c. search needs) returns-2)

@@ -24,9 +24,6 @@ unfolding centroidOf
 nothing [] vs e = sym (ap (map (λ (s : Float). div binary32 s (ofInt binary32 (pos (length vs))))) (no-sums vs))
 nothing (x ∷ out) vs e = absurd (omega arith)
 
-returns : tie.Need-returns
-returns c = nothing (c .before .before .before .args .out .now) _ (c .if1 .taken)
-
 mean-requires : tie.Need-mean-requires
 mean-requires c κs =
     let x = c .before .before .before .before .before .args in
@@ -41,11 +38,10 @@ returns-2 c =
 
 pub centroid-spec : {M : Type 1} → statement M
 centroid-spec =
-    tie.close (tie.spec
-    returns
+    tie.close
+    (tie.spec
+    (λ c. nothing (c .before .before .before .args .out .now) _ (c .if1 .taken))
     -- lesser
-    (λ c. search needs) (λ c κs. search needs)
-    mean-requires
+    (λ c. search needs) (λ c κs. search needs) mean-requires
     -- lengths stay
-    (λ c. search needs)
-    returns-2)
+    (λ c. search needs) returns-2)

@@ -61,11 +61,8 @@ compute-medoid-spec =
     tie.close
     (tie.spec
     -- centroid, lengths stay
-    (λ c κs. search needs) (λ c. search needs)
-    returns
+    (λ c κs. search needs) (λ c. search needs) returns
     -- lesser, nearest_row
-    (λ c. search needs) (λ c κs. search needs) (λ c. search needs)
-    nearest-row-requires
+    (λ c. search needs) (λ c κs. search needs) (λ c. search needs) nearest-row-requires
     -- lengths stay
-    (λ c. search needs)
-    returns-2)
+    (λ c. search needs) returns-2)

@@ -57,9 +57,6 @@ mean-spec =
     tie.close
     (tie.spec
     -- clear_floats
-    (λ c κs. search needs)
-    sum-rows-requires
-    int-to-float-divide
+    (λ c κs. search needs) sum-rows-requires int-to-float-divide
     -- divide, lengths stay
-    (λ c κs. search needs) (λ c. search needs)
-    returns)
+    (λ c κs. search needs) (λ c. search needs) returns)

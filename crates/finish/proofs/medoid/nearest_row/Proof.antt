@@ -63,14 +63,5 @@ pub nearest-row-spec : {M : Type 1} → statement M
 nearest-row-spec =
     tie.close
     (tie.spec
-    Inv-loop
-    μ-loop
-    float-from-bits-t9
-    loop-holds
-    add-end
-    mul-cosine-distance-normalized
-    (λ c. search needs) (λ c. search needs)
-    part-cosine-distance-normalized-end
-    (λ c κs. search needs) (λ c κs. search needs) (λ c. search needs) (λ c. search needs)
-    loop-again
-    returns)
+    Inv-loop μ-loop float-from-bits-t9 loop-holds add-end mul-cosine-distance-normalized (λ c. search needs) (λ c. search needs)
+    part-cosine-distance-normalized-end (λ c κs. search needs) (λ c κs. search needs) (λ c. search needs) (λ c. search needs) loop-again returns)

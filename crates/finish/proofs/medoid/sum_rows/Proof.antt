@@ -68,16 +68,5 @@ pub sum-rows-spec : {M : Type 1} → statement M
 sum-rows-spec =
     tie.close
     (tie.spec
-    Inv-loop
-    μ-loop
-    loop-holds
-    add-end
-    mul-add-row
-    (λ c. search needs)
-    part-add-row-start
-    part-add-row-end
-    add-row-requires
-    (λ c. search needs) (λ c. search needs)
-    loop-again
-    same-length
-    returns)
+    Inv-loop μ-loop loop-holds add-end mul-add-row (λ c. search needs) part-add-row-start part-add-row-end add-row-requires (λ c. search needs)
+    (λ c. search needs) loop-again same-length returns)

@@ -17,9 +17,6 @@ add-end c = omega (arith, place-fits (c .before .before .args .nb .0) (1 + c .be
 returns : tie.Need-returns
 returns c = let x = c .before .before .before .args in back-none (x .degree) (x .node .0) (x .nb .0) (x .rows .now) (c .if1 .taken)
 
-add-entry-requires : tie.Need-add-entry-requires
-add-entry-requires c κs = simp (length-take, length-drop) (omega arith)
-
 returns-2 : tie.Need-returns-2
 returns-2 c =
     let x = c .before .before .before .before .before .before .before .args in
@@ -32,13 +29,8 @@ add-back-spec =
     tie.close
     (tie.spec
     -- size, at
-    (λ c. search needs) (λ c. search needs)
-    mul-at
-    add-end
-    returns
+    (λ c. search needs) (λ c. search needs) mul-at add-end returns
     -- add_entry, part-add-entry-start, part-add-entry-end
-    (λ c. search needs) (λ c. search needs) (λ c. search needs) (λ c. search needs)
-    add-entry-requires
+    (λ c. search needs) (λ c. search needs) (λ c. search needs) (λ c. search needs) (λ c κs. simp (length-take, length-drop) (omega arith))
     -- lengths stay
-    (λ c. search needs)
-    returns-2)
+    (λ c. search needs) returns-2)

@@ -45,13 +45,8 @@ pub add-backs-spec : {M : Type 1} → statement M
 add-backs-spec =
     tie.close
     (tie.spec
-    Inv-loop
-    μ-loop
+    Inv-loop μ-loop
     -- row_of
-    (λ c κs. search needs)
-    loop-holds
+    (λ c κs. search needs) loop-holds
     -- entry_of, add_back, e, the loop measure
-    (λ c κs. search needs) (λ c κs. search needs) (λ c. search needs) (λ c. search needs)
-    loop-again
-    same-length
-    returns)
+    (λ c κs. search needs) (λ c κs. search needs) (λ c. search needs) (λ c. search needs) loop-again same-length returns)

@@ -16,28 +16,10 @@ use Rattle.finish.proofs.reverse_edges.add_entry.Tie as tie
 found : (node : ℕ) (ws : List ℕ) (r : Bool) → r ≡ has node (take (1 + getD ws 0 0 - 1) (drop 1 ws)) → r ≡ has node (take (getD ws 0 0) (drop 1 ws))
 found node ws r e = let k : 1 + getD ws 0 0 - 1 ≡ getD ws 0 0 = omega arith in e ∙ ap (λ (m : ℕ). has node (take m (drop 1 ws))) k
 
-returns : tie.Need-returns
-returns c = entry-full _ _ (omega arith)
-
-cast-last : tie.Need-cast-last
-cast-last c = omega (arith, c .slice-known2 .given 0)
-
-add-last : tie.Need-add-last
-add-last c = omega (arith, c .slice-known2 .given 0)
-
-returns-2 : tie.Need-returns-2
-returns-2 c = entry-full _ _ (c .if2 .taken)
-
 returns-3 : tie.Need-returns-3
 returns-3 c =
     let x = c .before .before .before .before .before .before .before .before .args in
     entry-had (x .node) (x .row .now) (sym (found (x .node) (x .row .now) (c .before .has-node .result) (c .before .has-node .ensures)) ∙ c .if3 .taken)
-
-cast-row : tie.Need-cast-row
-cast-row c = omega arith
-
-slice-write-row-2 : tie.Need-slice-write-row-2
-slice-write-row-2 c = simp length-set (omega arith)
 
 returns-4 : tie.Need-returns-4
 returns-4 c =
@@ -48,19 +30,13 @@ pub add-entry-spec : {M : Type 1} → statement M
 add-entry-spec =
     tie.close
     (tie.spec
-    returns
+    (λ c. entry-full _ _ (omega arith))
     -- count
-    (λ c. search needs)
-    cast-last
-    add-last
-    returns-2
+    (λ c. search needs) (λ c. omega (arith, c .slice-known2 .given 0)) (λ c. omega (arith, c .slice-known2 .given 0))
+    (λ c. entry-full _ _ (c .if2 .taken))
     -- has_node, part-has-node-start, part-has-node-end, lengths stay
-    (λ c. search needs) (λ c. search needs) (λ c. search needs) (λ c. search needs) (λ c κs. search needs) (λ c. search needs)
-    returns-3
+    (λ c. search needs) (λ c. search needs) (λ c. search needs) (λ c. search needs) (λ c κs. search needs) (λ c. search needs) returns-3
     -- row
-    (λ c. search needs) (λ c. search needs)
-    cast-row
-    slice-write-row-2
+    (λ c. search needs) (λ c. search needs) (λ c. omega arith) (λ c. simp length-set (omega arith))
     -- lengths stay
-    (λ c. search needs)
-    returns-4)
+    (λ c. search needs) returns-4)

@@ -41,13 +41,8 @@ pub add-reverse-edges-spec : {M : Type 1} → statement M
 add-reverse-edges-spec =
     tie.close
     (tie.spec
-    Inv-loop
-    μ-loop
+    Inv-loop μ-loop
     -- size, lesser, n
-    (λ c. search needs) (λ c. search needs) (λ c κs. search needs) (λ c. search needs)
-    loop-holds
+    (λ c. search needs) (λ c. search needs) (λ c κs. search needs) (λ c. search needs) loop-holds
     -- add_backs, i, the loop measure
-    (λ c κs. search needs) (λ c. search needs) (λ c. search needs)
-    loop-again
-    same-length
-    returns)
+    (λ c κs. search needs) (λ c. search needs) (λ c. search needs) loop-again same-length returns)

@@ -48,13 +48,8 @@ pub has-node-spec : {M : Type 1} → statement M
 has-node-spec =
     tie.close
     (tie.spec
-    Inv-loop
-    μ-loop
-    loop-holds
+    Inv-loop μ-loop loop-holds
     -- if1
-    (λ c. search needs) (λ c. search needs)
-    returns
+    (λ c. search needs) (λ c. search needs) returns
     -- i, the loop measure
-    (λ c. search needs) (λ c. search needs)
-    loop-again
-    returns-2)
+    (λ c. search needs) (λ c. search needs) loop-again returns-2)

@@ -6,16 +6,12 @@ use borrow.Author.Needs.{needs}
 use Rattle.graph_histories.proofs.leaf_histories.carve.Statement.{statement}
 use Rattle.graph_histories.proofs.leaf_histories.carve.Tie as tie
 
-slice-aggregate-partition : tie.Need-slice-aggregate-partition
-slice-aggregate-partition c = sym (length-take-le _ _ (omega arith))
-
 pub carve-spec : {M : Type 1} → statement M
 carve-spec =
     tie.close
     (tie.spec
     -- word, lesser, token, f64_from, slice-relend-prefix-partition
     (λ c κs. search needs) (λ c. search needs) (λ c. search needs) (λ c κs. search needs) (λ c κs. search needs) (λ c κs. search needs)
-    (λ c κs. search needs) (λ c κs. search needs) (λ c κs. search needs) (λ c. search needs)
-    slice-aggregate-partition
+    (λ c κs. search needs) (λ c κs. search needs) (λ c κs. search needs) (λ c. search needs) (λ c. sym (length-take-le _ _ (omega arith)))
     -- partition, result, the return, lengths stay
     (λ c κs. search needs) (λ c. search needs) (λ c. search needs) (λ c. search needs))

@@ -18,8 +18,7 @@ pub generate-all-spec : {M : Type 1} → statement M
 generate-all-spec =
     tie.close
     (tie.spec
-    Inv-loop
-    μ-loop
+    Inv-loop μ-loop
     -- the loop begins, if1, the return, end, generate, part-generate-start, lengths stay
     (λ c. search needs) (λ c. search needs) (λ c. search needs) (λ c. search needs) (λ c. search needs) (λ c. search needs) (λ c. search needs)
     (λ c. search needs)

@@ -16,8 +16,7 @@ pub leaves-are-same-spec : {M : Type 1} → statement M
 leaves-are-same-spec =
     tie.close
     (tie.spec
-    Inv-loop
-    μ-loop
+    Inv-loop μ-loop
     -- sizes_at, size, lesser, the loop begins, compare_leaf, i, the loop measure
     (λ c κs. search needs) (λ c κs. search needs) (λ c κs. search needs) (λ c. search needs) (λ c κs. search needs) (λ c. search needs)
     (λ c. search needs)

@@ -16,8 +16,7 @@ pub sum-leaves-spec : {M : Type 1} → statement M
 sum-leaves-spec =
     tie.close
     (tie.spec
-    Inv-loop
-    μ-loop
+    Inv-loop μ-loop
     -- the loop begins, wrapping_add_usize, word_at, sum_on, sum_part, leaf, the loop measure
     (λ c. search needs) (λ c κs. search needs) (λ c κs. search needs) (λ c κs. search needs) (λ c. search needs) (λ c κs. search needs)
     (λ c. search needs) (λ c κs. search needs) (λ c. search needs) (λ c. search needs)

@@ -82,13 +82,8 @@ pub around-list-spec : {M : Type 1} → statement M
 around-list-spec =
     tie.close
     (tie.spec
-    Inv-loop
-    μ-loop
+    Inv-loop μ-loop
     -- row_of, list_start
-    (λ c κs. search needs) (λ c κs. search needs)
-    loop-holds
+    (λ c κs. search needs) (λ c κs. search needs) loop-holds
     -- has_entry, list_entry, consider_around, list_next
-    (λ c κs. search needs) (λ c κs. search needs) (λ c κs. search needs) (λ c κs. search needs)
-    loop-less
-    loop-again
-    returns)
+    (λ c κs. search needs) (λ c κs. search needs) (λ c κs. search needs) (λ c κs. search needs) loop-less loop-again returns)

@@ -30,5 +30,4 @@ bridge-start-spec =
     tie.close
     (tie.spec
     -- get_vector, cosine_distance_normalized, around_list
-    (λ c κs. search needs) (λ c κs. search needs) (λ c κs. search needs) (λ c κs. search needs) (λ c κs. search needs)
-    returns)
+    (λ c κs. search needs) (λ c κs. search needs) (λ c κs. search needs) (λ c κs. search needs) (λ c κs. search needs) returns)

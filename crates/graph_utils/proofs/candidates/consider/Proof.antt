@@ -47,9 +47,6 @@ consider-spec =
     tie.close
     (tie.spec
     -- word_at
-    (λ c. search needs) (λ c κs. search needs)
-    returns
+    (λ c. search needs) (λ c κs. search needs) returns
     -- get_vector, cosine_distance_normalized
-    (λ c κs. search needs) (λ c κs. search needs)
-    returns-2
-    returns-3)
+    (λ c κs. search needs) (λ c κs. search needs) returns-2 returns-3)

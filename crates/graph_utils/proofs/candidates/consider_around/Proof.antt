@@ -30,8 +30,6 @@ consider-around-spec =
     tie.close
     (tie.spec
     -- consider, consider_list
-    (λ c κs. search needs) (λ c κs. search needs)
-    returns
+    (λ c κs. search needs) (λ c κs. search needs) returns
     -- consider_list
-    (λ c κs. search needs)
-    returns-2)
+    (λ c κs. search needs) returns-2)

@@ -80,13 +80,8 @@ pub consider-list-spec : {M : Type 1} → statement M
 consider-list-spec =
     tie.close
     (tie.spec
-    Inv-loop
-    μ-loop
+    Inv-loop μ-loop
     -- row_of, list_start
-    (λ c κs. search needs) (λ c κs. search needs)
-    loop-holds
+    (λ c κs. search needs) (λ c κs. search needs) loop-holds
     -- has_entry, list_entry, consider, list_next
-    (λ c κs. search needs) (λ c κs. search needs) (λ c κs. search needs) (λ c κs. search needs)
-    loop-less
-    loop-again
-    returns)
+    (λ c κs. search needs) (λ c κs. search needs) (λ c κs. search needs) (λ c κs. search needs) loop-less loop-again returns)

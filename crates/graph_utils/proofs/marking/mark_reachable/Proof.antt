@@ -87,20 +87,10 @@ pub mark-reachable-spec : {M : Type 1} → statement M
 mark-reachable-spec =
     tie.close
     (tie.spec
-    Inv-loop
-    μ-loop
+    Inv-loop μ-loop
     -- visit
-    (λ c κs. search needs)
-    loop-holds
-    sub-top
-    sub-more
+    (λ c κs. search needs) loop-holds sub-top sub-more
     -- n
-    (λ c. search needs)
-    cast-word-at-2
-    add-word-at
+    (λ c. search needs) cast-word-at-2 add-word-at
     -- word_at, visit_list
-    (λ c κs. search needs) (λ c κs. search needs)
-    loop-less
-    loop-again
-    same-length
-    returns)
+    (λ c κs. search needs) (λ c κs. search needs) loop-less loop-again same-length returns)

@@ -39,11 +39,8 @@ visit-spec =
     tie.close
     (tie.spec
     -- word_at, put_word
-    (λ c κs. search needs) (λ c κs. search needs) (λ c. search needs) (λ c κs. search needs)
-    add-result
+    (λ c κs. search needs) (λ c κs. search needs) (λ c. search needs) (λ c κs. search needs) add-result
     -- lengths stay
-    (λ c. search needs)
-    returns
+    (λ c. search needs) returns
     -- lengths stay
-    (λ c. search needs)
-    returns-2)
+    (λ c. search needs) returns-2)

@@ -83,14 +83,8 @@ pub visit-list-spec : {M : Type 1} → statement M
 visit-list-spec =
     tie.close
     (tie.spec
-    Inv-loop
-    μ-loop
+    Inv-loop μ-loop
     -- row_of, list_start
-    (λ c κs. search needs) (λ c κs. search needs)
-    loop-holds
+    (λ c κs. search needs) (λ c κs. search needs) loop-holds
     -- has_entry, list_entry, visit, list_next
-    (λ c κs. search needs) (λ c κs. search needs) (λ c κs. search needs) (λ c κs. search needs)
-    loop-less
-    loop-again
-    same-length
-    returns)
+    (λ c κs. search needs) (λ c κs. search needs) (λ c κs. search needs) (λ c κs. search needs) loop-less loop-again same-length returns)

@@ -34,8 +34,7 @@ append-slot-spec =
     tie.close
     (tie.spec
     -- word_at, link_place, put_word
-    (λ c. search needs) (λ c. search needs) (λ c κs. search needs) (λ c κs. search needs) (λ c. search needs) (λ c κs. search needs)
-    (λ c. search needs) (λ c. search needs) (λ c κs. search needs) (λ c. search needs) (λ c. search needs) (λ c. search needs)
+    (λ c. search needs) (λ c. search needs) (λ c κs. search needs) (λ c κs. search needs) (λ c. search needs) (λ c κs. search needs) (λ c. search needs)
+    (λ c. search needs) (λ c κs. search needs) (λ c. search needs) (λ c. search needs) (λ c. search needs)
     -- put_word, lengths stay
-    (λ c κs. search needs) (λ c. search needs)
-    returns)
+    (λ c κs. search needs) (λ c. search needs) returns)

@@ -36,8 +36,6 @@ chain-bridge-spec =
     (tie.spec
     returns
     -- append_slot, lengths stay
-    (λ c. search needs) (λ c κs. search needs) (λ c. search needs)
-    returns-2
+    (λ c. search needs) (λ c κs. search needs) (λ c. search needs) returns-2
     -- append_slot, lengths stay
-    (λ c. search needs) (λ c. search needs) (λ c κs. search needs) (λ c. search needs)
-    returns-3)
+    (λ c. search needs) (λ c. search needs) (λ c κs. search needs) (λ c. search needs) returns-3)

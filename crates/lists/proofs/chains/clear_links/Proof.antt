@@ -40,5 +40,4 @@ clear-links-spec =
     (tie.spec
     -- lesser, clear_words, part-clear-words-start, part-clear-words-end, lengths stay
     (λ c. search needs) (λ c κs. search needs) (λ c. search needs) (λ c. search needs) (λ c. search needs) (λ c. search needs) (λ c κs. search needs)
-    (λ c. search needs)
-    returns)
+    (λ c. search needs) returns)

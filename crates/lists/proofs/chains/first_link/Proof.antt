@@ -26,8 +26,8 @@ returns-2 c =
     sym (pick-false (w .result) 0 (lt-leb (2 * a .n + w .result) (length (a .links .now)) (omega arith))) ∙ ap (λ (x : ℕ). pick (leb (2 * a .n + x) (length (a .links .now))) x 0) (w .ensures)
 
 pub first-link-spec : {M : Type 1} → statement M
-first-link-spec = tie.close (tie.spec
+first-link-spec =
+    tie.close
+    (tie.spec
     -- word_at, if1
-    (λ c. search needs) (λ c κs. search needs) (λ c. search needs) (λ c. search needs) (λ c. search needs)
-    returns
-    returns-2)
+    (λ c. search needs) (λ c κs. search needs) (λ c. search needs) (λ c. search needs) (λ c. search needs) returns returns-2)

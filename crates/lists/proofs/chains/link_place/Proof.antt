@@ -9,14 +9,11 @@ use Rattle.lists.proofs.chains.link_place.Tie as tie
 returns : tie.Need-returns
 returns c = let a = c .before .before .args in sym (pick-true _ _ (eq-eqb (a .tail) 0 (c .before .if1 .taken)))
 
-returns-2 : tie.Need-returns-2
-returns-2 c = let a = c .before .args in sym (pick-false _ _ (ne-eqb (a .tail) 0 (c .if1 .left)))
-
 pub link-place-spec : {M : Type 1} → statement M
-link-place-spec = tie.close (tie.spec
+link-place-spec =
+    tie.close
+    (tie.spec
     -- result
-    (λ c. search needs)
-    returns
+    (λ c. search needs) returns
     -- result
-    (λ c. search needs) (λ c. search needs) (λ c. search needs)
-    returns-2)
+    (λ c. search needs) (λ c. search needs) (λ c. search needs) (λ c. let a = c .before .args in sym (pick-false _ _ (ne-eqb (a .tail) 0 (c .if1 .left)))))

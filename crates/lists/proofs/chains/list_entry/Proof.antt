@@ -22,10 +22,9 @@ returns-2 c =
 
 pub list-entry-spec : {M : Type 1} → statement M
 list-entry-spec =
-    tie.close (tie.spec
+    tie.close
+    (tie.spec
     -- row
-    (λ c. search needs) (λ c. search needs)
-    returns
+    (λ c. search needs) (λ c. search needs) returns
     -- other_end
-    (λ c κs. search needs)
-    returns-2)
+    (λ c κs. search needs) returns-2)

@@ -22,10 +22,9 @@ returns-2 c =
 
 pub list-next-spec : {M : Type 1} → statement M
 list-next-spec =
-    tie.close (tie.spec
+    tie.close
+    (tie.spec
     -- index
-    (λ c. search needs)
-    returns
+    (λ c. search needs) returns
     -- next_link
-    (λ c κs. search needs)
-    returns-2)
+    (λ c κs. search needs) returns-2)

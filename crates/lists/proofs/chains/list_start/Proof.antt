@@ -5,12 +5,9 @@ use borrow.Author.Needs.{needs}
 use Rattle.lists.proofs.chains.list_start.Statement.{statement}
 use Rattle.lists.proofs.chains.list_start.Tie as tie
 
-returns : tie.Need-returns
-returns c = ap (cursorAt 0) (c .first-link .ensures)
-
 pub list-start-spec : {M : Type 1} → statement M
 list-start-spec =
-    tie.close (tie.spec
+    tie.close
+    (tie.spec
     -- first_link
-    (λ c κs. search needs)
-    returns)
+    (λ c κs. search needs) (λ c. ap (cursorAt 0) (c .first-link .ensures)))

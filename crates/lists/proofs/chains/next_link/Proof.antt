@@ -19,16 +19,10 @@ chosen c =
     ap (λ (x : ℕ). pick (ltb (a .link) x && leb (2 * a .n + x) (length (a .links .now))) x 0)
     (c .word-at .ensures ∙ ap (λ (k : ℕ). getD (a .links .now) k 0) (c .before .before2 .ensures))
 
-returns : tie.Need-returns
-returns c = sym (pick-true (c .before .word-at .result) 0 (c .if1 .taken)) ∙ chosen (c .before)
-
-returns-2 : tie.Need-returns-2
-returns-2 c = sym (pick-false (c .before .word-at .result) 0 (c .if1 .left)) ∙ chosen (c .before)
-
 pub next-link-spec : {M : Type 1} → statement M
 next-link-spec =
     tie.close
     (tie.spec
     (λ c. search needs) (λ c. search needs) (λ c κs. search needs) (λ c κs. search needs) (λ c. search needs) (λ c. search needs) (λ c. search needs)
-    returns
-    returns-2)
+    (λ c. sym (pick-true (c .before .word-at .result) 0 (c .if1 .taken)) ∙ chosen (c .before))
+    (λ c. sym (pick-false (c .before .word-at .result) 0 (c .if1 .left)) ∙ chosen (c .before)))

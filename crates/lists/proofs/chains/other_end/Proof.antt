@@ -26,7 +26,7 @@ returns c =
 
 pub other-end-spec : {M : Type 1} → statement M
 other-end-spec =
-    tie.close (tie.spec
+    tie.close
+    (tie.spec
     -- before, bridge, end_of
-    (λ c κs. search needs) (λ c. search needs) (λ c. search needs) (λ c κs. search needs)
-    returns)
+    (λ c κs. search needs) (λ c. search needs) (λ c. search needs) (λ c κs. search needs) returns)

@@ -9,12 +9,10 @@ returns c =
     let a = (c .before .before) .args in
     λ long. absurd (omega (arith, c .if1 .taken))
 
-returns-2 : tie.Need-returns-2
-returns-2 c = λ long. c .before .before .visit .ensures
-
 pub begin-spec : {M : Type 1} → statement M
-begin-spec = tie.close (tie.spec
+begin-spec =
+    tie.close
+    (tie.spec
     returns
     -- visit, lengths stay
-    (λ c κs. search needs) (λ c. search needs)
-    returns-2)
+    (λ c κs. search needs) (λ c. search needs) (λ c. λ long. c .before .before .visit .ensures))

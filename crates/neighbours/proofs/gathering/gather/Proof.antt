@@ -12,12 +12,6 @@ use borrow.Author.Needs.{needs}
 use Rattle.neighbours.proofs.gathering.gather.Statement.{statement}
 use Rattle.neighbours.proofs.gathering.gather.Tie as tie
 
-returns : tie.Need-returns
-returns c = λ linked below long. absurd (omega (arith, c .if1 .taken))
-
-returns-2 : tie.Need-returns-2
-returns-2 c = λ linked below long. absurd (omega (arith, c .if2 .taken, linked .few))
-
 returns-3 : tie.Need-returns-3
 unfolding listOf
 returns-3 c =
@@ -36,8 +30,6 @@ pub gather-spec : {M : Type 1} → statement M
 gather-spec =
     tie.close
     (tie.spec
-    returns
-    returns-2
+    (λ c. λ linked below long. absurd (omega (arith, c .if1 .taken))) (λ c. λ linked below long. absurd (omega (arith, c .if2 .taken, linked .few)))
     -- row_of, visit_all, visit_ends, lengths stay
-    (λ c κs. search needs) (λ c κs. search needs) (λ c. search needs) (λ c κs. search needs) (λ c. search needs)
-    returns-3)
+    (λ c κs. search needs) (λ c κs. search needs) (λ c. search needs) (λ c κs. search needs) (λ c. search needs) returns-3)

@@ -13,9 +13,6 @@ returns c = let a = (c .before) .args in visit-past (a .size) (a .count) (a .nod
 returns-2 : tie.Need-returns-2
 returns-2 c = let a = (c .before .before) .args in visit-full (a .size) (a .count) (a .node) (a .words .now) (omega (arith, c .before .if1 .left)) (c .if2 .taken)
 
-slice-write-words-2 : tie.Need-slice-write-words-2
-slice-write-words-2 c = simp length-set (omega arith)
-
 add-result : tie.Need-add-result
 add-result c = let a = (c .before .before .before) .args in omega (arith, at-most-one (eqb (getD (a .words .now) (a .node) 0) 0))
 
@@ -26,14 +23,11 @@ pub visit-spec : {M : Type 1} → statement M
 visit-spec =
     tie.close
     (tie.spec
-    returns
-    returns-2
+    returns returns-2
     -- fresh, words
     (λ c. search needs) (λ c. search needs) (λ c. search needs) (λ c. search needs) (λ c. search needs) (λ c. search needs)
-    slice-write-words-2
+    (λ c. simp length-set (omega arith))
     -- result
-    (λ c. search needs)
-    add-result
+    (λ c. search needs) add-result
     -- lengths stay
-    (λ c. search needs)
-    returns-3)
+    (λ c. search needs) returns-3)

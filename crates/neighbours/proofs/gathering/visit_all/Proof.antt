@@ -32,14 +32,8 @@ pub visit-all-spec : {M : Type 1} → statement M
 visit-all-spec =
     tie.close
     (tie.spec
-    Inv-loop
-    μ-loop
-    loop-holds
+    Inv-loop μ-loop loop-holds
     -- visit
-    (λ c. search needs) (λ c. search needs)
-    visit-requires
+    (λ c. search needs) (λ c. search needs) visit-requires
     -- i, the loop measure
-    (λ c. search needs) (λ c. search needs)
-    loop-again
-    same-length
-    returns)
+    (λ c. search needs) (λ c. search needs) loop-again same-length returns)

@@ -55,17 +55,10 @@ pub visit-ends-spec : {M : Type 1} → statement M
 visit-ends-spec =
     tie.close
     (tie.spec
-    Inv-loop
-    μ-loop
+    Inv-loop μ-loop
     -- first_link
-    (λ c κs. search needs)
-    loop-holds
+    (λ c κs. search needs) loop-holds
     -- other_end
-    (λ c κs. search needs)
-    visit-requires
+    (λ c κs. search needs) visit-requires
     -- next_link
-    (λ c κs. search needs)
-    loop-less
-    loop-again
-    same-length
-    returns)
+    (λ c κs. search needs) loop-less loop-again same-length returns)

@@ -34,5 +34,4 @@ eight-spec =
     (λ c. search needs) (λ c. search needs) (λ c. search needs) (λ c κs. search needs) (λ c. search needs)
     -- get_vector, cosine_distance_normalized8
     (λ c. search needs) (λ c. search needs) (λ c κs. search needs) (λ c. search needs) (λ c. search needs) (λ c. search needs) (λ c κs. search needs)
-    (λ c κs. search needs)
-    returns)
+    (λ c κs. search needs) returns)

@@ -15,12 +15,6 @@ start c = c .before .before .before .before .before .before .before .before .bef
 last-fits : (c : tie.After-place-arg8) → (start c .args .at + 7) * 4 < 18446744073709551616
 last-fits c = omega (arith, start c .pre, start c .good .1 .0 .1)
 
-add-place-7 : tie.Need-add-t8-7
-add-place-7 c = omega (arith, last-fits c)
-
-mul-place-8 : tie.Need-mul-t14-7
-mul-place-8 c = omega (arith, last-fits c)
-
 returns : tie.Need-returns
 returns c =
     let at-place8 = c .before .before in
@@ -46,36 +40,8 @@ pub place-eight-spec : {M : Type 1} → statement M
 place-eight-spec =
     tie.close
     (tie.spec
-    (λ c. search needs)
-    (λ c. search needs)
-    (λ c κs. search needs)
-    (λ c. search needs)
-    (λ c. search needs)
-    (λ c. search needs)
-    (λ c κs. search needs)
-    (λ c. search needs)
-    (λ c. search needs)
-    (λ c. search needs)
-    (λ c κs. search needs)
-    (λ c. search needs)
-    (λ c. search needs)
-    (λ c. search needs)
-    (λ c κs. search needs)
-    (λ c. search needs)
-    (λ c. search needs)
-    (λ c. search needs)
-    (λ c κs. search needs)
-    (λ c. search needs)
-    (λ c. search needs)
-    (λ c. search needs)
-    (λ c κs. search needs)
-    (λ c. search needs)
-    (λ c. search needs)
-    (λ c. search needs)
-    (λ c κs. search needs)
-    add-place-7
-    mul-place-8
-    (λ c. search needs)
-    (λ c κs. search needs)
-    (λ c. search needs)
-    returns)
+    (λ c. search needs) (λ c. search needs) (λ c κs. search needs) (λ c. search needs) (λ c. search needs) (λ c. search needs) (λ c κs. search needs)
+    (λ c. search needs) (λ c. search needs) (λ c. search needs) (λ c κs. search needs) (λ c. search needs) (λ c. search needs) (λ c. search needs)
+    (λ c κs. search needs) (λ c. search needs) (λ c. search needs) (λ c. search needs) (λ c κs. search needs) (λ c. search needs) (λ c. search needs)
+    (λ c. search needs) (λ c κs. search needs) (λ c. search needs) (λ c. search needs) (λ c. search needs) (λ c κs. search needs)
+    (λ c. omega (arith, last-fits c)) (λ c. omega (arith, last-fits c)) (λ c. search needs) (λ c κs. search needs) (λ c. search needs) returns)

@@ -37,13 +37,8 @@ pub score-spec : {M : Type 1} → statement M
 score-spec =
     tie.close
     (tie.spec
-    Inv-loop
-    μ-loop
-    loop-holds
+    Inv-loop μ-loop loop-holds
     -- loop, score_eight, i, the loop measure
-    (λ c. search needs) (λ c κs. search needs) (λ c. search needs) (λ c. search needs)
-    loop-again
+    (λ c. search needs) (λ c κs. search needs) (λ c. search needs) (λ c. search needs) loop-again
     -- score_rest
-    (λ c κs. search needs)
-    same-length
-    returns)
+    (λ c κs. search needs) same-length returns)

@@ -17,7 +17,8 @@ returns c =
     ∙ eight-are (farFrom (a .query .now) (vectorsIn (a .dimension) (a .vectors .now))) (a .nodes .now) (a .at) (a .floats .now) ((c .before .before .before .before .before .before .before .before .before) .pre)
 
 pub score-eight-spec : {M : Type 1} → statement M
-score-eight-spec = tie.close (tie.spec
+score-eight-spec =
+    tie.close
+    (tie.spec
     -- eight, place_eight, lengths stay
-    (λ c κs. search needs) (λ c κs. search needs) (λ c. search needs)
-    returns)
+    (λ c κs. search needs) (λ c κs. search needs) (λ c. search needs) returns)

@@ -20,5 +20,4 @@ score-one-spec =
     tie.close
     (tie.spec
     -- get_vector, cosine_distance_normalized, place, lengths stay
-    (λ c κs. search needs) (λ c κs. search needs) (λ c κs. search needs) (λ c. search needs)
-    returns)
+    (λ c κs. search needs) (λ c κs. search needs) (λ c κs. search needs) (λ c. search needs) returns)

@@ -27,32 +27,8 @@ digits g q k l h e =
     let n = N-bounds q (k % 2) l h (omega arith) in
     subst (λ (m : ℕ). m < 2 ^ 24) (sym (root-is g q k h e)) (m-bounds (q * 2 ^ (24 - k % 2)) (n .0) (n .1) .1)
 
-scale-requires : tie.Need-scale-requires
-scale-requires c κs = search needs
-
-sub-n : tie.Need-sub-n
-sub-n c = omega arith
-
-shl-n : tie.Need-shl-n
-shl-n c = omega arith
-
-mul-whole-root : tie.Need-mul-whole-root
-mul-whole-root c = omega (arith, small (c .scale .result .q) (c .scale .result .k) (omega arith) (omega arith))
-
-whole-root-requires : tie.Need-whole-root-requires
-whole-root-requires c κs = small (c .scale .result .q) (c .scale .result .k) (omega arith) (omega arith)
-
 add-m : tie.Need-add-m
 add-m c = omega (arith, digits (c .whole-root .result) (c .before .scale .result .q) (c .before .scale .result .k) (omega arith) (omega arith) (c .whole-root .ensures))
-
-add-result : tie.Need-add-result
-add-result c = omega arith
-
-add-result-2 : tie.Need-add-result-2
-add-result-2 c = omega arith
-
-mul-result : tie.Need-mul-result
-mul-result c = omega arith
 
 add-result-3 : tie.Need-add-result-3
 add-result-3 c = omega (arith, digits (c .whole-root .result) (c .before .scale .result .q) (c .before .scale .result .k) (omega arith) (omega arith) (c .whole-root .ensures))
@@ -73,15 +49,7 @@ pub root-bits-spec : {M : Type 1} → statement M
 root-bits-spec =
     tie.close
     (tie.spec
-    scale-requires
-    sub-n
-    shl-n
-    mul-whole-root
-    whole-root-requires
-    add-m
-    add-result
-    add-result-2
-    mul-result
-    add-result-3
-    cast-result
-    returns)
+    (λ c κs. search needs) (λ c. omega arith) (λ c. omega arith)
+    (λ c. omega (arith, small (c .scale .result .q) (c .scale .result .k) (omega arith) (omega arith)))
+    (λ c κs. small (c .scale .result .q) (c .scale .result .k) (omega arith) (omega arith)) add-m (λ c. omega arith) (λ c. omega arith) (λ c. omega arith)
+    add-result-3 cast-result returns)

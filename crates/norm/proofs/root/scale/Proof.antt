@@ -84,20 +84,4 @@ returns-2 : tie.Need-returns-2 Inv-loop μ-loop
 returns-2 c = (c .before .loop .inv .0, omega arith, omega arith, omega arith)
 
 pub scale-spec : {M : Type 1} → statement M
-scale-spec =
-    tie.close
-    (tie.spec
-    Inv-loop
-    μ-loop
-    add-t7
-    cast-t8
-    add-t9
-    cast-t10
-    returns
-    cast-q
-    loop-holds
-    add-q
-    sub-k
-    loop-less
-    loop-again
-    returns-2)
+scale-spec = tie.close (tie.spec Inv-loop μ-loop add-t7 cast-t8 add-t9 cast-t10 returns cast-q loop-holds add-q sub-k loop-less loop-again returns-2)

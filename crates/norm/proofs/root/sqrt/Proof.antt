@@ -30,17 +30,11 @@ nan-is : div binary32 (ofBits binary32 0) (ofBits binary32 0) ≡ nan
 unfolding div ofBits
 nan-is = refl
 
-float-to-bits-b : tie.Need-float-to-bits-b
-float-to-bits-b c = real (c .before .args .s) (over (c .before .args .s) (c .if1 .taken))
-
 returns : tie.Need-returns
 returns c = infinite (c .before .before .args .s) (held (c .before .before)) (over (c .before .before .args .s) (c .before .if1 .taken)) (c .if2 .taken)
 
 root-bits-requires : tie.Need-root-bits-requires
 root-bits-requires c κs = (bits-pos (c .before .before .args .s) (held (c .before .before)) (over (c .before .before .args .s) (c .before .if1 .taken)), c .if2 .left)
-
-float-from-bits-result : tie.Need-float-from-bits-result
-float-from-bits-result c = no-nan (c .root-bits .result) (c .root-bits .ensures .1)
 
 returns-2 : tie.Need-returns-2
 returns-2 c = c .root-bits .ensures .0 ∙ ap (rootOf binary32) (ofBits-toBits binary32 (c .before .before .before .args .s) (held (c .before .before .before)))
@@ -55,10 +49,5 @@ pub sqrt-spec : {M : Type 1} → statement M
 sqrt-spec =
     tie.close
     (tie.spec
-    float-to-bits-b
-    returns
-    root-bits-requires
-    float-from-bits-result
-    returns-2
-    returns-3
-    returns-4)
+    (λ c. real (c .before .args .s) (over (c .before .args .s) (c .if1 .taken))) returns root-bits-requires
+    (λ c. no-nan (c .root-bits .result) (c .root-bits .ensures .1)) returns-2 returns-3 returns-4)

@@ -86,17 +86,10 @@ pub whole-root-spec : {M : Type 1} → statement M
 whole-root-spec =
     tie.close
     (tie.spec
-    Inv-loop
-    μ-loop
+    Inv-loop μ-loop
     -- the loop begins, k
-    (λ c. search needs) (λ c. search needs)
-    shl-t
-    add-t
-    mul-if1
+    (λ c. search needs) (λ c. search needs) shl-t add-t mul-if1
     -- the loop measure
-    (λ c. search needs)
-    loop-again
+    (λ c. search needs) loop-again
     -- the loop measure
-    (λ c. search needs)
-    loop-again-2
-    returns)
+    (λ c. search needs) loop-again-2 returns)

@@ -40,17 +40,5 @@ pub add-to-spec : {M : Type 1} → statement M
 add-to-spec =
     tie.close
     (tie.spec
-    Inv-loop
-    μ-loop
-    loop-holds
-    (λ c. search needs)
-    slice-read-sums
-    (λ c. search needs)
-    shared-slice-read-sums
-    (λ c. search needs)
-    slice-write-sums
-    (λ c. search needs)
-    (λ c. search needs)
-    loop-again
-    same-length
-    returns)
+    Inv-loop μ-loop loop-holds (λ c. search needs) slice-read-sums (λ c. search needs) shared-slice-read-sums (λ c. search needs) slice-write-sums
+    (λ c. search needs) (λ c. search needs) loop-again same-length returns)

@@ -4,13 +4,11 @@ use borrow.Author.Needs.{needs}
 use Rattle.params.proofs.finite.all_finite.Statement.{statement}
 use Rattle.params.proofs.finite.all_finite.Tie as tie
 
-returns : tie.Need-returns
-returns c = sym (c .before .sums-finite .ensures (c .if1 .taken))
-
 pub all-finite-spec : {M : Type 1} → statement M
-all-finite-spec = tie.close (tie.spec
+all-finite-spec =
+    tie.close
+    (tie.spec
     -- sums_finite
-    (λ c κs. search needs)
-    returns
+    (λ c κs. search needs) (λ c. sym (c .before .sums-finite .ensures (c .if1 .taken)))
     -- each_finite, the return
     (λ c κs. search needs) (λ c. search needs))

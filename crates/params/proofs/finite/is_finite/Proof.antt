@@ -56,8 +56,5 @@ less-itself f (inf true) = refl
 less-itself f (inf false) = refl
 less-itself f (fin s m e) = eq-self (sum f s _ (not s) _ _) ∙ ap not (sum-number f s _ (not s) _ _)
 
-returns : tie.Need-returns
-returns c = less-itself binary32 (c .args .x)
-
 pub is-finite-spec : {M : Type 1} → statement M
-is-finite-spec = tie.close (tie.spec returns)
+is-finite-spec = tie.close (tie.spec (λ c. less-itself binary32 (c .args .x)))

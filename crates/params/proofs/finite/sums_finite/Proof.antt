@@ -51,16 +51,12 @@ pub sums-finite-spec : {M : Type 1} → statement M
 sums-finite-spec =
     tie.close
     (tie.spec
-    Inv-loop
-    μ-loop
-    (λ c. search needs)
-    loop-holds
+    Inv-loop μ-loop (λ c. search needs) loop-holds
     -- a turn's components
     (λ c. search needs) (λ c. search needs) (λ c. search needs) (λ c. search needs) (λ c. search needs) (λ c. search needs) (λ c. search needs)
     add-to-requires
     -- the step, the measure
-    (λ c. search needs) (λ c. search needs)
-    loop-again
+    (λ c. search needs) (λ c. search needs) loop-again
     -- the sum of the sums, and what stands past the last turn
-    (λ c. search needs) (λ c κs. search needs) (λ c κs. search needs) (λ c. search needs) (λ c. search needs) (λ c. search needs) (λ c. search needs) (λ c κs. search needs)
-    returns)
+    (λ c. search needs) (λ c κs. search needs) (λ c κs. search needs) (λ c. search needs) (λ c. search needs) (λ c. search needs) (λ c. search needs)
+    (λ c κs. search needs) returns)

@@ -74,16 +74,10 @@ pub planes-into-spec : {M : Type 1} → statement M
 planes-into-spec =
     tie.close
     (tie.spec
-    Inv-loop
-    μ-loop
+    Inv-loop μ-loop
     -- lesser
-    (λ c κs. search needs)
-    loop-holds
+    (λ c κs. search needs) loop-holds
     -- out
-    (λ c. search needs) (λ c. search needs)
-    float-from-bits-out
+    (λ c. search needs) (λ c. search needs) float-from-bits-out
     -- out, k, the loop measure
-    (λ c. search needs) (λ c. search needs) (λ c. search needs) (λ c. search needs)
-    loop-again
-    same-length
-    returns)
+    (λ c. search needs) (λ c. search needs) (λ c. search needs) (λ c. search needs) loop-again same-length returns)

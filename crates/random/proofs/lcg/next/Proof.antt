@@ -16,7 +16,8 @@ returns c =
     ∙ mod-add-mod (x .r * 6364136223846793005) (2 ^ 64) (x .addend)
 
 pub next-spec : {M : Type 1} → statement M
-next-spec = tie.close (tie.spec
+next-spec =
+    tie.close
+    (tie.spec
     -- wrapping_mul, wrapping_add_u64
-    (λ c κs. search needs) (λ c κs. search needs)
-    returns)
+    (λ c κs. search needs) (λ c κs. search needs) returns)

@@ -25,15 +25,6 @@ law a b =
     ∙ halves (2 ^ 32) (a % 2 ^ 32) (a / 2 ^ 32) (b % 2 ^ 32) (b / 2 ^ 32)
     ∙ (λ i. split a 32 i * split b 32 i % 2 ^ 64)
 
-mul-wrapping-add-u64 : tie.Need-mul-wrapping-add-u64
-mul-wrapping-add-u64 c = fits (shr-lt 32 32 (c .fits .a .fits)) (mask-lt (c .args .b) 32)
-
-mul-wrapping-add-u64-2 : tie.Need-mul-wrapping-add-u64-2
-mul-wrapping-add-u64-2 c = fits (mask-lt (c .args .a) 32) (shr-lt 32 32 (c .fits .b .fits))
-
-mul-wrapping-add-u64-3 : tie.Need-mul-wrapping-add-u64-3
-mul-wrapping-add-u64-3 c = fits (mask-lt (c .before .args .a) 32) (mask-lt (c .before .args .b) 32)
-
 returns : tie.Need-returns
 returns c =
     let x = c .before .before .args in
@@ -46,11 +37,8 @@ pub wrapping-mul-spec : {M : Type 1} → statement M
 wrapping-mul-spec =
     tie.close
     (tie.spec
-    mul-wrapping-add-u64
-    mul-wrapping-add-u64-2
+    (λ c. fits (shr-lt 32 32 (c .fits .a .fits)) (mask-lt (c .args .b) 32)) (λ c. fits (mask-lt (c .args .a) 32) (shr-lt 32 32 (c .fits .b .fits)))
     -- wrapping_add_u64
-    (λ c κs. search needs)
-    mul-wrapping-add-u64-3
+    (λ c κs. search needs) (λ c. fits (mask-lt (c .before .args .a) 32) (mask-lt (c .before .args .b) 32))
     -- wrapping_add_u64
-    (λ c κs. search needs)
-    returns)
+    (λ c κs. search needs) returns)

@@ -10,12 +10,6 @@ use borrow.Author.Needs.{needs}
 use Rattle.random.proofs.leaders.all_positions.Statement.{statement}
 use Rattle.random.proofs.leaders.all_positions.Tie as tie
 
-slice-aggregate-count-up : tie.Need-slice-aggregate-count-up
-slice-aggregate-count-up c = sym (length-take-le _ _ (omega (arith, c .before .lesser .ensures)))
-
-count-up-requires : tie.Need-count-up-requires
-count-up-requires c κs = simp length-take (omega (arith, c .before .lesser .ensures))
-
 returns : tie.Need-returns
 returns c =
     let x = c .before .before .before .before .before .before .args in
@@ -28,9 +22,7 @@ all-positions-spec =
     tie.close
     (tie.spec
     -- lesser, slice-relend-prefix-count-up
-    (λ c κs. search needs) (λ c. search needs)
-    slice-aggregate-count-up
-    count-up-requires
+    (λ c κs. search needs) (λ c. search needs) (λ c. sym (length-take-le _ _ (omega (arith, c .before .lesser .ensures))))
+    (λ c κs. simp length-take (omega (arith, c .before .lesser .ensures)))
     -- lengths stay
-    (λ c. search needs)
-    returns)
+    (λ c. search needs) returns)

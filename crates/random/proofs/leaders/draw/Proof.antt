@@ -69,19 +69,6 @@ pub draw-spec : {M : Type 1} → statement M
 draw-spec =
     tie.close
     (tie.spec
-    Inv-loop
-    μ-loop
-    loop-holds
-    (λ c κs. search needs) (λ c. search needs) (λ c. search needs) (λ c. search needs) (λ c. search needs)
-    slice-read-last
-    mul-out
-    slice-read-out
-    (λ c. search needs)
-    slice-write-out
-    mul-left
-    slice-write-left
-    (λ c. search needs) (λ c. search needs)
-    loop-again
-    same-length
-    same-length-2
-    returns)
+    Inv-loop μ-loop loop-holds (λ c κs. search needs) (λ c. search needs) (λ c. search needs) (λ c. search needs) (λ c. search needs) slice-read-last
+    mul-out slice-read-out (λ c. search needs) slice-write-out mul-left slice-write-left (λ c. search needs) (λ c. search needs) loop-again same-length
+    same-length-2 returns)

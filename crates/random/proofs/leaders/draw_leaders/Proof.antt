@@ -9,12 +9,6 @@ use borrow.Author.Needs.{needs}
 use Rattle.random.proofs.leaders.draw_leaders.Statement.{statement}
 use Rattle.random.proofs.leaders.draw_leaders.Tie as tie
 
-slice-aggregate-draw-segment : tie.Need-slice-aggregate-draw-segment
-slice-aggregate-draw-segment c = sym (length-take-le _ _ (omega (arith, c .before .lesser .ensures)))
-
-draw-segment-requires : tie.Need-draw-segment-requires
-draw-segment-requires c κs = simp length-take (omega (arith, c .before .before .lesser .ensures))
-
 returns : tie.Need-returns
 returns c =
     let x = c .before .before .before .before .before .before .before .before .before .before .args in
@@ -27,9 +21,7 @@ draw-leaders-spec =
     tie.close
     (tie.spec
     -- lesser, slice-relend-prefix-draw-segment
-    (λ c κs. search needs) (λ c. search needs)
-    slice-aggregate-draw-segment
-    draw-segment-requires
+    (λ c κs. search needs) (λ c. search needs) (λ c. sym (length-take-le _ _ (omega (arith, c .before .lesser .ensures))))
+    (λ c κs. simp length-take (omega (arith, c .before .before .lesser .ensures)))
     -- lengths stay
-    (λ c. search needs) (λ c. search needs)
-    returns)
+    (λ c. search needs) (λ c. search needs) returns)

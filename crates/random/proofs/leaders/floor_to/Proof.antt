@@ -57,9 +57,8 @@ returns-4 c = omega (arith, under (c .before .args .x) (c .if1 .left))
 
 pub floor-to-spec : {M : Type 1} → statement M
 floor-to-spec =
-    tie.close (tie.spec
+    tie.close
+    (tie.spec
     truncating-f64-to-u64-requires
     -- the return
-    (λ c. search needs) (λ c. search needs)
-    returns-3
-    returns-4)
+    (λ c. search needs) (λ c. search needs) returns-3 returns-4)

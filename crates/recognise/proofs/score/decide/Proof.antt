@@ -7,9 +7,6 @@ use Rattle.recognise.specs.Recognised.{knownAs, newAs, recognisedValues,
 use Rattle.recognise.proofs.score.decide.Statement.{statement}
 use Rattle.recognise.proofs.score.decide.Tie as tie
 
-score-requires : tie.Need-score-requires
-score-requires c κs = search needs
-
 returns : tie.Need-returns
 unfolding recognisedValues recognisedAs
 returns c = ap (λ (n : ℕ). knownAs (c .before .before .args .doc .0) n) (c .before .score .ensures) ∙ sym (pick-true _ _ (c .if1 .taken))
@@ -19,4 +16,4 @@ unfolding recognisedValues recognisedAs
 returns-2 c = ap (λ (n : ℕ). newAs n) (c .before .score .ensures) ∙ sym (pick-false _ _ (c .if1 .left))
 
 pub decide-spec : {M : Type 1} → statement M
-decide-spec = tie.close (tie.spec score-requires returns returns-2)
+decide-spec = tie.close (tie.spec (λ c κs. search needs) returns returns-2)

@@ -19,9 +19,6 @@ held c = subst T (sym (c .good .0 .1)) tt
 above : (x : Float) {b : Bool} → lt (ofBits binary32 0) x ≡ b → lt zero+ x ≡ b
 above x h = ap (λ (z : Float). lt z x) (sym zero-is) ∙ h
 
-float-to-bits-b : tie.Need-float-to-bits-b
-float-to-bits-b c = real (c .before .args .d) (above (c .before .args .d) (c .if1 .taken))
-
 returns : tie.Need-returns
 returns c =
     let s = c .before .before in
@@ -49,4 +46,6 @@ returns-4 c =
 
 pub score-spec : {M : Type 1} → statement M
 score-spec =
-    tie.close (tie.spec float-to-bits-b returns score-bits-requires returns-2 returns-3 returns-4)
+    tie.close
+    (tie.spec
+    (λ c. real (c .before .args .d) (above (c .before .args .d) (c .if1 .taken))) returns score-bits-requires returns-2 returns-3 returns-4)

@@ -19,21 +19,11 @@ few b h = div-lt-iff-lt-mul (pow-pos (150 - b / 2 ^ 23)) .1 (lt-of-lt-of-le (und
     far : (b : ℕ) → b < 0x3f80_0000 → 24 ≤ 150 - b / 2 ^ 23
     far b h = omega arith
 
-returns : tie.Need-returns
-returns c = sym (near-pattern (c .before .args .b) (c .before .pre .0) (c .if1 .taken))
-
-sub-result-2 : tie.Need-sub-result-2
-sub-result-2 c = omega (arith, few (c .before .args .b) (c .before .pre .1))
-
-returns-2 : tie.Need-returns-2
-returns-2 c = sym (inside-pattern (c .before .args .b) (c .if1 .left) (c .before .pre .1))
-
 pub score-bits-spec : {M : Type 1} → statement M
 score-bits-spec =
     tie.close
     (tie.spec
-    returns
+    (λ c. sym (near-pattern (c .before .args .b) (c .before .pre .0) (c .if1 .taken)))
     -- q, s, result
     (λ c. search needs) (λ c. search needs) (λ c. search needs) (λ c. search needs) (λ c. search needs)
-    sub-result-2
-    returns-2)
+    (λ c. omega (arith, few (c .before .args .b) (c .before .pre .1))) (λ c. sym (inside-pattern (c .before .args .b) (c .if1 .left) (c .before .pre .1))))

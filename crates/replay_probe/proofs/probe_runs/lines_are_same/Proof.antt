@@ -26,14 +26,11 @@ pub lines-are-same-spec : {M : Type 1} → statement M
 lines-are-same-spec =
     tie.close
     (tie.spec
-    Inv-loop
-    μ-loop
+    Inv-loop μ-loop
     -- start, the loop begins, line_end, take_line, part-take-line-start, part-take-line-end
-    (λ c κs. search needs) (λ c. search needs) (λ c κs. search needs) (λ c. search needs) (λ c. search needs) (λ c. search needs)
-    (λ c κs. search needs)
+    (λ c κs. search needs) (λ c. search needs) (λ c κs. search needs) (λ c. search needs) (λ c. search needs) (λ c. search needs) (λ c κs. search needs)
     -- the return, lengths stay
     (λ c. search needs) (λ c. search needs) (λ c. search needs) (λ c. search needs) (λ c. search needs) (λ c. search needs) (λ c. search needs)
-    (λ c. search needs) (λ c. search needs) (λ c. search needs) (λ c. search needs) (λ c. search needs)
-    add-at
+    (λ c. search needs) (λ c. search needs) (λ c. search needs) (λ c. search needs) (λ c. search needs) add-at
     -- the loop measure, the loop goes on, the return, lengths stay
     (λ c. search needs) (λ c. search needs) (λ c. search needs) (λ c. search needs) (λ c. search needs) (λ c. search needs))

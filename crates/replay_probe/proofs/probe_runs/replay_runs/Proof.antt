@@ -18,10 +18,8 @@ pub replay-runs-spec : {M : Type 1} → statement M
 replay-runs-spec =
     tie.close
     (tie.spec
-    Inv-loop
-    μ-loop
+    Inv-loop μ-loop
     -- the loop begins, run_at, wrapping_add_u64, the loop measure, the loop goes on
-    (λ c. search needs) (λ c κs. search needs) (λ c κs. search needs) (λ c. search needs) (λ c κs. search needs) (λ c. search needs)
-    (λ c. search needs)
+    (λ c. search needs) (λ c κs. search needs) (λ c κs. search needs) (λ c. search needs) (λ c κs. search needs) (λ c. search needs) (λ c. search needs)
     -- the return, lengths stay
     (λ c. search needs) (λ c. search needs))

@@ -14,11 +14,5 @@ at-nan x e = sym (ap (toBits binary32) e)
 returns : tie.Need-returns
 returns c = at-nan (c .before .args .x) (differs-from-itself (c .before .args .x) (subst T (sym (c .if1 .taken)) tt))
 
-float-to-bits-result : tie.Need-float-to-bits-result
-float-to-bits-result c = equals-itself (c .before .args .x) (c .if1 .left)
-
-returns-2 : tie.Need-returns-2
-returns-2 c = refl
-
 pub bits-of-spec : {M : Type 1} → statement M
-bits-of-spec = tie.close (tie.spec returns float-to-bits-result returns-2)
+bits-of-spec = tie.close (tie.spec returns (λ c. equals-itself (c .before .args .x) (c .if1 .left)) (λ c. refl))

@@ -9,11 +9,5 @@ returns : tie.Need-returns
 unfolding ofBits div
 returns c = no-number binary32 (c .before .args .bits) (c .if1 .taken)
 
-float-from-bits-result : tie.Need-float-from-bits-result
-float-from-bits-result c = a-number binary32 (c .before .args .bits) (c .if1 .left)
-
-returns-2 : tie.Need-returns-2
-returns-2 c = refl
-
 pub f32-from-spec : {M : Type 1} → statement M
-f32-from-spec = tie.close (tie.spec returns float-from-bits-result returns-2)
+f32-from-spec = tie.close (tie.spec returns (λ c. a-number binary32 (c .before .args .bits) (c .if1 .left)) (λ c. refl))

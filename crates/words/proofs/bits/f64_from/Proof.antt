@@ -9,11 +9,5 @@ returns : tie.Need-returns
 unfolding ofBits div
 returns c = no-number binary64 (c .before .args .bits) (c .if1 .taken)
 
-float-from-bits-result : tie.Need-float-from-bits-result
-float-from-bits-result c = a-number binary64 (c .before .args .bits) (c .if1 .left)
-
-returns-2 : tie.Need-returns-2
-returns-2 c = refl
-
 pub f64-from-spec : {M : Type 1} → statement M
-f64-from-spec = tie.close (tie.spec returns float-from-bits-result returns-2)
+f64-from-spec = tie.close (tie.spec returns (λ c. a-number binary64 (c .before .args .bits) (c .if1 .left)) (λ c. refl))

@@ -46,16 +46,4 @@ returns : tie.Need-returns Inv-loop μ-loop
 returns c = let n = kept (c .before) in c .before .loop .inv .1 ∙ filled-end +zero (c .before .before .args .s .now) (c .before .loop .i) (omega arith)
 
 pub clear-floats-spec : {M : Type 1} → statement M
-clear-floats-spec =
-    tie.close
-    (tie.spec
-    Inv-loop
-    μ-loop
-    loop-holds
-    mul-s
-    slice-write-s
-    add-i
-    loop-less
-    loop-again
-    same-length
-    returns)
+clear-floats-spec = tie.close (tie.spec Inv-loop μ-loop loop-holds mul-s slice-write-s add-i loop-less loop-again same-length returns)

@@ -50,15 +50,4 @@ pub copy-floats-spec : {M : Type 1} → statement M
 copy-floats-spec =
     tie.close
     (tie.spec
-    Inv-loop
-    μ-loop
-    loop-holds
-    mul-to
-    shared-slice-read-to
-    mul-to-2
-    slice-write-to
-    add-i
-    loop-less
-    loop-again
-    same-length
-    returns)
+    Inv-loop μ-loop loop-holds mul-to shared-slice-read-to mul-to-2 slice-write-to add-i loop-less loop-again same-length returns)

@@ -5,11 +5,9 @@ use borrow.Author.Needs.{needs}
 use Rattle.words.proofs.slices.put_float.Statement.{statement}
 use Rattle.words.proofs.slices.put_float.Tie as tie
 
-returns-2 : tie.Need-returns-2
-returns-2 c = sym (set-out _ _ _ (c .if1 .left))
-
 pub put-float-spec : {M : Type 1} → statement M
-put-float-spec = tie.close (tie.spec
+put-float-spec =
+    tie.close
+    (tie.spec
     -- floats, the return, lengths stay
-    (λ c. search needs) (λ c. search needs) (λ c. search needs) (λ c. search needs)
-    returns-2)
+    (λ c. search needs) (λ c. search needs) (λ c. search needs) (λ c. search needs) (λ c. sym (set-out _ _ _ (c .if1 .left))))

@@ -5,11 +5,9 @@ use borrow.Author.Needs.{needs}
 use Rattle.words.proofs.slices.put_word.Statement.{statement}
 use Rattle.words.proofs.slices.put_word.Tie as tie
 
-returns-2 : tie.Need-returns-2
-returns-2 c = sym (set-out _ _ _ (c .if1 .left))
-
 pub put-word-spec : {M : Type 1} → statement M
-put-word-spec = tie.close (tie.spec
+put-word-spec =
+    tie.close
+    (tie.spec
     -- words, the return, lengths stay
-    (λ c. search needs) (λ c. search needs) (λ c. search needs) (λ c. search needs)
-    returns-2)
+    (λ c. search needs) (λ c. search needs) (λ c. search needs) (λ c. search needs) (λ c. sym (set-out _ _ _ (c .if1 .left))))

@@ -5,11 +5,9 @@ use borrow.Author.Needs.{needs}
 use Rattle.words.proofs.slices.word_at.Statement.{statement}
 use Rattle.words.proofs.slices.word_at.Tie as tie
 
-returns-2 : tie.Need-returns-2
-returns-2 c = sym (List·getD-eq-default (c .before .args .words .now) 0 (c .if1 .left))
-
 pub word-at-spec : {M : Type 1} → statement M
-word-at-spec = tie.close (tie.spec
+word-at-spec =
+    tie.close
+    (tie.spec
     -- result, the return
-    (λ c. search needs) (λ c. search needs) (λ c. search needs)
-    returns-2)
+    (λ c. search needs) (λ c. search needs) (λ c. search needs) (λ c. sym (List·getD-eq-default (c .before .args .words .now) 0 (c .if1 .left))))
