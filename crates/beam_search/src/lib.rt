@@ -7,10 +7,10 @@
 // the definition's walk then finds nothing. The answer is kept in order from the first node on, so that
 // nothing is sorted at the end.
 //
-// It computes the walk and the answer of `beam`; specs/Inside/Search says of which graph: the entries of the lists
-// that are below the number of nodes. Scratch is 11 words (`beam_state` has their layout) and a float for each
+// It computes the walk and the answer that `def_walk` defines; specs/Inside/Search says of which graph: the entries
+// of the lists that are below the number of nodes. Scratch is 11 words (`beam_state` has their layout) and a float for each
 // node; what it held before has no effect. Before the walk goes on from the entry node, bridges, where there
-// are any, are linked (`chains`) in a local array of 16 KB, so that an expansion looks at its node's own
+// are any, are linked (`lists::chains`) in a local array of 16 KB, so that an expansion looks at its node's own
 // bridges alone.
 ghost use mathlib.Core.Path.{_≡_};
 ghost use mathlib.Core.Bool.{_&&_, _||_};

@@ -2,13 +2,12 @@
 // the nodes held for the cutoff, of which the worst leaves first. `frontier.pop()` of `beam_search` and
 // `keep_closest` of src/graph_utils.rs.
 //
-// Both are tournaments. The frontier's places are the nodes, and a pair is a node's key and the node, so that
-// of equally near nodes the lower one is first. The held have as many places as the walk, and a pair is a held
-// distance's key, complemented so that the worst is first, and its place: a nearer node then takes the
-// worst's place, whichever node that was, since the cutoff is all that is asked of the held. The distances of
-// nodes stand in a slice of floats, each at its node. Every function is total; what it promises speaks of
-// trees that stand for some list of nodes (`Queue` and `Held` of specs/Inside/Queues), and of that list as the
-// definitions of `beam` change it.
+// Both are tournaments. The frontier has a slot for each node, and a pair is a node's key and the node, so that
+// of equally near nodes the lower one is first. The held have a slot for each of the walk's places, and a pair is
+// a held distance's key, complemented so that the worst is first, and its slot: a nearer node then takes the
+// worst's slot, whichever node that was, since only the cutoff is asked of the held. The distances of nodes are
+// in a slice of floats, each at its node. Every function is total; what it promises is about trees that represent
+// some list of nodes (`Queue` and `Held` of specs/Inside/Queues), and about that list as `def_walk` changes it.
 //
 // proofs/Laws     the frontier: empty, a node put in, the first taken out
 // proofs/Holding  the held: none, one more, the worst's slot taken, which pair is first

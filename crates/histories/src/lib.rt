@@ -13,6 +13,7 @@ use params::PipnnParams;
 use random::lcg;
 use words::bits;
 use words::ids::DocId;
+use words::slices;
 
 // What a history has come to, besides the content of its stores: how many words and floats they have, and
 // how many of them are passed in. A float keeps no pattern of a NaN, so the last one that a line set is kept
@@ -115,23 +116,18 @@ pub fn lend(tokens: &[u64], h: History) -> History {
 
 // word I X
 pub fn set_word(tokens: &[u64], words: &mut [u32]) {
-    let i = replay::size(tokens, 0, 0);
-    if i < words.len() {
-        words[i] = replay::word(tokens, 0, 1);
-    }
-}
-
-fn put_float(floats: &mut [f32], i: usize, x: f32) {
-    if i < floats.len() {
-        floats[i] = x;
-    }
+    slices::put_word(
+        words,
+        replay::size(tokens, 0, 0),
+        replay::word(tokens, 0, 1),
+    );
 }
 
 // float I X
 pub fn set_float(tokens: &[u64], floats: &mut [f32], h: History) -> History {
     let i = replay::size(tokens, 0, 0);
     let x = replay::float(tokens, 0, 1);
-    put_float(floats, i, x);
+    slices::put_float(floats, i, x);
     if x == x {
         return h;
     }

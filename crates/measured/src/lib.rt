@@ -6,6 +6,7 @@ ghost use Prim.Native.Nat.{_+_, _*_, _≤_};
 ghost use lib.ListN.{length};
 use norm::root;
 use simd::Eight;
+use words::slices;
 
 // Each row's distance to the query, one at a time. Answers how many rows there were.
 #[no_mangle]
@@ -68,14 +69,14 @@ fn put_eight(q: &[f32], rows: &[f32], at: usize, out: &mut [f32])
 }
 
 fn put_each(out: &mut [f32], r: Eight) {
-    put(out, 0, r.a);
-    put(out, 1, r.b);
-    put(out, 2, r.c);
-    put(out, 3, r.d);
-    put(out, 4, r.e);
-    put(out, 5, r.f);
-    put(out, 6, r.g);
-    put(out, 7, r.h);
+    slices::put_float(out, 0, r.a);
+    slices::put_float(out, 1, r.b);
+    slices::put_float(out, 2, r.c);
+    slices::put_float(out, 3, r.d);
+    slices::put_float(out, 4, r.e);
+    slices::put_float(out, 5, r.f);
+    slices::put_float(out, 6, r.g);
+    slices::put_float(out, 7, r.h);
 }
 
 // The row of d floats that starts at `at`, or none if it does not lie within the rows.
@@ -88,12 +89,6 @@ fn row(rows: &[f32], at: usize, d: usize) -> &[f32] {
     }
     let end = at + d;
     &rows[at..end]
-}
-
-fn put(out: &mut [f32], i: usize, x: f32) {
-    if i < out.len() {
-        out[i] = x;
-    }
 }
 
 // The same over blocks of eight rows, in which a component's eight numbers stand together.

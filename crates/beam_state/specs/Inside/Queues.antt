@@ -1,6 +1,6 @@
 -- The frontier and the held nodes of a walk as tournaments (scope, part 8; the Rust's `BinaryHeap`). The frontier has a slot for each node; the held
 -- have b slots, or n if that is less, and a slot has a held node's key alone: only the cutoff is asked of them. What a function promises is about
--- every tree that represents some nodes, and about those nodes as `beam` defines the walk.
+-- every tree that represents some nodes, and about those nodes as `def_walk` defines the walk.
 use mathlib.Core.Path.{_≡_}
 use mathlib.Core.Bool.{false}
 use mathlib.Core.List.{List, [], _∷_, map}
