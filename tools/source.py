@@ -3,9 +3,9 @@
 A tree is a folder or a git revision. Every declaration has a full name that does not depend on who cites it:
 
     params.specs.Limits.mostDegree         a definition of crates/params/specs/Limits.antt
-    promise.proofs.Promise.demand-3        a declaration of crates/promise/proofs/Promise.antt
+    theorems.proofs.promise.Promise.demand-3   a declaration of crates/theorems/proofs/promise/Promise.antt
     store.src.Lent, store.src.words_size   a type or a function of crates/store/src/lib.rt
-    queues.src.tournament.put              a function of crates/queues/src/tournament.rt
+    beam_state.src.tournament.put          a function of crates/beam_state/src/tournament.rt
 """
 import collections
 import importlib.machinery
