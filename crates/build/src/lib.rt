@@ -1,7 +1,7 @@
 // `build` (scope, parts 4 to 7, Records and Refusals), as src/pipnn/mod.rs has it: the graph of the stored
 // vectors goes into the word store, and the store is built.
 //
-// It promises one equation for the number and both stores, whole: `buildSpec` of Rattle.calls. What
+// It promises one equation for the number and both stores, whole: `buildSpec` of `def_calls`. What
 // scratch held before has no effect on them.
 //
 // Scratch, for n nodes; a later step writes over what an earlier one is done with:

@@ -7,7 +7,7 @@
 // Nothing is allocated: a row has at most 32 entries and a turn at most 64 candidates, so arrays of this
 // size are enough, and a call with more changes nothing.
 //
-// `hashprune_insert` is total. That its row is `merged .. (selected ..)` of Rattle.leaf holds where the
+// `hashprune_insert` is total. That its row is `merged .. (selected ..)` of `def_graph` holds where the
 // caller prepared what `Turn` of specs/Inside/Hashprune says, planes among it. specs/Inside/Steps has what the steps say of
 // each other.
 ghost use mathlib.Core.Path.{_≡_};

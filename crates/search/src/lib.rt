@@ -5,7 +5,7 @@
 // walks the graph in the store, and writes the doc ids of the nodes found. A refusal returns its number and
 // counts 0, and writes to neither output.
 //
-// It promises one equation for everything that a call leaves: `searchWithEfSpec` of Rattle.calls, and
+// It promises one equation for everything that a call leaves: `searchWithEfSpec` of `def_calls`, and
 // `searchSpec`. The stores stay as they are, nothing past the answer is written, and what scratch held
 // before has no effect.
 //
