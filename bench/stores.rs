@@ -17,6 +17,8 @@ mod pipnn;
 mod prefetch;
 #[path = "../oracle/target/src/simd.rs"]
 mod simd;
+#[path = "../oracle/sizes.rs"]
+mod sizes;
 mod timing;
 mod trace;
 
@@ -33,9 +35,9 @@ extern "C" {
 
 const NODES: usize = 1024;
 const DEGREE: usize = 32;
-const ROW: usize = 1 + DEGREE;
-const ROWS_AT: usize = 16 + NODES;
-const BRIDGES_AT: usize = ROWS_AT + NODES * ROW;
+const ROW: usize = sizes::row(DEGREE);
+const ROWS_AT: usize = sizes::rows_at(NODES);
+const BRIDGES_AT: usize = sizes::bridges_at(NODES, DEGREE);
 /// Calls a round, where one is too short for the clock.
 const CALLS: usize = 16;
 
@@ -48,8 +50,8 @@ struct Stores {
 impl Stores {
     fn new(features: usize) -> Self {
         let mut stores = Stores {
-            words: vec![7; BRIDGES_AT + 2 * NODES],
-            floats: vec![7.0; NODES * features],
+            words: vec![7; sizes::words(NODES, DEGREE)],
+            floats: vec![7.0; sizes::floats(NODES, features)],
         };
         assert_eq!(stores.call_new(features), 0);
         stores
@@ -114,9 +116,9 @@ fn opening(features: usize) {
         &mut || assert_eq!(closed.opening(), 0),
         &mut || assert_eq!(open.opening(), 0),
     ]);
-    let rows = 4 * (16 + NODES * (1 + DEGREE));
-    let bridges = 4 * 2 * (NODES - 1);
-    let floats = 4 * NODES * features;
+    let rows = 4 * (sizes::HEADER + NODES * ROW);
+    let bridges = 4 * sizes::BRIDGE * (NODES - 1);
+    let floats = 4 * sizes::floats(NODES, features);
     println!(
         "opening check, {NODES} nodes, {features} features: {:.1} us with full rows and all bridges, {:.0} bytes a ns; \
          {:.1} us with empty rows, {:.0} bytes a ns",

@@ -3,6 +3,7 @@ use crate::history::{Call, Search, Sightings, State};
 use crate::library::outputs_before;
 use crate::outcome::Outcome;
 use oracle::recognising::{self, Recognised};
+use oracle::sizes;
 use oracle::stores::Stores;
 
 /// Both stores, as far as they are passed in, and the outputs, before a call.
@@ -43,7 +44,7 @@ pub fn outcome(call: &Call, state: &State) -> Outcome {
             outcome.number = counted.err().unwrap_or(0);
             outcome.given = vec![counted.unwrap_or(0) as u64];
         }
-        Call::Sizes(asked) => outcome.given = sizes(*asked),
+        Call::Sizes(asked) => outcome.given = sizes_within(*asked).map(|size| size as u64).to_vec(),
     }
     outcome
 }
@@ -70,22 +71,26 @@ fn find(outcome: &mut Outcome, search: &Search, state: &State) {
     }
 }
 
-/// The sizes of docs/SCOPE.md, 0 where a number is beyond its limits.
-fn sizes([capacity, max_degree, dimension]: [u32; 3]) -> Vec<u64> {
+/// The four sizes, 0 where a number is beyond its limits.
+fn sizes_within(asked: [u32; 3]) -> [usize; 4] {
+    let [capacity, degree, dimension] = asked.map(|number| number as usize);
     if !(1..=1024).contains(&capacity) {
-        return vec![0; 4];
+        return [0; 4];
     }
-    let (c, d) = (u64::from(capacity), u64::from(max_degree));
-    let in_degree = max_degree <= 32;
-    let in_dimension = (1..=64).contains(&dimension);
-    vec![
-        if in_degree { 16 + c * (4 + d) } else { 0 },
-        if in_dimension {
-            c * u64::from(dimension)
+    let (scratch_words, scratch_floats) = sizes::scratch(capacity);
+    let (in_degree, in_dimension) = (degree <= 32, (1..=64).contains(&dimension));
+    [
+        if in_degree {
+            sizes::words(capacity, degree)
         } else {
             0
         },
-        64 * c,
-        16 * c + 256,
+        if in_dimension {
+            sizes::floats(capacity, dimension)
+        } else {
+            0
+        },
+        scratch_words,
+        scratch_floats,
     ]
 }

@@ -4,6 +4,7 @@ use crate::history::{Call, Recognition, Scratch, Search, Sightings, Step, Store}
 use crate::limits::{beyond, size, within, Size};
 use crate::random::Random;
 use crate::vectors::Vectors;
+use oracle::sizes;
 use oracle::stores::Asked;
 
 const SECONDS_A_DAY: u64 = 86_400;
@@ -43,11 +44,13 @@ struct Maker {
     steps: Vec<Step>,
 }
 
-/// The lengths that the stores and scratch need (docs/SCOPE.md, Records).
+/// The lengths that the two stores need.
 fn lengths(asked: &Asked) -> (usize, usize) {
     let capacity = asked.capacity as usize;
-    let words = 16 + capacity * (4 + asked.max_degree as usize);
-    (words, capacity * asked.dimension as usize)
+    (
+        sizes::words(capacity, asked.max_degree as usize),
+        sizes::floats(capacity, asked.dimension as usize),
+    )
 }
 
 impl Maker {
@@ -170,9 +173,9 @@ impl Maker {
     }
 
     fn scratch(&mut self) -> Scratch {
-        let capacity = self.plan.capacity as usize;
+        let (words, floats) = sizes::scratch(self.plan.capacity as usize);
         Scratch {
-            lengths: (self.around(64 * capacity), self.around(16 * capacity + 256)),
+            lengths: (self.around(words), self.around(floats)),
             seed: self.random.next(),
         }
     }
@@ -277,18 +280,18 @@ impl Maker {
     /// Damage to one word: of the header, a row, a bridge, a component, or any word, also past the sizes.
     fn damage(&mut self) {
         let (capacity, degree) = (self.plan.capacity as usize, self.plan.max_degree as usize);
-        let rows = 16 + capacity;
-        let bridges = rows + capacity * (1 + degree);
+        let rows = sizes::rows_at(capacity);
+        let bridges = sizes::bridges_at(capacity, degree);
         let (words, floats) = lengths(&self.plan);
         let node = self.random.below(self.nodes + 1);
         let value = self.wrong_word();
         let (store, at, value) = match self.random.below(12) {
-            0..=3 => (Store::Words, self.random.below(16), value),
-            4 => (Store::Words, rows + node * (1 + degree), value),
+            0..=3 => (Store::Words, self.random.below(sizes::HEADER), value),
+            4 => (Store::Words, rows + node * sizes::row(degree), value),
             5 | 6 => (Store::Words, self.random.within(rows, bridges), value),
             7 => (
                 Store::Words,
-                bridges + self.random.below(2 * self.nodes + 1),
+                bridges + self.random.below(sizes::BRIDGE * self.nodes + 1),
                 value,
             ),
             8 => (Store::Words, self.random.below(words + 9), value),
@@ -356,7 +359,8 @@ impl Maker {
             values.push(self.random.below(most + 1) as u32);
             values.extend((0..degree).map(|_| self.random.below(n) as u32));
         }
-        self.put(Store::Words, 16 + self.plan.capacity as usize, values);
+        let rows = sizes::rows_at(self.plan.capacity as usize);
+        self.put(Store::Words, rows, values);
     }
 
     /// An open store that no call wrote: header, rows and vectors. The rest stays as it was.
@@ -406,8 +410,8 @@ impl Maker {
             let far = (near + self.random.within(1, n - 1)) % n;
             ends.extend([near as u32, far as u32]);
         }
-        let bridges = lengths(&self.plan).0 - 2 * self.plan.capacity as usize;
-        self.put(Store::Words, bridges, ends);
+        let (capacity, degree) = (self.plan.capacity as usize, self.plan.max_degree as usize);
+        self.put(Store::Words, sizes::bridges_at(capacity, degree), ends);
         let entry = self.random.below(n) as u32;
         self.put(Store::Words, 9, vec![entry, count as u32]);
         self.put(Store::Words, 0, vec![1]);

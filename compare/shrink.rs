@@ -4,6 +4,7 @@ use crate::library::Lending;
 use crate::lines::lines;
 use crate::play::{play, take, Difference};
 use crate::table::Table;
+use oracle::sizes;
 use oracle::stores::Asked;
 use std::time::{Duration, Instant};
 
@@ -56,7 +57,7 @@ impl Smallest {
             return false;
         };
         let state = state_after(before);
-        if state.lent.0 < 16 {
+        if state.lent.0 < sizes::HEADER {
             return false;
         }
         let mut steps = vec![

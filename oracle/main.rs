@@ -4,7 +4,7 @@
 //!        oracle all      the same lines, and prints whatever the published code hands out
 //!        oracle answer   reads questions (recorded/README.md) and prints them with their answers
 //!
-//! compare/ links it as a library, for its stores, its order and what the scope adds to the Rust.
+//! compare/ links it as a library, for its stores, its sizes, its order and what the scope adds to the Rust.
 mod answer;
 mod distance;
 mod error;
@@ -17,6 +17,7 @@ mod prefetch;
 mod probe;
 pub mod recognising;
 mod simd;
+pub mod sizes;
 pub mod stores;
 mod trace;
 

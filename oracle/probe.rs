@@ -1,11 +1,15 @@
 //! The program probe (scope, Checked values): key=value lines in, what the calls return out. A line that cannot be read as its kind ends it.
 use crate::order;
+use crate::sizes;
 use crate::stores::{Asked, Scratch, Stores};
 use crate::trace::{self, Trace};
 use std::fmt::Display;
 
+/// The largest of each that the probe has room for.
 const CAPACITY: usize = 64;
-const SCRATCH: Scratch = (64 * CAPACITY, 16 * CAPACITY + 256);
+const DEGREE: usize = 32;
+const DIMENSION: usize = 64;
+const SCRATCH: Scratch = sizes::scratch(CAPACITY);
 
 /// What `all` prints beside the probe's lines goes through here.
 struct Printer {
@@ -102,7 +106,8 @@ fn header<'a>(lines: &mut impl Iterator<Item = &'a str>) -> Option<Asked> {
 pub fn run(input: &[u8], all: bool) -> String {
     let input = String::from_utf8_lossy(input);
     let mut lines = input.split_terminator('\n');
-    let (mut words, mut floats) = (vec![0; 16 + CAPACITY * 36], vec![0; CAPACITY * 64]);
+    let mut words = vec![0; sizes::words(CAPACITY, DEGREE)];
+    let mut floats = vec![0; sizes::floats(CAPACITY, DIMENSION)];
     let mut stores = Stores {
         words: &mut words,
         floats: &mut floats,

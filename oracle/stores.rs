@@ -1,10 +1,9 @@
-//! The two stores and the calls on them: layout, well-formedness, sizes and refusals in the words of docs/SCOPE.md. Vectors, lists, bridges, entry
-//! nodes and answers come from the published code.
+//! The two stores and the calls on them: well-formedness and refusals in the words of docs/SCOPE.md, over the layout of sizes.rs. Vectors, lists,
+//! bridges, entry nodes and answers come from the published code.
 use crate::pipnn::{PipnnIndex, PipnnParams};
 use crate::recognising::{decide, Recognised};
+use crate::sizes::{self, HEADER};
 use crate::trace::{self, Trace};
-
-const HEADER: usize = 16;
 
 /// What `new` is asked for. Floats are bits.
 #[derive(Clone)]
@@ -70,11 +69,11 @@ impl Asked {
     }
 
     fn words(&self) -> usize {
-        HEADER + self.capacity as usize * (4 + self.max_degree as usize)
+        sizes::words(self.capacity as usize, self.max_degree as usize)
     }
 
     fn floats(&self) -> usize {
-        self.capacity as usize * self.dimension as usize
+        sizes::floats(self.capacity as usize, self.dimension as usize)
     }
 
     fn params(&self) -> PipnnParams {
@@ -129,11 +128,12 @@ impl Stores<'_> {
     }
 
     fn row_at(&self, node: usize) -> usize {
-        HEADER + self.words[11] as usize + node * (1 + self.words[5] as usize)
+        sizes::rows_at(self.words[11] as usize) + node * sizes::row(self.words[5] as usize)
     }
 
     fn bridge_at(&self, bridge: usize) -> usize {
-        self.row_at(self.words[11] as usize) + 2 * bridge
+        let start = sizes::bridges_at(self.words[11] as usize, self.words[5] as usize);
+        start + sizes::BRIDGE * bridge
     }
 
     fn row(&self, node: usize) -> &[u32] {
@@ -143,8 +143,8 @@ impl Stores<'_> {
 
     fn bridges(&self) -> Vec<(u32, u32)> {
         let start = self.bridge_at(0);
-        self.words[start..start + 2 * self.bridge_count()]
-            .chunks(2)
+        self.words[start..start + sizes::BRIDGE * self.bridge_count()]
+            .chunks(sizes::BRIDGE)
             .map(|ends| (ends[0], ends[1]))
             .collect()
     }
@@ -187,13 +187,12 @@ impl Stores<'_> {
             return 4;
         }
         let asked = self.asked();
-        let capacity = asked.capacity as usize;
-        let (scratch_words, scratch_floats) =
-            scratch.unwrap_or((64 * capacity, 16 * capacity + 256));
+        let needed = sizes::scratch(asked.capacity as usize);
+        let passed = scratch.unwrap_or(needed);
         let short = self.words.len() < asked.words()
             || self.floats.len() < asked.floats()
-            || scratch_words < 64 * capacity
-            || scratch_floats < 16 * capacity + 256;
+            || passed.0 < needed.0
+            || passed.1 < needed.1;
         if short {
             return 3;
         }

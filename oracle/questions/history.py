@@ -4,6 +4,7 @@ from dataclasses import dataclass, replace
 from draws import *
 
 ALPHA = single(1.2)
+HEADER = 16  # words
 
 
 @dataclass(frozen=True)
@@ -23,9 +24,11 @@ class Store:
     def but(self, **changes):
         return replace(self, **changes)
 
+    # the sizes and the layout of docs/SCOPE.md, for all questions
+
     @property
     def words(self):
-        return 16 + self.cap * (4 + self.degree)
+        return HEADER + self.cap * (4 + self.degree)
 
     @property
     def floats(self):
@@ -35,8 +38,11 @@ class Store:
     def scratch(self):
         return 64 * self.cap, 16 * self.cap + 256
 
+    def doc(self, node):
+        return HEADER + node
+
     def row(self, node):
-        return 16 + self.cap + node * (1 + self.degree)
+        return self.doc(self.cap) + node * (1 + self.degree)
 
     def bridge(self, number):
         return self.row(self.cap) + 2 * number

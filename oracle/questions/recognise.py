@@ -55,7 +55,7 @@ def at_known_distances():
     stored = [single(1 - n / 100) for n in range(0, 101, 4)] + [single(x) for x in (0.625, 0.875, 1.0, 0.0, -1.0, 1.5, 2.0, -3.0)]
     stored += [0x3F7FFFFF, 0x3F800001, 1, SIGN | 1, MINUS_ZERO, LARGEST, SIGN | LARGEST] + [d.unit() for _ in range(20)]
     yield from store.open(1)
-    yield from [word(0, 1), word(16, 0xFFFFFFFF)]
+    yield from [word(0, 1), word(store.doc(0), 0xFFFFFFFF)]
     for v in stored:
         yield set_float(0, v)
         distance = single(1 - value(v))
@@ -149,7 +149,7 @@ def written_otherwise():
             yield set_float(place, x)
         for node in range(n):
             count = d.between(0, store.degree)
-            yield from [word(16 + node, d.below(4)), word(store.row(node), count)]
+            yield from [word(store.doc(node), d.below(4)), word(store.row(node), count)]
             yield from [word(store.row(node) + 1 + i, d.below(n)) for i in range(count)]
         yield from [word(0, 1), word(9, d.below(n))]
         for _ in range(4):

@@ -37,7 +37,7 @@ def accepted_parameters():
         for x in values:
             store = SMALL.but(**{name: x})
             for more in (0, 9):
-                yield from [store.fill(d.below(1 << 40), more, more), store.new(), words(16), SUM]
+                yield from [store.fill(d.below(1 << 40), more, more), store.new(), words(HEADER), SUM]
     yield from [SMALL.fill(3, 4, 4), SMALL.new(), words(SMALL.words + 4), SMALL.but(cap=1).new(), words(SMALL.words + 4), SUM]
 
 
@@ -121,7 +121,7 @@ def damaged_rest():
     changes = [word(SMALL.row(node), x) for node in (0, n - 1, n) for x in (degree, degree + 1, 0xFFFFFFFF)]
     changes += [word(SMALL.row(node) + entry, x) for node in (0, n - 1, n) for entry in (1, degree) for x in (n - 1, n, 0xFFFFFFFF)]
     changes += [word(SMALL.bridge(0) + end, x) for end in (0, 1) for x in (0, 1, n - 1, n, 0xFFFFFFFF)]
-    changes += [word(SMALL.bridge(SMALL.cap) - 1, 0xFFFFFFFF), word(16, 0xFFFFFFFF)]
+    changes += [word(SMALL.bridge(SMALL.cap) - 1, 0xFFFFFFFF), word(SMALL.doc(0), 0xFFFFFFFF)]
     last = n * SMALL.dimension - 1
     changes += [set_float(place, x) for place in (0, last, last + 1) for x in NANS[:3] + [INFINITY, SIGN | INFINITY, LARGEST]]
     for change in changes:
@@ -156,7 +156,7 @@ def vectors():
     stored += [d.vector(4, component) for component in (d.subnormal, d.small, d.huge, d.near, d.finite, d.whole) for _ in range(4)]
     for i, v in enumerate(stored):
         yield from [add(d.of([0, 1, i, 0xFFFFFFFF]), v), SUM]
-    yield words(16 + store.cap)
+    yield words(store.row(0))
 
 
 def random_store():
@@ -180,7 +180,7 @@ def random_histories():
                 yield from [lend(d.between(0, room.words), d.between(0, room.floats)), adds(2, d.long(), 0), lend(room.words, room.floats)]
             if d.below(4) == 0:
                 yield from [room.build(), adds(1, d.long(), 0)]
-        yield words(16)
+        yield words(HEADER)
 
 
 def questions():
