@@ -1,5 +1,7 @@
 //! The index that owns its memory.
 #![cfg(feature = "std")]
+mod common;
+use common::HEADER;
 use pipnn_gateway::{Error, Index, Params, Recognition, Scratch};
 
 const DIMENSION: usize = 48;
@@ -117,7 +119,7 @@ fn kept_and_taken_up_again() {
     assert_eq!(refusal(vec![u32::MAX; 4000], floats.clone()), Some(Error::NotWellFormed));
     assert_eq!(refusal(words.clone(), floats[1..].to_vec()), Some(Error::SliceTooShort));
     let mut damaged = words;
-    damaged[16 + 50 + 1] = 50; // node 0's first entry leads to no node
+    damaged[HEADER + 50 + 1] = 50; // node 0's first entry leads to no node
     assert_eq!(refusal(damaged, floats), Some(Error::NotWellFormed));
 }
 

@@ -370,16 +370,16 @@ fn sightings_14() {
 
 #[test]
 fn sizes() {
-    let sizes = Sizes::needed(48, &Params::default(), 1024);
-    assert_eq!(
-        sizes,
-        Sizes {
-            words: 16 + 1024 * 36,
-            floats: 1024 * 48,
-            scratch_words: 65_536,
-            scratch_floats: 16_640
-        }
-    );
+    for (dimension, max_degree, capacity) in [(1, 0, 1), (48, 32, 1024), (64, 7, 100)] {
+        let params = Params {
+            max_degree,
+            ..Params::default()
+        };
+        assert_eq!(
+            Sizes::needed(dimension, &params, capacity),
+            common::sizes(dimension, &params, capacity)
+        );
+    }
     let none = Sizes {
         words: 0,
         floats: 0,
@@ -397,8 +397,7 @@ fn sizes() {
         Sizes {
             words: 0,
             floats: 0,
-            scratch_words: 64,
-            scratch_floats: 272
+            ..common::sizes(65, &wide, 1)
         }
     );
 }

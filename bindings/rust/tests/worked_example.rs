@@ -1,6 +1,6 @@
 //! The scope's worked example, over memory that is passed in.
 mod common;
-use common::{bits, three_phones, Memory};
+use common::{bits, sizes, three_phones, Memory, HEADER};
 use pipnn_gateway::{Error, Found, Params, Recognition};
 
 #[test]
@@ -9,7 +9,7 @@ fn graph() {
     memory.lent().build().unwrap();
     // state, entry node and number of bridges; then, past the header and eight doc ids, rows of a count and one entry
     assert_eq!((memory.words[0], memory.words[9], memory.words[10]), (1, 1, 1));
-    assert_eq!(memory.words[16..24], [10, 20, 30, 0, 0, 0, 0, 0]);
+    assert_eq!(memory.words[HEADER..24], [10, 20, 30, 0, 0, 0, 0, 0]);
     assert_eq!(memory.words[24..30], [1, 1, 1, 0, 1, 1]);
     // the bridge, near and far end
     assert_eq!(memory.words[40..42], [1, 2]);
@@ -66,10 +66,11 @@ fn header() {
     let mut memory = Memory::new(3, &params, 9);
     memory.lent().reset(3, &params, 9).unwrap();
     let expected = [0, 3, 0, 300, 20, 5, 7, 0, 60, 0, 0, 9, 0x3fd0_0000, 1, 0x3fc0_0000, 0];
-    assert_eq!(memory.words[..16], expected);
-    assert!(memory.words[16..].iter().all(|&word| word == 0));
+    assert_eq!(memory.words[..HEADER], expected);
+    assert!(memory.words[HEADER..].iter().all(|&word| word == 0));
     assert!(memory.floats.iter().all(|x| x.to_bits() == 0));
-    assert_eq!((memory.words.len(), memory.floats.len()), (16 + 9 * 9, 27));
+    let needed = sizes(3, &params, 9);
+    assert_eq!((memory.words.len(), memory.floats.len()), (needed.words, needed.floats));
 }
 
 #[test]

@@ -16,6 +16,19 @@ pub fn small() -> Params {
     }
 }
 
+/// Words of a store's header.
+pub const HEADER: usize = 16;
+
+/// The sizes that docs/SCOPE.md names, for numbers within their limits: the library is not asked.
+pub fn sizes(dimension: usize, params: &Params, capacity: usize) -> Sizes {
+    Sizes {
+        words: HEADER + capacity * (4 + params.max_degree),
+        floats: capacity * dimension,
+        scratch_words: 64 * capacity,
+        scratch_floats: 16 * capacity + 256,
+    }
+}
+
 /// Two stores and scratch of just the sizes, full of something else.
 #[derive(Clone)]
 pub struct Memory {
