@@ -24,8 +24,8 @@ PREFIXED(old)
 PREFIXED(new)
 
 enum { FEATURES = 48, MOST = 1024, DEGREE = 32, QUERIES = 32, ROUNDS = 41 };
-static uint32_t words[2][16 + MOST * (4 + DEGREE)], scratch_words[64 * MOST], open_words[16 + MOST * (4 + DEGREE)];
-static float floats[2][MOST * FEATURES], scratch_floats[16 * MOST + 256], open_floats[MOST * FEATURES];
+static uint32_t words[2][PIPNN_WORDS_SIZE(MOST, DEGREE)], open_words[PIPNN_WORDS_SIZE(MOST, DEGREE)], scratch_words[PIPNN_SCRATCH_WORDS(MOST)];
+static float floats[2][PIPNN_FLOATS_SIZE(MOST, FEATURES)], open_floats[PIPNN_FLOATS_SIZE(MOST, FEATURES)], scratch_floats[PIPNN_SCRATCH_FLOATS(MOST)];
 static float vectors[MOST * FEATURES], queries[QUERIES * FEATURES];
 static uint32_t nodes;
 static int differ;

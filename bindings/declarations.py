@@ -8,6 +8,7 @@ include/pipnn.h and in bindings/rust/src/sys.rs. Every function must be in all t
 the same names and types, and the same result; every struct with the same fields. A slice x of the source is a pointer x and a length
 x_length. Names of structs are snake case in C. Refusals have their names and numbers in crates/error, for code and for definitions:
 header and Rust must have the same, and every check of a definition one of these names. Limits are compared with the library's constants.
+The header's formulas for sizes, in its macros and in its text, must have the values of the definitions in crates/store.
 
 Then it tries edits of these files, one at a time and in memory, and fails if one goes unnoticed.
 """
@@ -24,6 +25,7 @@ REFUSALS = "crates/error/src/lib.rt"
 DEFINED_REFUSALS = "crates/error/specs/Numbers.antt"
 ERRORS = "bindings/rust/src/error.rs"
 LIMITS = "bindings/rust/src/params.rs"
+LAYOUT = "crates/store/specs/Layout.antt"
 LIMIT_SOURCES = ["crates/params/src/lib.rt", "crates/search/src/lib.rt", "crates/household/src/lib.rt"]
 
 NUMBERS = {"u32", "u64", "usize", "f32", "f64"}
@@ -216,6 +218,51 @@ def limits(files):
     )
 
 
+# ---- sizes
+
+# Of each size: its definition, its macro, and the buffer and the letters of its line under BUFFERS in the header.
+SIZES = [
+    ("wordsSize", "WORDS_SIZE", "words", "C D"),
+    ("floatsSize", "FLOATS_SIZE", "floats", "C dimension"),
+    ("scratchWords", "SCRATCH_WORDS", "scratch_words", "C"),
+    ("scratchFloats", "SCRATCH_FLOATS", "scratch_floats", "C"),
+]
+# Enough to tell any two formulas apart that have no power above the third of either number.
+TRIED = list(itertools.product((0, 1, 7, 1024), (0, 1, 5, 32)))
+
+
+def match_once(pattern, text, where):
+    found = list(re.finditer(pattern, text, re.M))
+    if len(found) != 1:
+        raise Unreadable(f"{where}: {len(found)} lines like '{pattern}'")
+    return found[0].groups()
+
+
+def values(formula, names, where):
+    """Of a formula over some of the names, at the numbers tried."""
+    if not re.fullmatch(r"[\w +*()]+", formula) or not set(re.findall(r"[A-Za-z_]\w*", formula)) <= set(names):
+        raise Unreadable(f"{where}: size '{formula}'")
+    try:
+        return [eval(formula, {"__builtins__": {}}, dict(zip(names, numbers))) for numbers in TRIED]
+    except (SyntaxError, TypeError, NameError):
+        raise Unreadable(f"{where}: size '{formula}'") from None
+
+
+def size_differences(files):
+    constants = dict(re.findall(r"^(\w+) = (\d+)$", files[LAYOUT], re.M))
+    header = files[HEADER]
+    for name, macro, buffer, letters in SIZES:
+        names, formula = match_once(rf"^{name} ((?:\w+ )+)= (.+)$", files[LAYOUT], LAYOUT)
+        whole = re.sub(r"[A-Za-z]\w*", lambda word: constants.get(word[0], word[0]), formula)
+        defined = values(whole, names.split(), LAYOUT)
+        arguments, body = match_once(rf"^#define PIPNN_{macro}\((.*?)\) (.+)$", header, HEADER)
+        (line,) = match_once(rf"^ \*   {buffer} +(\S.*?)  ", header, HEADER)
+        if values(body.replace("(size_t)", ""), parts(arguments), HEADER) != defined:
+            yield f"{HEADER}: PIPNN_{macro} is '{body}' where {LAYOUT} has '{formula}'"
+        if values(line, letters.split(), HEADER) != defined:
+            yield f"{HEADER}: {buffer} under BUFFERS has '{line}' where {LAYOUT} has '{formula}'"
+
+
 # ---- comparing
 
 
@@ -258,7 +305,8 @@ def compare(files):
     there, in_header, in_rust = limits(files)
     found += differences("limit", there, in_header, HEADER)
     found += differences("limit", there, in_rust, LIMITS)
-    return found, (len(functions), len(structs), len(refusals), len(there))
+    found += size_differences(files)
+    return found, (len(functions), len(structs), len(refusals), len(there), len(SIZES))
 
 
 # Edits that the comparison must notice: the file, the old text, and the new text for its first occurrence.
@@ -297,6 +345,15 @@ EDITS = [
     ("crates/def_calls/specs/Search.antt", "builtState)) notBuilt", "builtState)) 10"),
     ("crates/household/specs/Household.antt", "(badSightings, [])", "(14, [])"),
     ("crates/params/src/lib.rt", "MOST_DIMENSION: u32 = 64", "MOST_DIMENSION: u32 = 96"),
+    (LAYOUT, "headerSize + C * (4 + D)", "headerSize + C * (5 + D)"),
+    (LAYOUT, "headerSize = 16", "headerSize = 20"),
+    (HEADER, "(4 + (size_t)(max_degree))", "(5 + (size_t)(max_degree))"),
+    (HEADER, "(4 + (size_t)(max_degree))", "4 + (size_t)(max_degree)"),
+    (HEADER, "((size_t)(capacity) * (size_t)(dimension))", "((size_t)(capacity) * (size_t)(capacity))"),
+    (HEADER, "(64 * (size_t)(capacity))", "(32 * (size_t)(capacity))"),
+    (HEADER, "#define PIPNN_SCRATCH_FLOATS(capacity) (16 * (size_t)(capacity) + 256)\n", ""),
+    (HEADER, "16 + C * (4 + D)", "16 + C * (3 + D)"),
+    (HEADER, "16 * C + 256 ", "16 * C + 128 "),
 ]
 
 
@@ -320,14 +377,14 @@ def main():
     names += [str(path.relative_to(HOME)) for path in sorted(HOME.glob("crates/*/specs/**/*.antt"))]
     files = {name: (HOME / name).read_text(encoding="utf-8") for name in names}
     try:
-        found, (functions, structs, numbers, bounds) = compare(files)
+        found, (functions, structs, numbers, bounds, sizes) = compare(files)
     except Unreadable as unread:
         sys.exit(f"cannot be read: {unread}")
     found = found or list(unnoticed(files))
     if found:
         sys.exit("\n".join(found))
     print(
-        f"declarations: {functions} functions, {structs} structs, {numbers} return numbers and {bounds} limits agree; "
+        f"declarations: {functions} functions, {structs} structs, {numbers} return numbers, {bounds} limits and {sizes} sizes agree; "
         f"{len(EDITS)} edits of them were noticed"
     )
 

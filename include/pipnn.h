@@ -8,7 +8,8 @@
  *
  * HOW IT IS USED
  *
- *   1. Ask for the sizes (pipnn_words_size and the three after it) and provide two stores and two pieces of scratch.
+ *   1. Provide two stores and two pieces of scratch, static with the macros PIPNN_WORDS_SIZE and the three after it, or
+ *      allocated after asking for the sizes (pipnn_words_size and the three after it).
  *   2. pipnn_new makes the stores an index with no phones; pipnn_add adds one phone at a time, as a vector of
  *      'dimension' features with a doc id; pipnn_build makes the graph that searches walk. After it no phone can be
  *      added; pipnn_new on the same stores starts again.
@@ -150,8 +151,14 @@ struct pipnn_household {
     uint32_t phones; /* how many different doc ids; 0 after a refusal */
 };
 
-/* How many elements each buffer has to have (see BUFFERS). A size is 0 where a number is beyond its limits: pipnn_new then
- * refuses it. */
+/* How many elements each buffer has to have (see BUFFERS), as constant expressions for static buffers. Numbers have to be
+ * within their limits: a macro does not test it, and pipnn_new refuses them otherwise. */
+#define PIPNN_WORDS_SIZE(capacity, max_degree) (16 + (size_t)(capacity) * (4 + (size_t)(max_degree)))
+#define PIPNN_FLOATS_SIZE(capacity, dimension) ((size_t)(capacity) * (size_t)(dimension))
+#define PIPNN_SCRATCH_WORDS(capacity) (64 * (size_t)(capacity))
+#define PIPNN_SCRATCH_FLOATS(capacity) (16 * (size_t)(capacity) + 256)
+
+/* The same sizes as functions. A size is 0 where a number is beyond its limits: pipnn_new then refuses it. */
 size_t pipnn_words_size(uint32_t capacity, uint32_t max_degree);
 size_t pipnn_floats_size(uint32_t capacity, uint32_t dimension);
 size_t pipnn_scratch_words(uint32_t capacity);
@@ -159,7 +166,7 @@ size_t pipnn_scratch_floats(uint32_t capacity);
 
 /* Makes the two stores, of whatever content, an open index with no phones, and zeroes them up to their sizes.
  *
- *   words, floats    16 + capacity * (4 + max_degree) words, capacity * dimension floats
+ *   words, floats    PIPNN_WORDS_SIZE(capacity, max_degree) words, PIPNN_FLOATS_SIZE(capacity, dimension) floats
  *   dimension        features of a phone: 1 to 64
  *   max_leaf_size    1 to 2048; usually 2048, with which every index here is one leaf
  *   min_leaf_size    0 to 1024; usually 64
@@ -198,7 +205,7 @@ uint32_t pipnn_add(uint32_t *words, size_t words_length,
 
 /* Makes an open index that has phones a built one: writes its graph to the word store. Every phone can then be reached.
  *
- *   scratch_words, scratch_floats   64 * capacity words, 16 * capacity + 256 floats
+ *   scratch_words, scratch_floats   PIPNN_SCRATCH_WORDS(capacity) words, PIPNN_SCRATCH_FLOATS(capacity) floats
  *
  * Returns 0, 3, 4 or 9. */
 uint32_t pipnn_build(uint32_t *words, size_t words_length,
@@ -211,7 +218,7 @@ uint32_t pipnn_build(uint32_t *words, size_t words_length,
  *   query            'dimension' floats, each finite; it need not be scaled
  *   k, ef            0 to 1024
  *   docs, distances  at least min(k, n) entries each; k is always enough
- *   scratch_words, scratch_floats   64 * capacity words, 16 * capacity + 256 floats
+ *   scratch_words, scratch_floats   PIPNN_SCRATCH_WORDS(capacity) words, PIPNN_SCRATCH_FLOATS(capacity) floats
  *
  * Its number is 0, 3, 4, 10, 6, 7, 11 or 12. */
 struct pipnn_found pipnn_search_with_ef(const uint32_t *words, size_t words_length,
@@ -241,7 +248,7 @@ struct pipnn_found pipnn_search(const uint32_t *words, size_t words_length,
  *   query            'dimension' floats, each finite; it need not be scaled
  *   ef               0 to 1024
  *   limit            finite
- *   scratch_words, scratch_floats   64 * capacity words, 16 * capacity + 256 floats
+ *   scratch_words, scratch_floats   PIPNN_SCRATCH_WORDS(capacity) words, PIPNN_SCRATCH_FLOATS(capacity) floats
  *
  * Its number is 0, 3, 4, 10, 6, 7, 11 or 13. */
 struct pipnn_recognised pipnn_recognise(const uint32_t *words, size_t words_length,

@@ -30,8 +30,9 @@ static const struct trial trials[] = {
     {"small buckets gather: every level deals 2,048 nodes, each a leader", RANDOM, 2, 1, 1024, 1.0},
 };
 
-static uint32_t words[16 + PHONES * (4 + DEGREE)], scratch_words[64 * PHONES], docs[PHONES];
-static float floats[PHONES * FEATURES], scratch_floats[16 * PHONES + 256], distances[PHONES], phones[PHONES][FEATURES];
+static uint32_t words[PIPNN_WORDS_SIZE(PHONES, DEGREE)], scratch_words[PIPNN_SCRATCH_WORDS(PHONES)], docs[PHONES];
+static float floats[PIPNN_FLOATS_SIZE(PHONES, FEATURES)], scratch_floats[PIPNN_SCRATCH_FLOATS(PHONES)];
+static float distances[PHONES], phones[PHONES][FEATURES];
 static uint64_t seconds[SIGHTINGS];
 static uint32_t sighted[SIGHTINGS];
 
