@@ -6,11 +6,12 @@
 The source is crates/drintelbok/src/lib.rt: its functions marked `pub extern "C"` and its `#[repr(C)]` structs. They are declared in
 include/pipnn.h and in bindings/rust/src/sys.rs. Every function must be in all three, with the same parameters in the same order, of
 the same names and types, and the same result; every struct with the same fields. A slice x of the source is a pointer x and a length
-x_length. Names of structs are snake case in C. Refusals have their names and numbers in crates/error, for code and for definitions:
+x_length. Names of structs are snake case in C; a struct has at most seven fields, of 32 bits each (docs/DECISIONS.md, 51). Refusals have their names and numbers in crates/error, for code and for definitions:
 header and Rust must have the same, and every check of a definition one of these names. Limits are compared with the library's constants.
 The header's formulas for sizes, in its macros and in its text, must have the values of the definitions in crates/store.
 
-Then it tries edits of these files, one at a time and in memory, and fails if one goes unnoticed.
+Then it tries edits of these files, one at a time and in memory, and fails if one goes unnoticed; so too with three small texts of its
+own, which have every type that may cross C, whether the library uses it or not.
 """
 import itertools
 import pathlib
@@ -28,8 +29,18 @@ LIMITS = "bindings/rust/src/params.rs"
 LAYOUT = "crates/store/specs/Layout.antt"
 LIMIT_SOURCES = ["crates/params/src/lib.rt", "crates/search/src/lib.rt", "crates/household/src/lib.rt"]
 
-NUMBERS = {"u32", "u64", "usize", "f32", "f64"}
-C_NUMBERS = {"uint32_t": "u32", "uint64_t": "u64", "size_t": "usize", "float": "f32", "double": "f64"}
+C_NUMBERS = {
+    "uint8_t": "u8",
+    "uint32_t": "u32",
+    "uint64_t": "u64",
+    "int64_t": "i64",
+    "size_t": "usize",
+    "float": "f32",
+    "double": "f64",
+}
+NUMBERS = set(C_NUMBERS.values())
+FIELDS = {"u32", "f32"}
+MOST_FIELDS = 7
 
 
 class Unreadable(Exception):
@@ -46,9 +57,15 @@ def parts(text):
 
 def field(text, where):
     found = re.fullmatch(r"pub (\w+): (\w+)", text)
-    if not found or found[2] not in NUMBERS:
+    if not found:
         raise Unreadable(f"{where}: field '{text}'")
     return found.groups()
+
+
+def struct_of(name, fields, where):
+    if not 1 <= len(fields) <= MOST_FIELDS or any(kind not in FIELDS for _, kind in fields):
+        raise Unreadable(f"{where}: struct {name} has other than 1 to {MOST_FIELDS} fields of 32 bits")
+    return name, fields
 
 
 def once(pairs, where):
@@ -75,7 +92,7 @@ def source_parameter(text):
 def of_source(text):
     text = re.sub(r"//.*", "", text)
     structs = [
-        (name, [field(f, SOURCE) for f in parts(body)])
+        struct_of(name, [field(f, SOURCE) for f in parts(body)], SOURCE)
         for name, body in re.findall(r"#\[repr\(C\)\]\s*pub struct (\w+) \{(.*?)\}", text, re.S)
     ]
     functions = [
@@ -121,7 +138,7 @@ def of_header(text):
         struct = re.fullmatch(r"struct (\w+) \{(.*)\}", declaration)
         if struct:
             fields = [c_parameter(" ".join(f.split())) for f in struct[2].split(";") if f.strip()]
-            structs.append((camel(struct[1]), fields))
+            structs.append(struct_of(camel(struct[1]), fields, HEADER))
             continue
         function = re.fullmatch(r"((?:struct )?\w+) (\w+)\((.*)\)", declaration)
         if not function:
@@ -144,7 +161,7 @@ def rust_parameter(text):
 def of_rust(text):
     text = re.sub(r"//.*", "", text)
     structs = [
-        (name, [field(f, RUST) for f in parts(body)])
+        struct_of(name, [field(f, RUST) for f in parts(body)], RUST)
         for name, body in re.findall(r"#\[repr\(C\)\]\s*(?:#\[.*?\]\s*)*pub struct (\w+) \{(.*?)\}", text, re.S)
     ]
     block = re.findall(r'extern "C" \{(.*?)\}', text, re.S)
@@ -286,8 +303,11 @@ def differences(what, there, here, where, source="the source"):
                 break
 
 
-def compare(files):
+def compare_declared(files):
     structs, functions = of_source(files[SOURCE])
+    odd = sorted(name for name, (_, result) in functions.items() if result not in NUMBERS | structs.keys())
+    if odd:
+        raise Unreadable(f"{SOURCE}: results of {odd}")
     found = []
     for where, (other_structs, other_functions) in (
         (HEADER, of_header(files[HEADER])),
@@ -295,6 +315,11 @@ def compare(files):
     ):
         found += differences("struct", structs, other_structs, where)
         found += differences("function", functions, other_functions, where)
+    return found, (len(functions), len(structs))
+
+
+def compare(files):
+    found, declared = compare_declared(files)
     named = named_refusals(files)
     refusals = named[REFUSALS]
     for where in (DEFINED_REFUSALS, HEADER, ERRORS):
@@ -306,7 +331,7 @@ def compare(files):
     found += differences("limit", there, in_header, HEADER)
     found += differences("limit", there, in_rust, LIMITS)
     found += size_differences(files)
-    return found, (len(functions), len(structs), len(refusals), len(there), len(SIZES))
+    return found, (*declared, len(refusals), len(there), len(SIZES))
 
 
 # Edits that the comparison must notice: the file, the old text, and the new text for its first occurrence.
@@ -357,19 +382,142 @@ EDITS = [
 ]
 
 
-def unnoticed(files):
-    for name, old, new in EDITS:
-        if old not in files[name]:
-            yield f"{name}: the edit's text is not there: {old!r}"
-            continue
+# Three texts with every type that may cross C.
+EVERY_TYPE = {
+    SOURCE: """
+#[repr(C)]
+pub struct PipnnSeven {
+    pub number: u32,
+    pub first: u32,
+    pub second: u32,
+    pub third: u32,
+    pub fourth: u32,
+    pub fifth: f32,
+    pub sixth: u32,
+}
+
+#[no_mangle]
+pub extern "C" fn pipnn_seven(offset: i64, seconds: &[i64], moved: &mut [i64], mark: u8, text: &[u8], page: &mut [u8]) -> PipnnSeven
+{
+}
+
+#[no_mangle]
+pub extern "C" fn pipnn_day(second: i64, share: f64, from: u64) -> i64
+{
+}
+
+#[no_mangle]
+pub extern "C" fn pipnn_byte(text: &[u8], at: usize) -> u8
+{
+}
+""",
+    HEADER: """
+struct pipnn_seven {
+    uint32_t number;
+    uint32_t first;
+    uint32_t second;
+    uint32_t third;
+    uint32_t fourth;
+    float fifth;
+    uint32_t sixth;
+};
+struct pipnn_seven pipnn_seven(int64_t offset, const int64_t *seconds, size_t seconds_length,
+                               int64_t *moved, size_t moved_length, uint8_t mark,
+                               const uint8_t *text, size_t text_length, uint8_t *page, size_t page_length);
+int64_t pipnn_day(int64_t second, double share, uint64_t from);
+uint8_t pipnn_byte(const uint8_t *text, size_t text_length, size_t at);
+""",
+    RUST: """
+#[repr(C)]
+pub struct PipnnSeven {
+    pub number: u32,
+    pub first: u32,
+    pub second: u32,
+    pub third: u32,
+    pub fourth: u32,
+    pub fifth: f32,
+    pub sixth: u32,
+}
+extern "C" {
+    pub fn pipnn_seven(
+        offset: i64,
+        seconds: *const i64,
+        seconds_length: usize,
+        moved: *mut i64,
+        moved_length: usize,
+        mark: u8,
+        text: *const u8,
+        text_length: usize,
+        page: *mut u8,
+        page_length: usize,
+    ) -> PipnnSeven;
+    pub fn pipnn_day(second: i64, share: f64, from: u64) -> i64;
+    pub fn pipnn_byte(text: *const u8, text_length: usize, at: usize) -> u8;
+}
+""",
+}
+RUST_FIELD, C_FIELD = "    pub sixth: u32,\n", "    uint32_t sixth;\n"
+
+
+def in_all(rust_field, c_field):
+    """The last field as another one, in the three texts at once."""
+    return [(SOURCE, RUST_FIELD, rust_field), (HEADER, C_FIELD, c_field), (RUST, RUST_FIELD, rust_field)]
+
+
+EDITS_OF_EVERY_TYPE = [
+    (SOURCE, "offset: i64", "offset: u64"),
+    (SOURCE, "offset: i64", "offset: i32"),
+    (SOURCE, "seconds: &[i64]", "seconds: &[u64]"),
+    (SOURCE, "seconds: &[i64]", "seconds: &[i64; 4]"),
+    (SOURCE, "moved: &mut [i64]", "moved: &[i64]"),
+    (SOURCE, "mark: u8", "mark: u32"),
+    (SOURCE, "page: &mut [u8]", "page: &[u8]"),
+    (SOURCE, "-> i64", "-> u64"),
+    (SOURCE, "-> u8", "-> i8"),
+    (SOURCE, "-> PipnnSeven", "-> PipnnEight"),
+    (SOURCE, RUST_FIELD, ""),
+    (SOURCE, "pub fifth: f32", "pub fifth: u32"),
+    (HEADER, "int64_t offset", "uint64_t offset"),
+    (HEADER, "int64_t offset", "long offset"),
+    (HEADER, "const int64_t *seconds", "const uint64_t *seconds"),
+    (HEADER, "const int64_t *seconds", "int64_t *seconds"),
+    (HEADER, "uint8_t mark", "uint32_t mark"),
+    (HEADER, "const uint8_t *text", "const char *text"),
+    (HEADER, "uint8_t *page", "uint32_t *page"),
+    (HEADER, ", size_t page_length", ""),
+    (HEADER, "\nint64_t pipnn_day", "\nuint64_t pipnn_day"),
+    (HEADER, "\nuint8_t pipnn_byte", "\nuint32_t pipnn_byte"),
+    (HEADER, "    float fifth;\n" + C_FIELD, C_FIELD + "    float fifth;\n"),
+    (HEADER, C_FIELD, "    uint8_t sixth;\n"),
+    (RUST, "offset: i64", "offset: u64"),
+    (RUST, "seconds: *const i64", "seconds: *const u64"),
+    (RUST, "moved: *mut i64", "moved: *const i64"),
+    (RUST, "mark: u8", "mark: i8"),
+    (RUST, "page: *mut u8", "page: *mut u32"),
+    (RUST, "-> u8", "-> u32"),
+    (RUST, RUST_FIELD, RUST_FIELD + "    pub seventh: u32,\n"),
+    in_all(RUST_FIELD + "    pub seventh: u32,\n", C_FIELD + "    uint32_t seventh;\n"),
+    in_all("    pub sixth: i64,\n", "    int64_t sixth;\n"),
+    in_all("    pub sixth: u8,\n", "    uint8_t sixth;\n"),
+    in_all("    pub sixth: [u32; 2],\n", "    uint32_t sixth[2];\n"),
+]
+
+
+def unnoticed(files, edits, comparing):
+    """Edits, each of one file or of several at once, that a comparison of files that agree does not notice."""
+    for edit in edits:
+        together = edit if isinstance(edit, list) else [edit]
         edited = dict(files)
-        edited[name] = files[name].replace(old, new, 1)
+        for name, old, new in together:
+            if old not in edited[name]:
+                yield f"{name}: the edit's text is not there: {old!r}"
+            edited[name] = edited[name].replace(old, new, 1)
         try:
-            found, _ = compare(edited)
+            found, _ = comparing(edited)
         except Unreadable as unread:
             found = [str(unread)]
         if not found:
-            yield f"{name}: {new!r} in place of {old!r} goes unnoticed"
+            yield f"edit goes unnoticed: {together!r}"
 
 
 def main():
@@ -378,14 +526,17 @@ def main():
     files = {name: (HOME / name).read_text(encoding="utf-8") for name in names}
     try:
         found, (functions, structs, numbers, bounds, sizes) = compare(files)
+        of_every_type, _ = compare_declared(EVERY_TYPE)
     except Unreadable as unread:
         sys.exit(f"cannot be read: {unread}")
-    found = found or list(unnoticed(files))
+    found += of_every_type
+    found = found or list(unnoticed(files, EDITS, compare)) + list(unnoticed(EVERY_TYPE, EDITS_OF_EVERY_TYPE, compare_declared))
     if found:
         sys.exit("\n".join(found))
     print(
         f"declarations: {functions} functions, {structs} structs, {numbers} return numbers, {bounds} limits and {sizes} sizes agree; "
-        f"{len(EDITS)} edits of them were noticed"
+        f"{len(EDITS)} edits of them were noticed, "
+        f"and {len(EDITS_OF_EVERY_TYPE)} of texts with every type that may cross C"
     )
 
 
