@@ -16,9 +16,6 @@ Inv-loop v₀ by i₀ v i = (i ≤ length v₀) × (length v ≡ length v₀) ×
 abbrev μ-loop : tie.MeasureT-loop
 μ-loop v₀ by i₀ v i = length v₀ - i
 
-loop-holds : tie.Need-loop-holds Inv-loop μ-loop
-loop-holds c = (search needs, refl, refl)
-
 loop-again : tie.Need-loop-again Inv-loop μ-loop
 loop-again c =
     let l = c .before .before .loop in
@@ -33,9 +30,6 @@ loop-again c =
           ∙ part-set (λ (x : Float). div binary32 x by) v₀ nan (l .i) h,
     )
 
-same-length : tie.Need-same-length Inv-loop μ-loop
-same-length c = c .before .loop .inv .1
-
 returns : tie.Need-returns Inv-loop μ-loop
 returns c =
     let l = c .before .loop in
@@ -46,6 +40,7 @@ pub divide-spec : {M : Type 1} → statement M
 divide-spec =
     tie.close
     (tie.spec
-    Inv-loop μ-loop loop-holds
+    Inv-loop μ-loop (λ c. (search needs, refl, refl))
     -- v, i, the loop measure
-    (λ c. search needs) (λ c. search needs) (λ c. search needs) (λ c. search needs) (λ c. search needs) (λ c. search needs) loop-again same-length returns)
+    (λ c. search needs) (λ c. search needs) (λ c. search needs) (λ c. search needs) (λ c. search needs) (λ c. search needs) loop-again
+    (λ c. c .before .loop .inv .1) returns)

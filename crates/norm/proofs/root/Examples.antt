@@ -1,7 +1,7 @@
 -- Closed examples: the definition computes. Assumes nothing.
 use mathlib.Core.Path.{_≡_, refl}
 use mathlib.Core.Bool.{false}
-use lib.IntN.{pos, negsuc}
+use lib.IntN.{pos}
 use lib.Ieee.{fin, binary32, binary64}
 use Rattle.norm.specs.Root.{rootOf}
 

@@ -37,32 +37,11 @@ Inv-loop b x t q₀ k₀ q k = (q * 2 ^ k ≡ patternUnits b * 2 ^ 23) × (0 < p
 abbrev μ-loop : tie.MeasureT-loop
 μ-loop b x t q₀ k₀ q k = k
 
-add-t7 : tie.Need-add-t7 Inv-loop μ-loop
-add-t7 c = omega arith
-
-cast-t8 : tie.Need-cast-t8 Inv-loop μ-loop
-cast-t8 c = omega arith
-
-add-t9 : tie.Need-add-t9 Inv-loop μ-loop
-add-t9 c = omega arith
-
-cast-t10 : tie.Need-cast-t10 Inv-loop μ-loop
-cast-t10 c = omega arith
-
-returns : tie.Need-returns Inv-loop μ-loop
-returns c = (normal-is (c .before .args .b) (c .if1 .taken), omega arith, omega arith, omega arith)
-
-cast-q : tie.Need-cast-q Inv-loop μ-loop
-cast-q c = omega arith
-
 loop-holds : tie.Need-loop-holds Inv-loop μ-loop
 loop-holds c =
     let b = c .before .args .b in
     let e = units-low b (omega arith) in
     (ap (λ (n : ℕ). n * 2 ^ 23) (sym e), omega arith, omega arith, omega arith)
-
-add-q : tie.Need-add-q Inv-loop μ-loop
-add-q c = omega arith
 
 sub-k : tie.Need-sub-k Inv-loop μ-loop
 sub-k c =
@@ -80,8 +59,10 @@ loop-again c =
     let p = k-pos (patternUnits (c .before .before .before .args .b)) (l .q) (l .k) (l .inv .0) (l .inv .1) (c .loop-test .taken) in
     (double (l .q) (l .k) p ∙ l .inv .0, l .inv .1, omega arith, omega arith)
 
-returns-2 : tie.Need-returns-2 Inv-loop μ-loop
-returns-2 c = (c .before .loop .inv .0, omega arith, omega arith, omega arith)
-
 pub scale-spec : {M : Type 1} → statement M
-scale-spec = tie.close (tie.spec Inv-loop μ-loop add-t7 cast-t8 add-t9 cast-t10 returns cast-q loop-holds add-q sub-k loop-less loop-again returns-2)
+scale-spec =
+    tie.close
+    (tie.spec
+    Inv-loop μ-loop (λ c. omega arith) (λ c. omega arith) (λ c. omega arith) (λ c. omega arith)
+    (λ c. (normal-is (c .before .args .b) (c .if1 .taken), omega arith, omega arith, omega arith)) (λ c. omega arith) loop-holds (λ c. omega arith) sub-k
+    loop-less loop-again (λ c. (c .before .loop .inv .0, omega arith, omega arith, omega arith)))

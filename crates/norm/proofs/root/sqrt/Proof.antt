@@ -39,9 +39,6 @@ root-bits-requires c κs = (bits-pos (c .before .before .args .s) (held (c .befo
 returns-2 : tie.Need-returns-2
 returns-2 c = c .root-bits .ensures .0 ∙ ap (rootOf binary32) (ofBits-toBits binary32 (c .before .before .before .args .s) (held (c .before .before .before)))
 
-returns-3 : tie.Need-returns-3
-returns-3 c = nan-is ∙ negative (c .before .before .args .s) (under (c .before .before .args .s) (c .if3 .taken))
-
 returns-4 : tie.Need-returns-4
 returns-4 c = neither (c .before .before .args .s) (over (c .before .before .args .s) (c .before .if1 .left)) (under (c .before .before .args .s) (c .if3 .left))
 
@@ -50,4 +47,5 @@ sqrt-spec =
     tie.close
     (tie.spec
     (λ c. real (c .before .args .s) (over (c .before .args .s) (c .if1 .taken))) returns root-bits-requires
-    (λ c. no-nan (c .root-bits .result) (c .root-bits .ensures .1)) returns-2 returns-3 returns-4)
+    (λ c. no-nan (c .root-bits .result) (c .root-bits .ensures .1)) returns-2
+    (λ c. nan-is ∙ negative (c .before .before .args .s) (under (c .before .before .args .s) (c .if3 .taken))) returns-4)

@@ -45,9 +45,6 @@ Inv-loop n r₀ k₀ r k = J n r k
 abbrev μ-loop : tie.MeasureT-loop
 μ-loop n r₀ k₀ r k = k
 
-shl-t : tie.Need-shl-t Inv-loop μ-loop
-shl-t c = omega arith
-
 add-t : tie.Need-add-t Inv-loop μ-loop
 add-t c =
     let l = c .before .loop in
@@ -88,7 +85,7 @@ whole-root-spec =
     (tie.spec
     Inv-loop μ-loop
     -- the loop begins, k
-    (λ c. search needs) (λ c. search needs) shl-t add-t mul-if1
+    (λ c. search needs) (λ c. search needs) (λ c. omega arith) add-t mul-if1
     -- the loop measure
     (λ c. search needs) loop-again
     -- the loop measure
