@@ -33,21 +33,17 @@ at-positive : (x : Float) → T (not (isNan x)) → toBits binary32 x < 0x8000_0
 unfolding keyOf
 at-positive x t h = sym (pick-false _ _ (is-false (isNan x) t) ∙ pick-false _ _ (lt-leb _ _ h))
 
-returns : tie.Need-returns
-returns c = at-nan (c .before .args .x) (differs-from-itself (c .before .args .x) (subst T (sym (c .if1 .taken)) tt))
-
 sub-result : tie.Need-sub-result
 sub-result c =
     let s = c .before .before in
     let held : T (fits binary32 (s .args .x)) = subst T (sym (s .good .0 .1)) tt in
     omega (arith, toBits-lt binary32 (s .args .x) held)
 
-returns-2 : tie.Need-returns-2
-returns-2 c = let x = c .before .before .args .x in at-negative x (real x (c .before .if1 .left)) (c .if2 .taken)
-
 pub key-spec : {M : Type 1} → statement M
 key-spec =
     tie.close
     (tie.spec
-    returns (λ c. real (c .before .args .x) (c .if1 .left)) sub-result (λ c. search needs) returns-2
+    (λ c. at-nan (c .before .args .x) (differs-from-itself (c .before .args .x) (subst T (sym (c .if1 .taken)) tt)))
+    (λ c. real (c .before .args .x) (c .if1 .left)) sub-result (λ c. search needs)
+    (λ c. let x = c .before .before .args .x in at-negative x (real x (c .before .if1 .left)) (c .if2 .taken))
     (λ c. let x = c .before .before .args .x in at-positive x (real x (c .before .if1 .left)) (c .if2 .left)))

@@ -8,17 +8,9 @@ use Rattle.basics.proofs.Whole.{whole-piece, no-piece}
 use borrow.Author.Needs.{needs}
 use Rattle.distance.proofs.vectors.get_vector.Statement.{statement}
 use Rattle.distance.proofs.vectors.get_vector.Tie as tie
-use Rattle.distance.proofs.vectors.get_vector.Reads as reads
-use Rattle.distance.proofs.vectors.get_vector.Lts as lts
 
 small : (a b : ℕ) → a ≤ 4294967295 → b ≤ 4294967295 → a * b ≤ 4294967295 * 4294967295
 small a b h k = mul-le-mul h k
-
-mul-at : tie.Need-mul-at
-mul-at c = omega (arith, small (c .before .args .node .0) (c .before .args .dimension) (omega arith) (omega arith))
-
-add-end : tie.Need-add-end
-add-end c = omega (arith, small (c .before .args .node .0) (c .before .args .dimension) (omega arith) (omega arith))
 
 returns : tie.Need-returns
 returns c =
@@ -36,7 +28,8 @@ get-vector-spec =
     tie.close
     (tie.spec
     -- at
-    (λ c. search needs) mul-at add-end
+    (λ c. search needs) (λ c. omega (arith, small (c .before .args .node .0) (c .before .args .dimension) (omega arith) (omega arith)))
+    (λ c. omega (arith, small (c .before .args .node .0) (c .before .args .dimension) (omega arith) (omega arith)))
     -- result, part-result-start, part-result-end
     (λ c. search needs) (λ c. search needs) (λ c. search needs) (λ c. search needs) returns
     -- result, part-result-start, part-result-end
