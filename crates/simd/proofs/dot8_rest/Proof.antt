@@ -27,9 +27,6 @@ abbrev μ-loop : tie.MeasureT-loop
 μ-loop q a b c d e f g h sum-a₀ sum-b₀ sum-c₀ sum-d₀ sum-e₀ sum-f₀ sum-g₀ sum-h₀ i₀ sum-a sum-b sum-c sum-d sum-e sum-f sum-g sum-h i =
     length q - i
 
-loop-holds : tie.Need-loop-holds Inv-loop μ-loop
-loop-holds c = (omega arith, refl, refl, refl, refl, refl, refl, refl, refl)
-
 loop-again : tie.Need-loop-again Inv-loop μ-loop
 loop-again c =
     let at = c .before .before .before .before .before .before .before .before .before .before in
@@ -69,7 +66,7 @@ dot8-rest-spec =
     (tie.spec
     Inv-loop μ-loop
     -- i
-    (λ c. search needs) loop-holds
+    (λ c. search needs) (λ c. (omega arith, refl, refl, refl, refl, refl, refl, refl, refl))
     -- x, sum_a, sum_b, sum_c, sum_d, sum_e
     (λ c. search needs) (λ c. search needs) (λ c. search needs) (λ c. search needs) (λ c. search needs) (λ c. search needs) (λ c. search needs)
     (λ c. search needs) (λ c. search needs) (λ c. search needs) (λ c. search needs) (λ c. search needs)
