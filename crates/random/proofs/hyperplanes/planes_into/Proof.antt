@@ -60,9 +60,6 @@ loop-again c =
       written out₀ (l .out) (l .k) v (l .inv .4) (omega arith) (read binary32 (l .k) (getD table (l .k) 0) (rule (l .k) (omega arith))),
     )
 
-same-length : tie.Need-same-length Inv-loop μ-loop
-same-length c = c .before .loop .inv .3
-
 returns : tie.Need-returns Inv-loop μ-loop
 returns c =
     let l = c .before .loop in
@@ -80,4 +77,4 @@ planes-into-spec =
     -- out
     (λ c. search needs) (λ c. search needs) float-from-bits-out
     -- out, k, the loop measure
-    (λ c. search needs) (λ c. search needs) (λ c. search needs) (λ c. search needs) loop-again same-length returns)
+    (λ c. search needs) (λ c. search needs) (λ c. search needs) (λ c. search needs) loop-again (λ c. c .before .loop .inv .3) returns)

@@ -36,9 +36,6 @@ loop-again c =
     let left₀ = c .before .before .args .left .now in
     (omega arith, length-set (l .left) (l .i) (l .i) ∙ l .inv .1, written left₀ (l .left) (l .i) (l .inv .2) (omega arith))
 
-same-length : tie.Need-same-length Inv-loop μ-loop
-same-length c = c .before .loop .inv .1
-
 returns : tie.Need-returns Inv-loop μ-loop
 returns c =
     let l = c .before .loop in
@@ -52,4 +49,4 @@ count-up-spec =
     (tie.spec
     Inv-loop μ-loop loop-holds
     -- left, i, the loop measure
-    (λ c. search needs) (λ c. search needs) (λ c. search needs) (λ c. search needs) (λ c. search needs) loop-again same-length returns)
+    (λ c. search needs) (λ c. search needs) (λ c. search needs) (λ c. search needs) (λ c. search needs) loop-again (λ c. c .before .loop .inv .1) returns)

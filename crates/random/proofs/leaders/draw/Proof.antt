@@ -28,36 +28,12 @@ loop-holds c =
     let x = c .before .before .args in
     drawing-none (x .count) (x .start) (x .left .now) (x .out .now)
 
-slice-read-last : tie.Need-slice-read-last Inv-loop μ-loop
-slice-read-last c = let l = c .before .before .before .loop in omega (arith, l .inv .same-left)
-
-mul-out : tie.Need-mul-out Inv-loop μ-loop
-mul-out c = let h = place-within (c .before) in search needs
-
-slice-read-out : tie.Need-slice-read-out Inv-loop μ-loop
-slice-read-out c = place-within (c .before .before)
-
-slice-write-out : tie.Need-slice-write-out Inv-loop μ-loop
-slice-write-out c = let l = c .before .before .before .before .loop in omega (arith, l .inv .same-out)
-
-mul-left : tie.Need-mul-left Inv-loop μ-loop
-mul-left c = let h = place-within (c .before .before) in search needs
-
-slice-write-left : tie.Need-slice-write-left Inv-loop μ-loop
-slice-write-left c = place-within (c .before .before)
-
 loop-again : tie.Need-loop-again Inv-loop μ-loop
 loop-again c =
     let l = c .before .before .before .before .loop in
     let x = c .before .before .before .before .before .before .before .args in
     let next = c .before .before .next-draw in
     drawing-turn (x .count) (x .start) (x .left .now) (x .out .now) (l .i) (l .r) (l .left) (l .out) (l .inv) (omega arith) (omega arith) (omega arith) (next .result) (next .ensures)
-
-same-length : tie.Need-same-length Inv-loop μ-loop
-same-length c = c .before .loop .inv .same-left
-
-same-length-2 : tie.Need-same-length-2 Inv-loop μ-loop
-same-length-2 c = c .before .loop .inv .same-out
 
 returns : tie.Need-returns Inv-loop μ-loop
 returns c =
@@ -69,6 +45,8 @@ pub draw-spec : {M : Type 1} → statement M
 draw-spec =
     tie.close
     (tie.spec
-    Inv-loop μ-loop loop-holds (λ c κs. search needs) (λ c. search needs) (λ c. search needs) (λ c. search needs) (λ c. search needs) slice-read-last
-    mul-out slice-read-out (λ c. search needs) slice-write-out mul-left slice-write-left (λ c. search needs) (λ c. search needs) loop-again same-length
-    same-length-2 returns)
+    Inv-loop μ-loop loop-holds (λ c κs. search needs) (λ c. search needs) (λ c. search needs) (λ c. search needs) (λ c. search needs)
+    (λ c. let l = c .before .before .before .loop in omega (arith, l .inv .same-left)) (λ c. let h = place-within (c .before) in search needs)
+    (λ c. place-within (c .before .before)) (λ c. search needs) (λ c. let l = c .before .before .before .before .loop in omega (arith, l .inv .same-out))
+    (λ c. let h = place-within (c .before .before) in search needs) (λ c. place-within (c .before .before)) (λ c. search needs) (λ c. search needs)
+    loop-again (λ c. c .before .loop .inv .same-left) (λ c. c .before .loop .inv .same-out) returns)
