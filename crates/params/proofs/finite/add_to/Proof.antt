@@ -12,14 +12,8 @@ Inv-loop sums₀ components k₀ sums k = Adding sums₀ components sums k
 abbrev μ-loop : tie.MeasureT-loop
 μ-loop sums₀ components k₀ sums k = 32 - k
 
-loop-holds : tie.Need-loop-holds Inv-loop μ-loop
-loop-holds c = adding-none (c .args .sums .now) (c .args .components .now)
-
 slice-read-sums : tie.Need-slice-read-sums Inv-loop μ-loop
 slice-read-sums c = omega (arith, c .before .before .loop .inv .long, c .before .before .before .pre .0, c .before .loop-test .taken)
-
-shared-slice-read-sums : tie.Need-shared-slice-read-sums Inv-loop μ-loop
-shared-slice-read-sums c = omega (arith, c .before .before .before .before .pre .1, c .before .before .loop-test .taken)
 
 slice-write-sums : tie.Need-slice-write-sums Inv-loop μ-loop
 slice-write-sums c = omega (arith, c .before .before .before .loop .inv .long, c .before .before .before .before .pre .0, c .before .before .loop-test .taken)
@@ -30,15 +24,11 @@ loop-again c =
     let l = c .before .before .before .loop in
     adding-more (start .args .sums .now) (start .args .components .now) (l .sums) (l .k) (c .before .before .loop-test .taken) (start .pre .0) (l .inv)
 
-same-length : tie.Need-same-length Inv-loop μ-loop
-same-length c = c .before .loop .inv .long
-
-returns : tie.Need-returns Inv-loop μ-loop
-returns c = λ k h. c .before .loop .inv .done k (omega (arith, c .loop-test .left))
-
 pub add-to-spec : {M : Type 1} → statement M
 add-to-spec =
     tie.close
     (tie.spec
-    Inv-loop μ-loop loop-holds (λ c. search needs) slice-read-sums (λ c. search needs) shared-slice-read-sums (λ c. search needs) slice-write-sums
-    (λ c. search needs) (λ c. search needs) loop-again same-length returns)
+    Inv-loop μ-loop (λ c. adding-none (c .args .sums .now) (c .args .components .now)) (λ c. search needs) slice-read-sums (λ c. search needs)
+    (λ c. omega (arith, c .before .before .before .before .pre .1, c .before .before .loop-test .taken)) (λ c. search needs) slice-write-sums
+    (λ c. search needs) (λ c. search needs) loop-again (λ c. c .before .loop .inv .long)
+    (λ c. λ k h. c .before .loop .inv .done k (omega (arith, c .loop-test .left))))

@@ -16,9 +16,6 @@ Inv-loop v sum₀ i₀ sum i = (i ≤ length v) × Told v sum i
 abbrev μ-loop : tie.MeasureT-loop
 μ-loop v sum₀ i₀ sum i = length v - i
 
-loop-holds : tie.Need-loop-holds Inv-loop μ-loop
-loop-holds c = (omega arith, λ e k l. absurd (omega arith))
-
 loop-again : tie.Need-loop-again Inv-loop μ-loop
 loop-again c =
     let l = c .before .before .loop in
@@ -34,4 +31,5 @@ pub sum-of-spec : {M : Type 1} → statement M
 sum-of-spec =
     tie.close
     (tie.spec
-    Inv-loop μ-loop loop-holds (λ c. search needs) (λ c. search needs) (λ c. search needs) (λ c. search needs) loop-again returns)
+    Inv-loop μ-loop (λ c. (omega arith, λ e k l. absurd (omega arith))) (λ c. search needs) (λ c. search needs) (λ c. search needs) (λ c. search needs)
+    loop-again returns)

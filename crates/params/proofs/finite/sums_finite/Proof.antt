@@ -18,9 +18,6 @@ Inv-loop v turns rest sums₀ j₀ sums j = (j ≤ turns) × Summed v sums j
 abbrev μ-loop : tie.MeasureT-loop
 μ-loop v turns rest sums₀ j₀ sums j = turns - j
 
-loop-holds : tie.Need-loop-holds Inv-loop μ-loop
-loop-holds c = (omega arith, summed-none (c .before .args .v .now) _ (length-replicate {A = Float} 32 +zero))
-
 add-to-requires : tie.Need-add-to-requires Inv-loop μ-loop
 add-to-requires c κs =
     let v = c .before .before .before .before .before .args .v .now in
@@ -51,7 +48,7 @@ pub sums-finite-spec : {M : Type 1} → statement M
 sums-finite-spec =
     tie.close
     (tie.spec
-    Inv-loop μ-loop (λ c. search needs) loop-holds
+    Inv-loop μ-loop (λ c. search needs) (λ c. (omega arith, summed-none (c .before .args .v .now) _ (length-replicate {A = Float} 32 +zero)))
     -- a turn's components
     (λ c. search needs) (λ c. search needs) (λ c. search needs) (λ c. search needs) (λ c. search needs) (λ c. search needs) (λ c. search needs)
     add-to-requires
