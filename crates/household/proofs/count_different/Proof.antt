@@ -16,12 +16,6 @@ Inv-loop docs count₀ i₀ count i = (count + length (different (drop i docs)) 
 abbrev μ-loop : tie.MeasureT-loop
 μ-loop docs count₀ i₀ count i = length docs - i
 
-loop-holds : tie.Need-loop-holds Inv-loop μ-loop
-loop-holds c = (omega arith, omega arith, omega arith)
-
-add-count : tie.Need-add-count Inv-loop μ-loop
-add-count c = omega (arith, at-most-one (not (c .occurs .result)))
-
 loop-again : tie.Need-loop-again Inv-loop μ-loop
 loop-again c =
     let l = c .before .before .before .before .loop in
@@ -39,9 +33,9 @@ pub count-different-spec : {M : Type 1} → statement M
 count-different-spec =
     tie.close
     (tie.spec
-    Inv-loop μ-loop loop-holds
+    Inv-loop μ-loop (λ c. (omega arith, omega arith, omega arith))
     -- doc, i, occurs, part-occurs-start, part-occurs-end, count
     (λ c. search needs) (λ c. search needs) (λ c. search needs) (λ c. search needs) (λ c. search needs) (λ c. search needs) (λ c. search needs)
-    (λ c κs. search needs) (λ c. search needs) add-count
+    (λ c κs. search needs) (λ c. search needs) (λ c. omega (arith, at-most-one (not (c .occurs .result))))
     -- the loop measure
     (λ c. search needs) loop-again returns)

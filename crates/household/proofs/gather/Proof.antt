@@ -18,9 +18,6 @@ Inv-loop day seconds docs today₀ sighted₀ i₀ today sighted i = (take sight
 abbrev μ-loop : tie.MeasureT-loop
 μ-loop day seconds docs today₀ sighted₀ i₀ today sighted i = length docs - i
 
-loop-holds : tie.Need-loop-holds Inv-loop μ-loop
-loop-holds c = (refl, omega arith, omega arith, refl)
-
 add-sighted : tie.Need-add-sighted Inv-loop μ-loop
 add-sighted c = omega (arith, at-most-one (eqb (c .day-of .result) (c .before .before .before .before .before .before .before .before .args .day)))
 
@@ -41,7 +38,7 @@ pub gather-spec : {M : Type 1} → statement M
 gather-spec =
     tie.close
     (tie.spec
-    Inv-loop μ-loop loop-holds
+    Inv-loop μ-loop (λ c. (refl, omega arith, omega arith, refl))
     -- today, day_of, sighted
     (λ c. search needs) (λ c. search needs) (λ c. search needs) (λ c. search needs) (λ c. search needs) (λ c. search needs) (λ c κs. search needs)
     (λ c. search needs) add-sighted

@@ -16,19 +16,12 @@ Inv-loop doc docs found₀ i₀ found i = ((found || has doc (drop i docs)) ≡ 
 abbrev μ-loop : tie.MeasureT-loop
 μ-loop doc docs found₀ i₀ found i = length docs - i
 
-loop-holds : tie.Need-loop-holds Inv-loop μ-loop
-loop-holds c = (refl, omega arith)
-
-loop-again : tie.Need-loop-again Inv-loop μ-loop
-loop-again c = let l = c .before .before .loop in (look-step _ _ (l .i) (l .found) _ (omega arith) (l .inv .0), omega arith)
-
-returns : tie.Need-returns Inv-loop μ-loop
-returns c = let l = c .before .loop in look-end _ _ (l .i) (l .found) _ (omega arith) (l .inv .0)
-
 pub occurs-spec : {M : Type 1} → statement M
 occurs-spec =
     tie.close
     (tie.spec
-    Inv-loop μ-loop loop-holds
+    Inv-loop μ-loop (λ c. (refl, omega arith))
     -- found, i, the loop measure
-    (λ c. search needs) (λ c. search needs) (λ c. search needs) (λ c. search needs) loop-again returns)
+    (λ c. search needs) (λ c. search needs) (λ c. search needs) (λ c. search needs)
+    (λ c. let l = c .before .before .loop in (look-step _ _ (l .i) (l .found) _ (omega arith) (l .inv .0), omega arith))
+    (λ c. let l = c .before .loop in look-end _ _ (l .i) (l .found) _ (omega arith) (l .inv .0)))
