@@ -3,7 +3,7 @@ use mathlib.Core.Path.{_≡_, refl}
 use mathlib.Core.List.{List, [], _∷_, _++_}
 use Prim.Native.Nat.{ℕ}
 use lib.ListN.{replicate}
-use lib.Ieee.{Float, nan, ofBits, lt, le, eq, isNan}
+use lib.Ieee.{nan, ofBits, lt, le, eq, isNan}
 use Rattle.basics.specs.Choice.{pick}
 use Rattle.basics.specs.Refusals.{firstRefusal}
 use Rattle.store.specs.declared.Lent.the-variants.{Nothing}

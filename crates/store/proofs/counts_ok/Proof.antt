@@ -44,15 +44,6 @@ loop-holds c =
     let s = c .before .before in
     (omega arith, omega arith, gather-first (countOk (s .args .degree)) (s .args .words .now) (rowSize (s .args .degree)) (s .args .n) (s .args .from))
 
-mul-ok : tie.Need-mul-ok Inv-loop μ-loop
-mul-ok c = omega (arith, fits c)
-
-shared-slice-read-ok : tie.Need-shared-slice-read-ok Inv-loop μ-loop
-shared-slice-read-ok c = omega (arith, fits (c .before))
-
-add-at : tie.Need-add-at Inv-loop μ-loop
-add-at c = omega (arith, fits (c .before))
-
 loop-again : tie.Need-loop-again Inv-loop μ-loop
 loop-again c =
     let s = c .before .before .before .before .before in
@@ -76,6 +67,6 @@ counts-ok-spec =
     (tie.spec
     Inv-loop μ-loop
     -- row_size
-    (λ c κs. search needs) loop-holds mul-ok shared-slice-read-ok add-at
+    (λ c κs. search needs) loop-holds (λ c. omega (arith, fits c)) (λ c. omega (arith, fits (c .before))) (λ c. omega (arith, fits (c .before)))
     -- i, the loop measure
     (λ c. search needs) (λ c. search needs) loop-again returns)

@@ -3,7 +3,7 @@ use mathlib.Core.Path.{_≡_}
 use mathlib.Core.Bool.{_&&_}
 use Prim.Native.Nat.{_+_, _-_, _*_, _≤_}
 use native.Mathlib.Omega.{arith}
-use lib.ListN.{length, drop, length-take, length-drop}
+use lib.ListN.{drop, length-take, length-drop}
 use borrow.Author.Needs.{needs}
 use Rattle.basics.specs.Lists.{every, pieces}
 use Rattle.basics.proofs.Every.{gather-first, gather-piece, gather-last}
@@ -33,15 +33,6 @@ loop-holds c =
     let s = c .before .before in
     (omega arith, omega arith, gather-first (rowOk (s .args .degree) (s .args .n)) (s .args .words .now) (rowSize (s .args .degree)) (s .args .n) (s .args .from))
 
-add-end : tie.Need-add-end Inv-loop μ-loop
-add-end c = omega (arith, part-row-ok-end c)
-
-mul-row-ok : tie.Need-mul-row-ok Inv-loop μ-loop
-mul-row-ok c = omega (arith, part-row-ok-end c)
-
-row-ok-requires : tie.Need-row-ok-requires Inv-loop μ-loop
-row-ok-requires c κs = simp (length-take, length-drop) (omega (arith, part-row-ok-end (c .before)))
-
 loop-again : tie.Need-loop-again Inv-loop μ-loop
 loop-again c =
     let s = c .before .before .before .before .before .before in
@@ -66,8 +57,8 @@ each-row-ok-spec =
     (tie.spec
     Inv-loop μ-loop
     -- row_size
-    (λ c κs. search needs) loop-holds add-end mul-row-ok
+    (λ c κs. search needs) loop-holds (λ c. omega (arith, part-row-ok-end c)) (λ c. omega (arith, part-row-ok-end c))
     -- row_ok, part-row-ok-start
-    (λ c. search needs) (λ c. search needs) part-row-ok-end row-ok-requires
+    (λ c. search needs) (λ c. search needs) part-row-ok-end (λ c κs. simp (length-take, length-drop) (omega (arith, part-row-ok-end (c .before))))
     -- i, the loop measure
     (λ c. search needs) (λ c. search needs) loop-again returns)

@@ -6,17 +6,12 @@ use Rattle.store.proofs.Sizes.{product-le}
 use Rattle.store.proofs.words_size.Statement.{statement}
 use Rattle.store.proofs.words_size.Tie as tie
 
-mul-result : tie.Need-mul-result
-mul-result c = omega (arith, product-le (c .args .capacity) (4 + c .args .degree) 4294967295 65539 (omega arith) (omega arith))
-
-add-result-2 : tie.Need-add-result-2
-add-result-2 c = omega (arith, product-le (c .args .capacity) (4 + c .args .degree) 4294967295 65539 (omega arith) (omega arith))
-
 pub words-size-spec : {M : Type 1} → statement M
 words-size-spec =
     tie.close
     (tie.spec
     -- result
-    (λ c. search needs) mul-result add-result-2
+    (λ c. search needs) (λ c. omega (arith, product-le (c .args .capacity) (4 + c .args .degree) 4294967295 65539 (omega arith) (omega arith)))
+    (λ c. omega (arith, product-le (c .args .capacity) (4 + c .args .degree) 4294967295 65539 (omega arith) (omega arith)))
     -- the return
     (λ c. search needs))
