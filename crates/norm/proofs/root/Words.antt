@@ -25,13 +25,10 @@ use Rattle.norm.proofs.root.Units.{from-units, rescaled}
 -- ---- m is the nearest whole number
 
 odd-square : (j : ℕ) → (2 * j + 1) * (2 * j + 1) ≡ 4 * (j * j + j) + 1
-odd-square j = square j ∙ tidy (j * j) j
-  where
-    square : (j : ℕ) → (2 * j + 1) * (2 * j + 1) ≡ 2 * (2 * (j * j)) + 2 * j + (2 * j + 1)
-    square j = simp (mul-add, add-mul, mul-assoc, mul-comm, mul-left-comm, mul-one, one-mul, add-assoc, add-comm, add-left-comm) refl
-
-    tidy : (s j : ℕ) → 2 * (2 * s) + 2 * j + (2 * j + 1) ≡ 4 * (s + j) + 1
-    tidy s j = omega arith
+odd-square j =
+    let square : (2 * j + 1) * (2 * j + 1) ≡ 2 * (2 * (j * j)) + 2 * j + (2 * j + 1)
+    = simp (mul-add, add-mul, mul-assoc, mul-comm, mul-left-comm, mul-one, one-mul, add-assoc, add-comm, add-left-comm) refl in
+    square ∙ omega arith
 
 -- the whole part of twice the root is 2 m, or 2 m − 1
 even-case : (N m : ℕ) → 0 < m → Bounds (4 * N) (2 * m) 1 → ((2 * m - 1) * (2 * m - 1) < 4 * N) × (4 * N < (2 * m + 1) * (2 * m + 1))
@@ -42,22 +39,14 @@ even-case N m p b = (lt-of-lt-of-le (less (2 * m - 1) (2 * m) (omega arith)) (b 
 
 odd-case : (N j : ℕ) → Bounds (4 * N) (2 * j + 1) 1 → ((2 * j + 1) * (2 * j + 1) < 4 * N) × (4 * N < (2 * (j + 1) + 1) * (2 * (j + 1) + 1))
 odd-case N j b =
-    (lt-of-le-ne (b .0) (λ e. unlike (j * j + j) N (sym (odd-square j) ∙ e)), lt-of-lt-of-le (b .1) (mul-le-mul (more j) (more j)))
-  where
-    unlike : (x n : ℕ) → 4 * x + 1 ≡ 4 * n → ⊥
-    unlike x n e = omega arith
-
-    more : (j : ℕ) → 2 * j + 1 + 1 ≤ 2 * (j + 1) + 1
-    more j = omega arith
+    let more : 2 * j + 1 + 1 ≤ 2 * (j + 1) + 1 = omega arith in
+    (lt-of-le-ne (b .0) (λ e. let even = sym (odd-square j) ∙ e in omega arith), lt-of-lt-of-le (b .1) (mul-le-mul more more))
 
 root-pos : (N : ℕ) → 0 < N → 0 < isqrt (4 * N)
 root-pos N p = either (isqrt (4 * N)) (isqrt-bounds (4 * N))
   where
-    no : (N : ℕ) → 0 < N → 4 * N < 1 → ⊥
-    no N p h = omega arith
-
     either : (g : ℕ) → Bounds (4 * N) g 1 → 0 < g
-    either zero b = absurd (no N p (b .1))
+    either zero b = let h : 4 * N < 1 = b .1 in absurd (omega arith)
     either (suc g) b = omega arith
 
 pub nearest : (N : ℕ) → 0 < N → ((2 * nearestRoot N - 1) * (2 * nearestRoot N - 1) < 4 * N) × (4 * N < (2 * nearestRoot N + 1) * (2 * nearestRoot N + 1))
@@ -66,34 +55,24 @@ nearest N p = either (isqrt (4 * N)) (root-pos N p) (isqrt-bounds (4 * N)) (eq-z
     Words : ℕ → Type 0
     Words m = ((2 * m - 1) * (2 * m - 1) < 4 * N) × (4 * N < (2 * m + 1) * (2 * m + 1))
 
-    even-half : (g : ℕ) → g % 2 ≡ 0 → g ≡ 2 * ((g + 1) / 2)
-    even-half g e = omega arith
-
-    odd-half : (g : ℕ) → 0 < g % 2 → g ≡ 2 * ((g + 1) / 2 - 1) + 1
-    odd-half g e = omega arith
-
-    odd-m : (g : ℕ) → 0 < g % 2 → (g + 1) / 2 - 1 + 1 ≡ (g + 1) / 2
-    odd-m g e = omega arith
-
-    low-side : (m : ℕ) → 0 < m → 2 * (m - 1) + 1 ≡ 2 * m - 1
-    low-side m h = omega arith
-
     either : (g : ℕ) → 0 < g → Bounds (4 * N) g 1 → (g % 2 ≡ 0) ⊎ (0 < g % 2) → Words ((g + 1) / 2)
-    either g q b (inl e) = even-case N ((g + 1) / 2) (omega arith) (subst (λ (x : ℕ). Bounds (4 * N) x 1) (even-half g e) b)
+    either g q b (inl e) =
+        let half : g ≡ 2 * ((g + 1) / 2) = omega arith in
+        even-case N ((g + 1) / 2) (omega arith) (subst (λ (x : ℕ). Bounds (4 * N) x 1) half b)
     either g q b (inr e) =
-        let w = odd-case N ((g + 1) / 2 - 1) (subst (λ (x : ℕ). Bounds (4 * N) x 1) (odd-half g e) b) in
-        (subst (λ (x : ℕ). x * x < 4 * N) (low-side ((g + 1) / 2) (omega arith)) (w .0), subst (λ (x : ℕ). 4 * N < (2 * x + 1) * (2 * x + 1)) (odd-m g e) (w .1))
+        let half : g ≡ 2 * ((g + 1) / 2 - 1) + 1 = omega arith in
+        let m : (g + 1) / 2 - 1 + 1 ≡ (g + 1) / 2 = omega arith in
+        let low-side : 2 * ((g + 1) / 2 - 1) + 1 ≡ 2 * ((g + 1) / 2) - 1 = omega arith in
+        let w = odd-case N ((g + 1) / 2 - 1) (subst (λ (x : ℕ). Bounds (4 * N) x 1) half b) in
+        (subst (λ (x : ℕ). x * x < 4 * N) low-side (w .0), subst (λ (x : ℕ). 4 * N < (2 * x + 1) * (2 * x + 1)) m (w .1))
 
 -- ---- the even length is the length, or one more
 
 digits-some : (n : ℕ) → 0 < n → 0 < size n
 digits-some n p = either (size n) (size-lt n)
   where
-    no : (n : ℕ) → 0 < n → n < 1 → ⊥
-    no n p h = omega arith
-
     either : (z : ℕ) → n < 2 ^ z → 0 < z
-    either zero h = absurd (no n p h)
+    either zero h = let one : n < 1 = h in absurd (omega arith)
     either (suc z) h = omega arith
 
 length-from : (f : Format) (n : ℕ) → size n ≤ evenLength f n
@@ -105,21 +84,17 @@ length-to f n = omega arith
 -- ---- s / 2^(2e) lies where it is to
 
 scaled-bounds : (f : Format) (n : ℕ) → 0 < n → (2 ^ (2 * prec f - 2) ≤ scaled f n) × (scaled f n < 2 ^ (2 * prec f))
-scaled-bounds f n p = (
-  le-div-iff-mul-le (pow-pos a) .1
-      (le-trans (le-of-eq (sym (pow-add 2 (2 * prec f - 2) a))) (le-trans (pow-mono (room (prec f) (size n) a (two f) (digits-some n p) (length-to f n))) (le-trans (le-of-eq (pow-add 2 (size n - 1) (2 * prec f))) (mul-le-mul-right (2 ^ (2 * prec f)) (size-reaches n (size n - 1) (before (size n) (digits-some n p))))))),
-  div-lt-iff-lt-mul (pow-pos a) .1
-      (lt-of-lt-of-le (mul-lt-mul-of-pos-right (size-lt n) (pow-pos (2 * prec f))) (le-trans (le-of-eq (mul-comm (2 ^ size n) (2 ^ (2 * prec f)))) (mul-le-mul-left (2 ^ (2 * prec f)) (pow-mono (length-from f n))))),
-)
-  where
-    a : ℕ
-    a = evenLength f n
-
-    room : (p z a : ℕ) → 2 ≤ p → 0 < z → a ≤ z + 1 → 2 * p - 2 + a ≤ z - 1 + 2 * p
-    room p z a h k l = omega arith
-
-    before : (z : ℕ) → 0 < z → z - 1 < z
-    before z h = omega arith
+scaled-bounds f n p =
+    let a : ℕ = evenLength f n in
+    let q : ℕ = 2 * prec f in
+    let some : 0 < size n = digits-some n p in
+    let room : q - 2 + a ≤ size n - 1 + q = omega (arith, two f, length-to f n) in
+    let top : 2 ^ (size n - 1) ≤ n = size-reaches n (size n - 1) (omega arith) in (
+      le-div-iff-mul-le (pow-pos a) .1
+          (le-trans (le-of-eq (sym (pow-add 2 (q - 2) a))) (le-trans (pow-mono room) (le-trans (le-of-eq (pow-add 2 (size n - 1) q)) (mul-le-mul-right (2 ^ q) top)))),
+      div-lt-iff-lt-mul (pow-pos a) .1
+          (lt-of-lt-of-le (mul-lt-mul-of-pos-right (size-lt n) (pow-pos q)) (le-trans (le-of-eq (mul-comm (2 ^ size n) (2 ^ q))) (mul-le-mul-left (2 ^ q) (pow-mono (length-from f n))))),
+    )
 
 -- ---- s/2^(2e) is that whole number, where s has at most p digits
 
@@ -139,11 +114,8 @@ module _ (f : Format) (n q j : ℕ) (e : n ≡ q * 2 ^ j) (h : q < 2 ^ prec f) w
       ∙ ap (λ (m : ℕ). q * m) (sym (pow-add 2 j (2 * prec f)) ∙ ap (λ (m : ℕ). 2 ^ m) (sym places) ∙ pow-add 2 spare (evenLength f n))
       ∙ sym (mul-assoc q (2 ^ spare) (2 ^ evenLength f n))
     where
-      room : (p z a j : ℕ) → 2 ≤ p → z ≤ p + j → a ≤ z + 1 → j + 2 * p - a + a ≡ j + 2 * p
-      room p z a j l k t = omega arith
-
       places : spare + evenLength f n ≡ j + 2 * prec f
-      places = room (prec f) (size n) (evenLength f n) j (two f) (size-at-most (prec f) n q j e h) (length-to f n)
+      places = omega (arith, two f, size-at-most (prec f) n q j e h, length-to f n)
 
   scaled-is : scaled f n ≡ q * 2 ^ spare
   scaled-is = ap (λ (m : ℕ). m / 2 ^ evenLength f n) whole ∙ mul-div-cancel (q * 2 ^ spare) (pow-pos (evenLength f n))
@@ -171,23 +143,15 @@ record Held (f : Format) (m : ℕ) (e : ℤ) : Type 0 where
 
 held : (f : Format) (m : ℕ) (e : ℤ) → T (fits f (fin false (suc m) e)) → Held f (suc m) e
 unfolding fits
-held f m e t = record {
-  digits = ltb→lt (suc m) (2 ^ prec f) (and-r odd-too few (and-l (odd-too && few) fine (and-l (odd-too && few && fine) most t)));
-  lowest = leb→le (down e) (2 ^ low f) (and-r (odd-too && few) fine (and-l (odd-too && few && fine) most t));
-  largest = ltb→lt (suc m * up e) (2 ^ suc (emax f) * down e) (and-r (odd-too && few && fine) most t);
-}
-  where
-    odd-too : Bool
-    odd-too = eqb (suc m % 2) 1
-
-    few : Bool
-    few = ltb (suc m) (2 ^ prec f)
-
-    fine : Bool
-    fine = leb (down e) (2 ^ low f)
-
-    most : Bool
-    most = ltb (suc m * up e) (2 ^ suc (emax f) * down e)
+held f m e t =
+    let odd-too = eqb (suc m % 2) 1 in
+    let few = ltb (suc m) (2 ^ prec f) in
+    let fine = leb (down e) (2 ^ low f) in
+    let most = ltb (suc m * up e) (2 ^ suc (emax f) * down e) in record {
+      digits = ltb→lt (suc m) (2 ^ prec f) (and-r odd-too few (and-l (odd-too && few) fine (and-l (odd-too && few && fine) most t)));
+      lowest = leb→le (down e) (2 ^ low f) (and-r (odd-too && few) fine (and-l (odd-too && few && fine) most t));
+      largest = ltb→lt (suc m * up e) (2 ^ suc (emax f) * down e) (and-r (odd-too && few && fine) most t);
+    }
 
 -- ---- the root's exponent, in smallest values
 
@@ -204,11 +168,7 @@ abbrev exponent : Format → ℕ → ℕ
 exponent f n = (evenLength f n + low f) / 2 - prec f
 
 twice-exponent : (f : Format) (n : ℕ) → 0 < n → exponent f n + exponent f n + 2 * prec f ≡ evenLength f n + low f
-twice-exponent f n p = sum (evenLength f n) (prec f) (emax f) (even-sum f n) (wide f) (le-trans (digits-some n p) (length-from f n)) (two f)
-  where
-    sum : (a p t : ℕ) → (a + (t + p - 2)) % 2 ≡ 0 → p + 1 ≤ t → 1 ≤ a → 2 ≤ p
-        → (a + (t + p - 2)) / 2 - p + ((a + (t + p - 2)) / 2 - p) + 2 * p ≡ a + (t + p - 2)
-    sum a p t e w l h = omega arith
+twice-exponent f n p = omega (arith, wide f, digits-some n p, two f)
 
 -- s / 2^(2e) is the number `scaled`
 exact : (f : Format) (n : ℕ) → 0 < n → scaled f n * 2 ^ evenLength f n ≡ n * 2 ^ (2 * prec f)
@@ -231,13 +191,11 @@ zeroes-left : (p N q r : ℕ) → N ≡ q * 2 ^ r → q < 2 ^ p → N < 2 ^ (2 *
 zeroes-left p N q r e h l = elim (decLe r p) [
   | yes g ↦ subst (λ (n : ℕ). n ≤ (2 ^ p - 1) * 2 ^ p) (sym e) (mul-le-mul (le-ones p h) (pow-mono g))
   | no g ↦ let part = q * 2 ^ (r - p) in
+      let double : 2 * p ≡ p + p = omega arith in
       let is : N ≡ part * 2 ^ p = e ∙ ap (λ (n : ℕ). q * 2 ^ n) (sym (back r p (le-of-lt (lt-of-not-le g)))) ∙ ap (λ (n : ℕ). q * n) (pow-add 2 (r - p) p) ∙ sym (mul-assoc q (2 ^ (r - p)) (2 ^ p)) in
-      let few : part < 2 ^ p = lt-of-mul-lt-mul-right (2 ^ p) (subst (λ (n : ℕ). part * 2 ^ p < n) (ap (λ (n : ℕ). 2 ^ n) (double p) ∙ pow-add 2 p p) (subst (λ (n : ℕ). n < 2 ^ (2 * p)) is l)) in
+      let few : part < 2 ^ p = lt-of-mul-lt-mul-right (2 ^ p) (subst (λ (n : ℕ). part * 2 ^ p < n) (ap (λ (n : ℕ). 2 ^ n) double ∙ pow-add 2 p p) (subst (λ (n : ℕ). n < 2 ^ (2 * p)) is l)) in
       subst (λ (n : ℕ). n ≤ (2 ^ p - 1) * 2 ^ p) (sym is) (mul-le-mul-right (2 ^ p) (le-ones p few))
 ]
-  where
-    double : (p : ℕ) → 2 * p ≡ p + p
-    double p = omega arith
 
 -- where the square of 2m − 1 is below four times such a number, m is below 2^p
 pub few-digits : (p N m : ℕ) → N ≤ (2 ^ p - 1) * 2 ^ p → (2 * m - 1) * (2 * m - 1) < 4 * N → m < 2 ^ p
@@ -251,16 +209,11 @@ few-digits p N m h l = elim (decLe (2 ^ p) m) [
 
     below : (P : ℕ) → 0 < P → 4 * ((P - 1) * P) ≤ (2 * P - 1) * (2 * P - 1)
     below zero z = absurd (lt-irrefl 0 z)
-    below (suc t) z = le-trans (le-of-eq (ap (λ (x : ℕ). 4 * (x * suc t)) (less t))) (le-trans (omega (arith, square t)) (le-of-eq (ap (λ (x : ℕ). x * x) (side t))))
-      where
-        less : (t : ℕ) → suc t - 1 ≡ t
-        less t = omega arith
-
-        square : (t : ℕ) → 4 * (t * suc t) + 1 ≡ (2 * t + 1) * (2 * t + 1)
-        square t = ap (λ (x : ℕ). 4 * x + 1) (mul-suc t t) ∙ sym (odd-square t)
-
-        side : (t : ℕ) → 2 * t + 1 ≡ 2 * suc t - 1
-        side t = omega arith
+    below (suc t) z =
+        let less : suc t - 1 ≡ t = omega arith in
+        let side : 2 * suc t - 1 ≡ 2 * t + 1 = omega arith in
+        let square : 4 * (t * suc t) + 1 ≡ (2 * t + 1) * (2 * t + 1) = ap (λ (x : ℕ). 4 * x + 1) (mul-suc t t) ∙ sym (odd-square t) in
+        rw (less, side) (omega arith)
 
 -- ---- part 2, whole
 
@@ -310,7 +263,7 @@ module _ (f : Format) (m : ℕ) (e : ℤ) (t : T (fits f (fin false (suc m) e)))
   -- the root is below the format's largest values
   within : r * 2 ^ x < 2 ^ (low f + suc (emax f))
   unfolding x
-  within = lt-of-lt-of-le (shl-lt (prec f) x few) (pow-mono (room (size n) (evenLength f n) (prec f) x (low f) (emax f) (twice-exponent f n n-some) (length-to f n) digits))
+  within = lt-of-lt-of-le (shl-lt (prec f) x few) (pow-mono (omega (arith, twice-exponent f n n-some, length-to f n, digits)))
     where
       small : n < 2 ^ (low f + suc (emax f))
       small = lt-of-mul-lt-mul-right (down e) (subst (λ (k : ℕ). k < 2 ^ (low f + suc (emax f)) * down e) (sym n-value) (subst (λ (k : ℕ). suc m * up e * 2 ^ low f < k) moved (mul-lt-mul-of-pos-right (held f m e t .largest) (pow-pos (low f)))))
@@ -320,9 +273,6 @@ module _ (f : Format) (m : ℕ) (e : ℤ) (t : T (fits f (fin false (suc m) e)))
 
       digits : size n ≤ low f + suc (emax f)
       digits = size-le n (low f + suc (emax f)) small
-
-      room : (z a p x l t : ℕ) → x + x + 2 * p ≡ a + l → a ≤ z + 1 → z ≤ l + suc t → p + x ≤ l + suc t
-      room z a p x l t e h g = omega arith
 
   root-units : IsRoot f n (2 ^ low f) (rootUnits f n)
   unfolding rootUnits N r x
