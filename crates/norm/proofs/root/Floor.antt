@@ -1,7 +1,7 @@
 -- The whole part of a square root: a digit more keeps the bounds, `isqrt` has them, and they fix it. Assumes nothing.
 use mathlib.Core.Path.{_≡_, sym, ap, _∙_, subst}
 use Prim.Native.Nat.{ℕ, zero, suc, _+_, _*_, _^_, _≤_, _<_, zero-le}
-use native.Mathlib.Nat.{le-of-eq, le-trans, le-antisymm, lt-of-lt-of-le, lt-irrefl, lt-of-not-le, mul-le-mul, mul-one, zero-add, add-assoc, pow-succ', two-mul, mul-le-mul-left}
+use native.Mathlib.Nat.{le-of-eq, le-trans, le-antisymm, lt-of-lt-of-le, lt-irrefl, mul-le-mul, mul-one, zero-add, add-assoc, pow-succ', two-mul, mul-le-mul-left}
 use native.Mathlib.Decide.{decLe}
 use native.Mathlib.Omega.{arith}
 use lib.Dec.{leb, leb→le, nleb→lt}
@@ -28,11 +28,9 @@ root-bounds : (k n r : ℕ) → Bounds n r (2 ^ k) → Bounds n (rootFrom k n r)
 unfolding rootFrom
 root-bounds zero n r b = b
 root-bounds (suc k) n r b =
+    let t : ℕ = r + 2 ^ k in
     root-bounds k n (pick (leb (t * t) n) t r)
     (pick-ind (λ (x : ℕ). Bounds n x (2 ^ k)) (leb (t * t) n) (λ y. digit-yes n r k b (leb→le (t * t) n y)) (λ y. digit-no n r k b (nleb→lt (t * t) n y)))
-  where
-    t : ℕ
-    t = r + 2 ^ k
 
 pub below-square : (n w : ℕ) → 0 < w → n < w → n < (0 + w) * (0 + w)
 below-square n w p h = subst (λ (x : ℕ). n < x * x) (sym (zero-add w)) (lt-of-lt-of-le h (le-trans (le-of-eq (sym (mul-one w))) (mul-le-mul-left w p)))
@@ -43,14 +41,10 @@ isqrt-bounds n = root-bounds (size n) n 0 (zero-le, below-square n (2 ^ size n) 
 
 -- of two numbers with the bounds neither is above the other
 not-above : (n r s : ℕ) → Bounds n r 1 → Bounds n s 1 → r ≤ s
-not-above n r s b c = either (decLe r s)
-  where
-    next : (r s : ℕ) → s < r → s + 1 ≤ r
-    next r s h = omega arith
-
-    either : Dec (r ≤ s) → r ≤ s
-    either (yes h) = h
-    either (no f) = absurd (lt-irrefl n (lt-of-lt-of-le (c .1) (le-trans (mul-le-mul (next r s (lt-of-not-le f)) (next r s (lt-of-not-le f))) (b .0))))
+not-above n r s b c = elim (decLe r s) [
+  | yes h ↦ h
+  | no f ↦ let next : s + 1 ≤ r = omega arith in absurd (lt-irrefl n (lt-of-lt-of-le (c .1) (le-trans (mul-le-mul next next) (b .0))))
+]
 
 pub floor-is : (n r : ℕ) → Bounds n r 1 → r ≡ isqrt n
 floor-is n r b = le-antisymm (not-above n r (isqrt n) b (isqrt-bounds n)) (not-above n (isqrt n) r (isqrt-bounds n) b)

@@ -28,27 +28,22 @@ unfolding ofBits
 ofBits-is b = refl
 
 no-sign : (b : ℕ) → b < 0x7f80_0000 → ofBits binary32 b ≡ ofFields binary32 false (b / 2 ^ 23) (b % 2 ^ 23)
-no-sign b h = ofBits-is b ∙ rw (lt-leb (2 ^ 31) b (omega arith), mod-eq-of-lt (under b h))
-  where
-    under : (b : ℕ) → b < 0x7f80_0000 → b < 2 ^ 31
-    under b h = omega arith
+no-sign b h = let under : b < 2 ^ 31 = omega arith in ofBits-is b ∙ rw (lt-leb (2 ^ 31) b under, mod-eq-of-lt under)
 
 field-is : (x t : ℕ) → suc x < 255 → ofFields binary32 false (suc x) t ≡ odd 24 false (2 ^ 23 + t) x 149
 unfolding ofFields
 field-is x t h = rw (ne-eqb (suc x) 255 (λ e. omega arith))
 
 pub normal-is : (b : ℕ) → 2 ^ 23 ≤ b → b < 0x7f80_0000 → ofBits binary32 b ≡ odd 24 false (2 ^ 23 + b % 2 ^ 23) (b / 2 ^ 23 - 1) 149
-normal-is b l h = no-sign b h ∙ ap (λ (x : ℕ). ofFields binary32 false x (b % 2 ^ 23)) (pred b l) ∙ field-is (b / 2 ^ 23 - 1) (b % 2 ^ 23) (omega arith)
-  where
-    pred : (b : ℕ) → 2 ^ 23 ≤ b → b / 2 ^ 23 ≡ suc (b / 2 ^ 23 - 1)
-    pred b l = omega arith
+normal-is b l h =
+    let pred : b / 2 ^ 23 ≡ suc (b / 2 ^ 23 - 1) = omega arith in
+    no-sign b h ∙ ap (λ (x : ℕ). ofFields binary32 false x (b % 2 ^ 23)) pred ∙ field-is (b / 2 ^ 23 - 1) (b % 2 ^ 23) (omega arith)
 
 sub-is : (b : ℕ) → b < 2 ^ 23 → ofBits binary32 b ≡ odd 24 false (b % 2 ^ 23) 0 149
 unfolding ofFields
-sub-is b h = no-sign b (omega arith) ∙ ap (λ (x : ℕ). ofFields binary32 false x (b % 2 ^ 23)) (none b h)
-  where
-    none : (b : ℕ) → b < 2 ^ 23 → b / 2 ^ 23 ≡ 0
-    none b h = omega arith
+sub-is b h =
+    let none : b / 2 ^ 23 ≡ 0 = omega arith in
+    no-sign b (omega arith) ∙ ap (λ (x : ℕ). ofFields binary32 false x (b % 2 ^ 23)) none
 
 -- how many units a pattern is, where its exponent's field is 0 and where it is not
 pub units-low : (b : ℕ) → b / 2 ^ 23 ≡ 0 → patternUnits b ≡ b % 2 ^ 23
@@ -61,80 +56,54 @@ units-normal b e = pick-false (b % 2 ^ 23) _ (ne-eqb (b / 2 ^ 23) 0 e)
 
 -- the value of a pattern, in units of the smallest value
 pub pattern-value : (b : ℕ) → b < 0x7f80_0000 → HasValue (ofBits binary32 b) false (patternUnits b) (2 ^ 149)
-pattern-value b h = either (decLe (2 ^ 23) b)
-  where
-    some : (b : ℕ) → 2 ^ 23 ≤ b → b / 2 ^ 23 ≡ 0 → ⊥
-    some b l e = omega arith
-
-    none : (b : ℕ) → (2 ^ 23 ≤ b → ⊥) → b < 2 ^ 23
-    none b f = lt-of-not-le f
-
-    zero-field : (b : ℕ) → b < 2 ^ 23 → b / 2 ^ 23 ≡ 0
-    zero-field b h = omega arith
-
-    either : Dec (2 ^ 23 ≤ b) → HasValue (ofBits binary32 b) false (patternUnits b) (2 ^ 149)
-    either (yes l) = rw (normal-is b l h, units-normal b (some b l)) (odd-sign 24 false (2 ^ 23 + b % 2 ^ 23) (b / 2 ^ 23 - 1) 149)
-    either (no f) = rw (sub-is b (none b f), units-low b (zero-field b (none b f))) (subst (λ (n : ℕ). HasValue (odd 24 false (b % 2 ^ 23) 0 149) false n (2 ^ 149)) (mul-one (b % 2 ^ 23)) (odd-sign 24 false (b % 2 ^ 23) 0 149))
+pattern-value b h = elim (decLe (2 ^ 23) b) [
+  | yes l ↦ rw (normal-is b l h, units-normal b (λ e. omega arith)) (odd-sign 24 false (2 ^ 23 + b % 2 ^ 23) (b / 2 ^ 23 - 1) 149)
+  | no f ↦
+      let t = b % 2 ^ 23 in
+      rw (sub-is b (lt-of-not-le f), units-low b (omega arith))
+      (subst (λ (n : ℕ). HasValue (odd 24 false t 0 149) false n (2 ^ 149)) (mul-one t) (odd-sign 24 false t 0 149))
+]
 
 -- ---- the root has 24 digits
 
 pub N-bounds : (q j : ℕ) → 2 ^ 23 ≤ q → q < 2 ^ 24 → j ≤ 1 → (2 ^ 46 ≤ q * 2 ^ (24 - j)) × (q * 2 ^ (24 - j) ≤ (2 ^ 24 - 1) * 2 ^ 24)
 N-bounds q zero l h p = (omega arith, omega arith)
 N-bounds q (suc zero) l h p = (omega arith, omega arith)
-N-bounds q (suc (suc j)) l h p = absurd (too j p)
-  where
-    too : (j : ℕ) → suc (suc j) ≤ 1 → ⊥
-    too j p = omega arith
+N-bounds q (suc (suc j)) l h p = absurd (omega arith)
 
 root-ge : (n g : ℕ) → 2 ^ 48 ≤ n → Bounds n g 1 → 2 ^ 24 ≤ g
-root-ge n g h b = either (decLe (2 ^ 24) g)
-  where
-    next : (g : ℕ) → g < 2 ^ 24 → g + 1 ≤ 2 ^ 24
-    next g h = omega arith
-
-    either : Dec (2 ^ 24 ≤ g) → 2 ^ 24 ≤ g
-    either (yes l) = l
-    either (no f) = absurd (lt-irrefl n (lt-of-lt-of-le (b .1) (le-trans (mul-le-mul (next g (lt-of-not-le f)) (next g (lt-of-not-le f))) h)))
+root-ge n g h b = elim (decLe (2 ^ 24) g) [
+  | yes l ↦ l
+  | no f ↦
+      let next : g + 1 ≤ 2 ^ 24 = omega arith in
+      absurd (lt-irrefl n (lt-of-lt-of-le (b .1) (le-trans (mul-le-mul next next) h)))
+]
 
 pub m-bounds : (N : ℕ) → 2 ^ 46 ≤ N → N ≤ (2 ^ 24 - 1) * 2 ^ 24 → (2 ^ 23 ≤ nearestRoot N) × (nearestRoot N < 2 ^ 24)
-m-bounds N l h = (
-  half (isqrt (4 * N)) (root-ge (4 * N) (isqrt (4 * N)) (omega arith) (isqrt-bounds (4 * N))),
-  few-digits 24 N (nearestRoot N) h (nearest N (omega arith) .0),
-)
-  where
-    half : (g : ℕ) → 2 ^ 24 ≤ g → 2 ^ 23 ≤ (g + 1) / 2
-    half g a = omega arith
+m-bounds N l h =
+    let twice = root-ge (4 * N) (isqrt (4 * N)) (omega arith) (isqrt-bounds (4 * N)) in
+    (omega arith, few-digits 24 N (nearestRoot N) h (nearest N (omega arith) .0))
 
 -- ---- the pattern that is written
 
 written : (x m : ℕ) → 2 ^ 23 ≤ m → m < 2 ^ 24 → x < 254 → ofBits binary32 (x * 2 ^ 23 + m) ≡ odd 24 false m x 149
 written x m l h p =
-    normal-is (x * 2 ^ 23 + m) (omega arith) (omega arith)
-    ∙ ap (λ (n : ℕ). odd 24 false n ((x * 2 ^ 23 + m) / 2 ^ 23 - 1) 149) (digits x m l h)
-    ∙ ap (λ (n : ℕ). odd 24 false m n 149) (place x m l h)
-  where
-    digits : (x m : ℕ) → 2 ^ 23 ≤ m → m < 2 ^ 24 → 2 ^ 23 + (x * 2 ^ 23 + m) % 2 ^ 23 ≡ m
-    digits x m l h = omega arith
-
-    place : (x m : ℕ) → 2 ^ 23 ≤ m → m < 2 ^ 24 → (x * 2 ^ 23 + m) / 2 ^ 23 - 1 ≡ x
-    place x m l h = omega arith
+    let digits : 2 ^ 23 + (x * 2 ^ 23 + m) % 2 ^ 23 ≡ m = omega arith in
+    let place : (x * 2 ^ 23 + m) / 2 ^ 23 - 1 ≡ x = omega arith in
+    normal-is (x * 2 ^ 23 + m) (omega arith) (omega arith) ∙ (λ i. odd 24 false (digits i) (place i) 149)
 
 -- ---- that pattern's value is part 2's root, and there is one root
 
 -- n is how many smallest values the pattern b stands for, n · 2^23 = q · 2^k; part 2's number is q · 2^(24 − k % 2), and its e is x − 149
 exact : (n q k : ℕ) → q * 2 ^ k ≡ n * 2 ^ 23 → n * 2 ^ 149 ≡ q * 2 ^ (24 - k % 2) * (2 ^ ((k + 1) / 2 + 51) * 2 ^ ((k + 1) / 2 + 51))
 exact n q k e =
+    let x : ℕ = (k + 1) / 2 + 51 in
+    let sum : k + 126 ≡ 24 - k % 2 + (x + x) = omega arith in
     sym (mul-assoc n (2 ^ 23) (2 ^ 126))
     ∙ ap (λ (m : ℕ). m * 2 ^ 126) (sym e)
     ∙ mul-assoc q (2 ^ k) (2 ^ 126)
-    ∙ ap (λ (m : ℕ). q * m) (sym (pow-add 2 k 126) ∙ ap (λ (m : ℕ). 2 ^ m) (sum k) ∙ pow-add 2 (24 - k % 2) (x + x) ∙ ap (λ (m : ℕ). 2 ^ (24 - k % 2) * m) (pow-add 2 x x))
+    ∙ ap (λ (m : ℕ). q * m) (sym (pow-add 2 k 126) ∙ ap (λ (m : ℕ). 2 ^ m) sum ∙ pow-add 2 (24 - k % 2) (x + x) ∙ ap (λ (m : ℕ). 2 ^ (24 - k % 2) * m) (pow-add 2 x x))
     ∙ sym (mul-assoc q (2 ^ (24 - k % 2)) (2 ^ x * 2 ^ x))
-  where
-    x : ℕ
-    x = (k + 1) / 2 + 51
-
-    sum : (k : ℕ) → k + 126 ≡ 24 - k % 2 + ((k + 1) / 2 + 51 + ((k + 1) / 2 + 51))
-    sum k = omega arith
 
 pub root-law : (b q k : ℕ) → b < 0x7f80_0000 → q * 2 ^ k ≡ patternUnits b * 2 ^ 23 → 2 ^ 23 ≤ q → q < 2 ^ 24 → k ≤ 276
     → ofBits binary32 (((k + 1) / 2 + 51) * 2 ^ 23 + nearestRoot (q * 2 ^ (24 - k % 2))) ≡ rootOf binary32 (ofBits binary32 b)
@@ -162,10 +131,7 @@ root-law b q k h e l u p =
     r = ofBits binary32 (x * 2 ^ 23 + m)
 
     some : 0 < n
-    some = least (2 ^ k) (q * 2 ^ k) n (pow-pos k) (mul-le-mul-right (2 ^ k) l) e
-      where
-        least : (w p a : ℕ) → 0 < w → 2 ^ 23 * w ≤ p → p ≡ a * 2 ^ 23 → 0 < a
-        least w p a x y z = omega arith
+    some = omega (arith, pow-pos k, mul-le-mul-right (2 ^ k) l)
 
     digits : (2 ^ 46 ≤ N) × (N ≤ (2 ^ 24 - 1) * 2 ^ 24)
     digits = N-bounds q (k % 2) l u (omega arith)

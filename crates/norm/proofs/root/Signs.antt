@@ -30,21 +30,6 @@ real (fin s m e) h = tt
 some : (m : ℕ) (e : ℤ) → 0 < suc m * up e * 1
 some m e = mul-pos (mul-pos (zero-lt-suc m) (up-pos e)) (zero-lt-suc 0)
 
-n1 : (u d : ℕ) → 0 < 0 * u * 1 + 0 * d → ⊥
-n1 u d h = omega arith
-
-n2 : (u d : ℕ) → 0 * u * 1 < 0 * d → ⊥
-n2 u d h = omega arith
-
-n3 : (x d : ℕ) → x * 1 < 0 * d → ⊥
-n3 x d h = omega arith
-
-n4 : (x d : ℕ) → 0 < x * 1 → x * 1 + 0 * d ≤ 0 → ⊥
-n4 x d p h = omega arith
-
-n5 : (x d : ℕ) → 0 < x * 1 → x * 1 ≤ 0 * d → ⊥
-n5 x d p h = omega arith
-
 -- ---- below zero there is no root
 
 pub negative : (x : Float) → lt x zero+ ≡ true → nan ≡ rootOf binary32 x
@@ -52,10 +37,10 @@ unfolding lt rootOf
 negative nan h = refl
 negative (inf true) h = refl
 negative (inf false) h = absurd (subst T (sym h) tt)
-negative (fin true zero e) h = absurd (n1 (up e) (down e) (ltb-true 0 (0 * up e * 1 + 0 * down e) h))
-negative (fin false zero e) h = absurd (n2 (up e) (down e) (ltb-true (0 * up e * 1) (0 * down e) h))
+negative (fin true zero e) h = absurd (omega (arith, ltb-true 0 (0 * up e * 1 + 0 * down e) h))
+negative (fin false zero e) h = absurd (omega (arith, ltb-true (0 * up e * 1) (0 * down e) h))
 negative (fin true (suc m) e) h = refl
-negative (fin false (suc m) e) h = absurd (n3 (suc m * up e) (down e) (ltb-true (suc m * up e * 1) (0 * down e) h))
+negative (fin false (suc m) e) h = absurd (omega (arith, ltb-true (suc m * up e * 1) (0 * down e) h))
 
 -- ---- neither above nor below: a NaN or a zero, its own root
 
@@ -65,8 +50,8 @@ neither nan h k = refl
 neither (inf true) h k = absurd (subst T k tt)
 neither (inf false) h k = refl
 neither (fin s zero e) h k = refl
-neither (fin true (suc m) e) h k = absurd (n4 (suc m * up e) (down e) (some m e) (ltb-false 0 (suc m * up e * 1 + 0 * down e) k))
-neither (fin false (suc m) e) h k = absurd (n5 (suc m * up e) (down e) (some m e) (ltb-false (0 * down e) (suc m * up e * 1) h))
+neither (fin true (suc m) e) h k = absurd (omega (arith, some m e, ltb-false 0 (suc m * up e * 1 + 0 * down e) k))
+neither (fin false (suc m) e) h k = absurd (omega (arith, some m e, ltb-false (0 * down e) (suc m * up e * 1) h))
 
 -- ---- a pattern with a sign stands for nothing above zero
 
@@ -92,21 +77,17 @@ signed-not b h = rw (le-leb (2 ^ 31) b h) (fields-not (b % 2 ^ 31 / 2 ^ 23) (b %
 -- ---- from the infinity's pattern up
 pub top-is : (b : ℕ) → 0x7f80_0000 ≤ b → lt zero+ (ofBits binary32 b) ≡ true → ofBits binary32 b ≡ inf false
 unfolding ofBits ofFields lt
-top-is b h p = either (decLe (2 ^ 31) b)
+top-is b h p = elim (decLe (2 ^ 31) b) [
+  | yes l ↦ absurd (subst T (sym p ∙ signed-not b l) tt)
+  | no f ↦ is (lt-of-not-le f) ∙ last (eqb (b % 2 ^ 23) 0) (ap (λ (x : Float). lt zero+ x) (sym (is (lt-of-not-le f))) ∙ p)
+]
   where
-    field : (b : ℕ) → 0x7f80_0000 ≤ b → b < 2 ^ 31 → b % 2 ^ 31 / 2 ^ 23 ≡ 255
-    field b h l = omega arith
-
     last : (t : Bool) → lt zero+ (cond t (inf false) nan) ≡ true → cond t (inf false) nan ≡ inf false
     last true q = refl
     last false q = absurd (subst T (sym q) tt)
 
     is : b < 2 ^ 31 → ofBits binary32 b ≡ cond (eqb (b % 2 ^ 23) 0) (inf false) nan
-    is l = rw (lt-leb (2 ^ 31) b l, field b h l)
-
-    either : Dec (2 ^ 31 ≤ b) → ofBits binary32 b ≡ inf false
-    either (yes l) = absurd (subst T (sym p ∙ signed-not b l) tt)
-    either (no f) = is (lt-of-not-le f) ∙ last (eqb (b % 2 ^ 23) 0) (ap (λ (x : Float). lt zero+ x) (sym (is (lt-of-not-le f))) ∙ p)
+    is l = let field : b % 2 ^ 31 / 2 ^ 23 ≡ 255 = omega arith in rw (lt-leb (2 ^ 31) b l, field)
 
 -- ---- of a value above zero that the format holds
 

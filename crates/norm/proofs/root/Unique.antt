@@ -4,7 +4,7 @@ use mathlib.Core.Path.{_≡_, refl, sym, ap, _∙_, subst}
 use mathlib.Core.Bool.{Bool, false, cond}
 use mathlib.Core.Logic.{_⊎_, inl, inr}
 use Prim.Native.Nat.{ℕ, suc, _+_, _-_, _*_, _/_, _^_, _≤_, _<_}
-use native.Mathlib.Nat.{le-antisymm, le-trans, le-of-lt, lt-of-lt-of-le, lt-of-le-of-lt, lt-irrefl, lt-of-not-le, mul-assoc, mul-left-comm, mul-right-comm, mul-pos, mul-le-mul, mul-le-mul-left, mul-le-mul-right, mul-lt-mul-of-pos-right, pow-succ'}
+use native.Mathlib.Nat.{le-antisymm, le-trans, le-of-lt, lt-of-lt-of-le, lt-of-le-of-lt, lt-irrefl, mul-assoc, mul-left-comm, mul-right-comm, mul-pos, mul-le-mul, mul-le-mul-left, mul-le-mul-right, mul-lt-mul-of-pos-right, pow-succ'}
 use native.Mathlib.Decide.{decLe}
 use native.Mathlib.Omega.{arith}
 use lib.Pow.{pow-pos, pow-mono, pow-add}
@@ -77,30 +77,26 @@ apart (negsuc j) (negsuc k) = elim (decLe (suc j) k) [
 impossible : (a c Q x y u v : ℕ) → 0 < v → a * (y * y) < 4 * Q * (c * (x * x)) → Q * (c * (u * u)) ≤ a * (v * v) → 2 * (x * v) ≤ u * y → ⊥
 impossible a c Q x y u v p below from half =
     lt-irrefl (Q * c * (u * y * (u * y)))
-    (lt-of-le-of-lt (subst (λ (n : ℕ). n ≤ a * (v * v) * (y * y)) (gathered Q c u y) (mul-le-mul-right (y * y) from))
+    (lt-of-le-of-lt (subst (λ (n : ℕ). n ≤ a * (v * v) * (y * y)) gathered (mul-le-mul-right (y * y) from))
     (lt-of-lt-of-le (subst (λ (n : ℕ). n < 4 * Q * (c * (x * x)) * (v * v)) (mul-right-comm a (y * y) (v * v)) (mul-lt-mul-of-pos-right below (mul-pos p p)))
-    (subst (λ (n : ℕ). n ≤ Q * c * (u * y * (u * y))) (spread Q c x v) (mul-le-mul-left (Q * c) (mul-le-mul half half)))))
+    (subst (λ (n : ℕ). n ≤ Q * c * (u * y * (u * y))) spread (mul-le-mul-left (Q * c) (mul-le-mul half half)))))
   where
-    gathered : (Q c u y : ℕ) → Q * (c * (u * u)) * (y * y) ≡ Q * c * (u * y * (u * y))
-    gathered Q c u y = simp (mul-assoc, mul-left-comm) refl
+    gathered : Q * (c * (u * u)) * (y * y) ≡ Q * c * (u * y * (u * y))
+    gathered = simp (mul-assoc, mul-left-comm) refl
 
-    two-two : (n : ℕ) → 2 * (2 * n) ≡ 4 * n
-    two-two n = omega arith
+    pairs : (t : ℕ) → t * (x * v) * (t * (x * v)) ≡ t * (t * (x * x * (v * v)))
+    pairs t = simp (mul-assoc, mul-left-comm) refl
 
-    pairs : (t x v : ℕ) → t * (x * v) * (t * (x * v)) ≡ t * (t * (x * x * (v * v)))
-    pairs t x v = simp (mul-assoc, mul-left-comm) refl
+    apart-four : (k : ℕ) → Q * c * (k * (x * x * (v * v))) ≡ k * Q * (c * (x * x)) * (v * v)
+    apart-four k = simp (mul-assoc, mul-left-comm) refl
 
-    apart-four : (k Q c x v : ℕ) → Q * c * (k * (x * x * (v * v))) ≡ k * Q * (c * (x * x)) * (v * v)
-    apart-four k Q c x v = simp (mul-assoc, mul-left-comm) refl
-
-    spread : (Q c x v : ℕ) → Q * c * (2 * (x * v) * (2 * (x * v))) ≡ 4 * Q * (c * (x * x)) * (v * v)
-    spread Q c x v = ap (λ (n : ℕ). Q * c * n) (pairs 2 x v ∙ two-two (x * x * (v * v))) ∙ apart-four 4 Q c x v
+    spread : Q * c * (2 * (x * v) * (2 * (x * v))) ≡ 4 * Q * (c * (x * x)) * (v * v)
+    spread = ap (λ (n : ℕ). Q * c * n) (pairs 2 ∙ omega arith) ∙ apart-four 4
 
 four-times : (f : Format) → 2 ^ (2 * prec f) ≡ 4 * 2 ^ (2 * prec f - 2)
-four-times f = ap (λ (n : ℕ). 2 ^ n) (room (prec f) (two f)) ∙ pow-add 2 2 (2 * prec f - 2)
-  where
-    room : (p : ℕ) → 2 ≤ p → 2 * p ≡ 2 + (2 * p - 2)
-    room p h = omega arith
+four-times f =
+    let room : 2 * prec f ≡ 2 + (2 * prec f - 2) = omega (arith, two f) in
+    ap (λ (n : ℕ). 2 ^ n) room ∙ pow-add 2 2 (2 * prec f - 2)
 
 module _ (f : Format) (a c : ℕ) (r q : Float) where
   -- not half, one way; the other way is the same with the roots exchanged
@@ -117,11 +113,10 @@ module _ (f : Format) (a c : ℕ) (r q : Float) where
 at-most : (m k u o : ℕ) → (2 * m - 1) * (2 * m - 1) * u < o → o < (2 * k + 1) * (2 * k + 1) * u → m ≤ k
 at-most m k u o l h = elim (decLe m k) [
   | yes g ↦ g
-  | no g ↦ absurd (lt-irrefl o (lt-of-lt-of-le h (le-trans (mul-le-mul-right u (mul-le-mul (odd-le (lt-of-not-le g)) (odd-le (lt-of-not-le g)))) (le-of-lt l))))
+  | no g ↦
+      let odd-le : 2 * k + 1 ≤ 2 * m - 1 = omega arith in
+      absurd (lt-irrefl o (lt-of-lt-of-le h (le-trans (mul-le-mul-right u (mul-le-mul odd-le odd-le)) (le-of-lt l))))
 ]
-  where
-    odd-le : k < m → 2 * k + 1 ≤ 2 * m - 1
-    odd-le g = omega arith
 
 -- ---- so there is one root
 

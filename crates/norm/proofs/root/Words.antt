@@ -3,7 +3,7 @@
 -- largest exponent alone. Assumes nothing.
 use mathlib.Core.Path.{ap, _≡_, refl, sym, _∙_, subst}
 use mathlib.Core.Logic.{_⊎_, inl, inr}
-use mathlib.Core.Bool.{Bool, true, false, _&&_}
+use mathlib.Core.Bool.{true, false, _&&_}
 use Prim.Native.Nat.{ℕ, zero, suc, _+_, _-_, _*_, _/_, _%_, _^_, _≤_, _<_}
 use native.Mathlib.Nat.{mul-div-cancel, mul-assoc, le-of-eq, le-of-lt, le-trans, lt-of-lt-of-le, lt-of-le-of-lt, mul-le-mul, mul-lt-mul-of-pos-right, mul-le-mul-left, mul-le-mul-right, mul-comm, mul-add, add-mul, add-assoc, add-comm, add-left-comm, mul-left-comm, mul-one, one-mul, le-div-iff-mul-le, div-lt-iff-lt-mul, eq-zero-or-pos, lt-irrefl, lt-of-not-le, eq-of-mul-eq-mul-right, mul-right-comm, mul-suc, mul-pos, zero-lt-suc, lt-of-mul-lt-mul-right}
 use native.Mathlib.Decide.{decLe}

@@ -27,22 +27,17 @@ digits g q k l h e =
     let n = N-bounds q (k % 2) l h (omega arith) in
     subst (λ (m : ℕ). m < 2 ^ 24) (sym (root-is g q k h e)) (m-bounds (q * 2 ^ (24 - k % 2)) (n .0) (n .1) .1)
 
-add-m : tie.Need-add-m
-add-m c = omega (arith, digits (c .whole-root .result) (c .before .scale .result .q) (c .before .scale .result .k) (omega arith) (omega arith) (c .whole-root .ensures))
-
-add-result-3 : tie.Need-add-result-3
-add-result-3 c = omega (arith, digits (c .whole-root .result) (c .before .scale .result .q) (c .before .scale .result .k) (omega arith) (omega arith) (c .whole-root .ensures))
-
-cast-result : tie.Need-cast-result
-cast-result c = omega (arith, digits (c .whole-root .result) (c .before .scale .result .q) (c .before .scale .result .k) (omega arith) (omega arith) (c .whole-root .ensures))
+few : (c : tie.After-whole-root) → (c .whole-root .result + 1) / 2 < 2 ^ 24
+few c = digits (c .whole-root .result) (c .before .scale .result .q) (c .before .scale .result .k) (omega arith) (omega arith) (c .whole-root .ensures)
 
 returns : tie.Need-returns
 returns c =
     let b = c .before .before .args .b in
     let v = c .before .scale .result in
     let e = c .before .scale .ensures in (
-      ap (λ (m : ℕ). ofBits binary32 (((v .k + 1) / 2 + 51) * 2 ^ 23 + m)) (root-is (c .whole-root .result) (v .q) (v .k) (e .2) (c .whole-root .ensures)) ∙ root-law b (v .q) (v .k) (c .before .before .pre .1) (e .0) (e .1) (e .2) (e .3),
-      omega (arith, digits (c .whole-root .result) (c .before .scale .result .q) (c .before .scale .result .k) (omega arith) (omega arith) (c .whole-root .ensures)),
+      ap (λ (m : ℕ). ofBits binary32 (((v .k + 1) / 2 + 51) * 2 ^ 23 + m)) (root-is (c .whole-root .result) (v .q) (v .k) (e .2) (c .whole-root .ensures))
+          ∙ root-law b (v .q) (v .k) (c .before .before .pre .1) (e .0) (e .1) (e .2) (e .3),
+      omega (arith, few c),
     )
 
 pub root-bits-spec : {M : Type 1} → statement M
@@ -51,5 +46,5 @@ root-bits-spec =
     (tie.spec
     (λ c κs. search needs) (λ c. omega arith) (λ c. omega arith)
     (λ c. omega (arith, small (c .scale .result .q) (c .scale .result .k) (omega arith) (omega arith)))
-    (λ c κs. small (c .scale .result .q) (c .scale .result .k) (omega arith) (omega arith)) add-m (λ c. omega arith) (λ c. omega arith) (λ c. omega arith)
-    add-result-3 cast-result returns)
+    (λ c κs. small (c .scale .result .q) (c .scale .result .k) (omega arith) (omega arith)) (λ c. omega (arith, few c))
+    (λ c. omega arith) (λ c. omega arith) (λ c. omega arith) (λ c. omega (arith, few c)) (λ c. omega (arith, few c)) returns)

@@ -16,17 +16,15 @@ k-pos u q (suc k) e p h = omega arith
 
 double : (q k : ℕ) → 0 < k → (q + q) * 2 ^ (k - 1) ≡ q * 2 ^ k
 double q zero h = omega arith
-double q (suc k) h = ap (λ (x : ℕ). (q + q) * 2 ^ x) (one k) ∙ add-mul q q (2 ^ k) ∙ sym (mul-add q (2 ^ k) (2 ^ k)) ∙ ap (λ (x : ℕ). q * x) (sym (pow-succ' 2 k ∙ two-mul (2 ^ k)))
-  where
-    one : (k : ℕ) → suc k - 1 ≡ k
-    one k = omega arith
+double q (suc k) h =
+    let one : suc k - 1 ≡ k = omega arith in
+    rw one (add-mul q q (2 ^ k) ∙ sym (mul-add q (2 ^ k) (2 ^ k)) ∙ ap (λ (x : ℕ). q * x) (sym (pow-succ' 2 k ∙ two-mul (2 ^ k))))
 
 -- a * 2 ^ (x + 22) is a * 2 ^ (x - 1) * 2 ^ 23
 raised : (a x : ℕ) → 0 < x → a * 2 ^ (x + 22) ≡ a * 2 ^ (x - 1) * 2 ^ 23
-raised a x h = ap (λ (n : ℕ). a * 2 ^ n) (split x h) ∙ ap (λ (n : ℕ). a * n) (pow-add 2 (x - 1) 23) ∙ sym (mul-assoc a (2 ^ (x - 1)) (2 ^ 23))
-  where
-    split : (x : ℕ) → 0 < x → x + 22 ≡ (x - 1) + 23
-    split x h = omega arith
+raised a x h =
+    let split : x + 22 ≡ (x - 1) + 23 = omega arith in
+    ap (λ (n : ℕ). a * 2 ^ n) split ∙ ap (λ (n : ℕ). a * n) (pow-add 2 (x - 1) 23) ∙ sym (mul-assoc a (2 ^ (x - 1)) (2 ^ 23))
 
 normal-is : (b : ℕ) → 0 < b / 2 ^ 23 → (2 ^ 23 + b % 2 ^ 23) * 2 ^ (b / 2 ^ 23 + 22) ≡ patternUnits b * 2 ^ 23
 normal-is b h = raised (2 ^ 23 + b % 2 ^ 23) (b / 2 ^ 23) h ∙ ap (λ (n : ℕ). n * 2 ^ 23) (sym (units-normal b (λ e. omega arith)))
