@@ -5,9 +5,9 @@ use mathlib.Core.Path.{_≡_, refl, sym, ap, _∙_, subst}
 use mathlib.Core.Bool.{Bool, true, false, not, cond}
 use Prim.Native.Nat.{ℕ, _+_, _-_, _*_, _^_, _≤_, _<_}
 use native.Mathlib.Nat.{le-refl, le-of-eq, le-of-lt, lt-of-lt-of-le, zero-add}
+use native.Mathlib.Decide.{decLt}
 use native.Mathlib.Omega.{arith}
-use borrow.Author.Tests.{ltb-true, ltb-false, lt-ltb, le-ltb, le-leb, lt-leb}
-use lib.Arith.{lt-of-le-ne}
+use borrow.Author.Tests.{lt-ltb, le-ltb, le-leb, lt-leb}
 use lib.Dec.{T, leb, ltb}
 use lib.Ieee.{Float, nan, inf, fin, Format, binary32, top, isNan, fits, ofBits}
 use lib.Ieee.Bits.{ofBits-toBits, is-false}
@@ -24,10 +24,7 @@ keyAt w true g = w - 1 - g
 keyAt w false g = w + g
 
 signed : (w g : ℕ) → g < w → (s : Bool) → pick (leb w (cond s w 0 + g)) (2 * w - 1 - (cond s w 0 + g)) (w + (cond s w 0 + g)) ≡ keyAt w s g
-signed w g l true = pick-true _ _ (le-leb w (w + g) (omega arith)) ∙ turn w g
-  where
-    turn : (w g : ℕ) → 2 * w - 1 - (w + g) ≡ w - 1 - g
-    turn w g = omega arith
+signed w g l true = pick-true _ _ (le-leb w (w + g) (omega arith)) ∙ omega arith
 signed w g l false = rw (zero-add g) (pick-false _ _ (lt-leb w g l))
 
 key-is : (f : Format) (x : Float) → T (fits f x) → T (not (isNan x)) → keyOf f x ≡ keyAt (top f) (sign x) (mag f x)
@@ -45,22 +42,18 @@ key-nan f = refl
 key-under : (f : Format) (x : Float) → T (fits f x) → T (not (isNan x)) → keyOf f x < 2 * top f - 1
 key-under f x h t = subst (λ (n : ℕ). n < 2 * top f - 1) (sym (key-is f x h t)) (under (top f) (mag f x) (mag-lt f x h t) (mag-ne f x h t) (sign x))
   where
-    last : (w g : ℕ) → g < w → g ≤ w - 1
-    last w g l = omega arith
-
     under : (w g : ℕ) → g < w → (g ≡ w - 1 → ⊥) → (s : Bool) → keyAt w s g < 2 * w - 1
     under w g l n true = omega arith
-    under w g l n false = omega (arith, lt-of-le-ne (last w g l) n)
+    under w g l n false = omega arith
 
 -- ---- the order
 
 -- two tests that say the same
 same-test : (a b c d : ℕ) → (c < d → a < b) → (d ≤ c → b ≤ a) → ltb a b ≡ ltb c d
-same-test a b c d p q = either (ltb c d) refl
-  where
-    either : (t : Bool) → ltb c d ≡ t → ltb a b ≡ ltb c d
-    either true e = lt-ltb a b (p (ltb-true c d e)) ∙ sym e
-    either false e = le-ltb a b (q (ltb-false c d e)) ∙ sym e
+same-test a b c d p q = elim (decLt c d) [
+  | yes l ↦ lt-ltb a b (p l) ∙ sym (lt-ltb c d l)
+  | no l ↦ let m : d ≤ c = omega arith in le-ltb a b (q m) ∙ sym (le-ltb c d m)
+]
 
 key-order : (w g h : ℕ) → g < w → h < w → (s t : Bool) → ltb (keyAt w s g) (keyAt w t h) ≡ ahead s g t h
 key-order w g h a b false false = same-test (w + g) (w + h) g h (λ p. omega arith) (λ p. omega arith)
@@ -172,14 +165,8 @@ key-below x h = let p = past-nan binary32 x h in omega (arith, key-nan binary32)
 -- ---- the value of a key
 
 turned-back : (w g : ℕ) → g < w → (s : Bool) → pick (leb w (keyAt w s g)) (keyAt w s g - w) (2 * w - 1 - keyAt w s g) ≡ cond s w 0 + g
-turned-back w g l true = pick-false _ _ (lt-leb w (w - 1 - g) (omega arith)) ∙ twice w g l
-  where
-    twice : (w g : ℕ) → g < w → 2 * w - 1 - (w - 1 - g) ≡ w + g
-    twice w g l = omega arith
-turned-back w g l false = pick-true _ _ (le-leb w (w + g) (omega arith)) ∙ less-weight w g
-  where
-    less-weight : (w g : ℕ) → w + g - w ≡ 0 + g
-    less-weight w g = omega arith
+turned-back w g l true = pick-false _ _ (lt-leb w (w - 1 - g) (omega arith)) ∙ omega arith
+turned-back w g l false = pick-true _ _ (le-leb w (w + g) (omega arith)) ∙ omega arith
 
 value-number : (f : Format) (x : Float) → T (fits f x) → T (not (isNan x)) → valueOf f (keyOf f x) ≡ x
 unfolding valueOf

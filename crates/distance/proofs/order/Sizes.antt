@@ -32,43 +32,29 @@ size-mono : (a b : ℕ) → a ≤ b → size a ≤ size b
 size-mono a b h = size-le a (size b) (lt-of-le-of-lt h (size-lt b))
 
 twice-hid : (p : ℕ) → 0 < p → 2 ^ p ≡ 2 ^ (p - 1) + 2 ^ (p - 1)
-twice-hid p h = ap (λ (x : ℕ). 2 ^ x) (suc-pred p h) ∙ pow-succ' 2 (p - 1) ∙ two-mul (2 ^ (p - 1))
-  where
-    suc-pred : (p : ℕ) → 0 < p → p ≡ suc (p - 1)
-    suc-pred p h = omega arith
+twice-hid p h = let e : p ≡ suc (p - 1) = omega arith in ap (λ (x : ℕ). 2 ^ x) e ∙ pow-succ' 2 (p - 1) ∙ two-mul (2 ^ (p - 1))
 
 -- where digits are dropped, the leading digit is among those kept
 kept-ge : (p n : ℕ) → 0 < p → 0 < size n - p → 2 ^ (p - 1) ≤ n / 2 ^ (size n - p)
 kept-ge p n P K =
     le-div-iff-mul-le (pow-pos (size n - p)) .1
-    (le-trans (le-of-eq (sym (pow-add 2 (p - 1) (size n - p)))) (size-reaches n (p - 1 + (size n - p)) (all-in-use (size n) p P K)))
-  where
-    all-in-use : (z p : ℕ) → 0 < p → 0 < z - p → p - 1 + (z - p) < z
-    all-in-use z p P h = omega arith
+    (le-trans (le-of-eq (sym (pow-add 2 (p - 1) (size n - p)))) (size-reaches n (p - 1 + (size n - p)) (omega arith)))
 
 enc-mono : (p a b : ℕ) → 0 < p → a ≤ b → enc p a ≤ enc p b
 enc-mono p a b P h =
-    elim (eq-or-lt-of-le (less (size a) (size b) p (size-mono a b h))) [
-      | inl e ↦ le-trans (same (size a - p) a b h) (le-of-eq (ap (λ (k : ℕ). encAt p b k) e))
+    let fewer : size a - p ≤ size b - p = omega (arith, size-mono a b h) in
+    elim (eq-or-lt-of-le fewer) [
+      | inl e ↦ le-trans (same (size a - p)) (le-of-eq (ap (λ (k : ℕ). encAt p b k) e))
       | inr l ↦
           more (2 ^ (p - 1)) ((size a - p) * 2 ^ (p - 1)) ((size b - p) * 2 ^ (p - 1)) (a / 2 ^ (size a - p)) (b / 2 ^ (size b - p))
           (le-trans (le-of-eq (sym (suc-mul (size a - p) (2 ^ (p - 1))))) (mul-le-mul-right (2 ^ (p - 1)) l))
           (subst (λ (x : ℕ). a / 2 ^ (size a - p) < x) (twice-hid p P) (kept-lt p a))
-          (kept-ge p b P (some (size a - p) (size b - p) l))
+          (kept-ge p b P (omega arith))
     ]
   where
-    less : (x y p : ℕ) → x ≤ y → x - p ≤ y - p
-    less x y p h = omega arith
-
-    some : (x y : ℕ) → x < y → 0 < y
-    some x y h = omega arith
-
-    keep : (w q r : ℕ) → q ≤ r → w + q ≤ w + r
-    keep w q r h = omega arith
-
     -- as many digits are dropped of both
-    same : (k a b : ℕ) → a ≤ b → encAt p a k ≤ encAt p b k
-    same k a b h = keep (k * 2 ^ (p - 1)) (a / 2 ^ k) (b / 2 ^ k) (shr-mono k h)
+    same : (k : ℕ) → encAt p a k ≤ encAt p b k
+    same k = omega (arith, shr-mono k h)
 
     -- more are dropped of the greater: w, u are what stands above, q, r what is kept
     more : (h w u q r : ℕ) → w + h ≤ u → q < h + h → h ≤ r → w + q ≤ u + r
@@ -132,11 +118,8 @@ abs-mag f (fin s m e) t = bits-are f (fin false m e) tt ∙ zero-add (mag f (fin
 -- the pattern without the sign stays below the sign's weight
 pub mag-lt : (f : Format) (x : Float) → T (fits f x) → T (not (isNan x)) → mag f x < top f
 unfolding isNan neg
-mag-lt f x h t = half (top f) (mag f x) (subst (λ (n : ℕ). n < 2 * top f) (other f x t) (toBits-lt f (neg (abs x)) (neg-fits f (abs x) (abs-fits f x h))))
+mag-lt f x h t = omega (arith, other f x t, toBits-lt f (neg (abs x)) (neg-fits f (abs x) (abs-fits f x h)))
   where
-    half : (a b : ℕ) → a + b < 2 * a → b < a
-    half a b h = omega arith
-
     other : (f : Format) (x : Float) → T (not (isNan x)) → toBits f (neg (abs x)) ≡ top f + mag f x
     other f nan t = absurd t
     other f (inf s) t = bits-are f (inf true) tt
