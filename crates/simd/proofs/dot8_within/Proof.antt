@@ -1,10 +1,10 @@
 -- The invariant: of each of the eight sums, what is left from it on is the whole dot. The measure is what is left of the query. Assumes nothing.
 use borrow.Author.Needs.{needs}
 use native.Mathlib.Omega.{arith}
-use mathlib.Core.Path.{_≡_, refl, sym, subst, _∙_}
+use mathlib.Core.Path.{_≡_, refl, subst, _∙_}
 use Prim.Native.Nat.{_+_, _-_, _%_, _≤_}
 use lib.ListN.{length}
-use lib.Ieee.{Float, ofBits}
+use lib.Ieee.{ofBits}
 use Rattle.simd.specs.Inside.Eight.{fours}
 use Rattle.simd.proofs.Left.{Left, left-start, left-four}
 use Rattle.simd.proofs.dot8_within.Statement.{statement}
@@ -19,42 +19,22 @@ abbrev μ-loop : tie.MeasureT-loop
 μ-loop q a b c d e f g h sum-a₀ sum-b₀ sum-c₀ sum-d₀ sum-e₀ sum-f₀ sum-g₀ sum-h₀ i₀ sum-a sum-b sum-c sum-d sum-e sum-f sum-g sum-h i =
     length q - i
 
+-- where the query's four components are read, and before the loop
+abbrev At : Type 0
+At = tie.After-shared-slice-known13 Inv-loop μ-loop
+
+abbrev start : At → tie.Start Inv-loop μ-loop
+start c = let turn = c .before .before .before .before in turn .before .before .before .before .before .before .before .before .before .before .before
+
 -- there are four components more
-more : (c : tie.In-loop Inv-loop μ-loop) → c .before .loop .i + 4 ≤ length (c .before .before .before .before .before .before .before .before .before .before .before .args .q .now)
-more c = omega (arith, c .loop-test .taken, c .before .loop .inv .0)
+more : (c : At) → c .before .before .before .before .before .loop .i + 4 ≤ length (start c .args .q .now)
+more c = omega (arith, c .before .before .before .before .loop-test .taken, c .before .before .before .before .before .loop .inv .0)
 
 loop-holds : tie.Need-loop-holds Inv-loop μ-loop
 unfolding ofBits
 loop-holds c =
     let x = c .before .before .before .before .before .before .before .before .before .args in
     (omega arith, left-start (x .q .now) (x .a .now), left-start (x .q .now) (x .b .now), left-start (x .q .now) (x .c .now), left-start (x .q .now) (x .d .now), left-start (x .q .now) (x .e .now), left-start (x .q .now) (x .f .now), left-start (x .q .now) (x .g .now), left-start (x .q .now) (x .h .now), refl)
-
-add-four-requires : tie.Need-add-four-requires Inv-loop μ-loop
-add-four-requires c κs = omega (arith, more (c .before .before .before .before), c .before .before .before .before .before .before .before .before .before .before .before .before .before .before .before .pre .0)
-
-add-four-requires-2 : tie.Need-add-four-requires-2 Inv-loop μ-loop
-add-four-requires-2 c κs = omega (arith, more (c .before .before .before .before .before), c .before .before .before .before .before .before .before .before .before .before .before .before .before .before .before .before .pre .1)
-
-add-four-requires-3 : tie.Need-add-four-requires-3 Inv-loop μ-loop
-add-four-requires-3 c κs = omega (arith, more (c .before .before .before .before .before .before), c .before .before .before .before .before .before .before .before .before .before .before .before .before .before .before .before .before .pre .2)
-
-add-four-requires-4 : tie.Need-add-four-requires-4 Inv-loop μ-loop
-add-four-requires-4 c κs = omega (arith, more (c .before .before .before .before .before .before .before), c .before .before .before .before .before .before .before .before .before .before .before .before .before .before .before .before .before .before .pre .3)
-
-add-four-requires-5 : tie.Need-add-four-requires-5 Inv-loop μ-loop
-add-four-requires-5 c κs = omega (arith, more (c .before .before .before .before .before .before .before .before), c .before .before .before .before .before .before .before .before .before .before .before .before .before .before .before .before .before .before .before .pre .4)
-
-add-four-requires-6 : tie.Need-add-four-requires-6 Inv-loop μ-loop
-add-four-requires-6 c κs = omega (arith, more (c .before .before .before .before .before .before .before .before .before), c .before .before .before .before .before .before .before .before .before .before .before .before .before .before .before .before .before .before .before .before .pre .5)
-
-add-four-requires-7 : tie.Need-add-four-requires-7 Inv-loop μ-loop
-add-four-requires-7 c κs = omega (arith, more (c .before .before .before .before .before .before .before .before .before .before), c .before .before .before .before .before .before .before .before .before .before .before .before .before .before .before .before .before .before .before .before .before .pre .6)
-
-add-four-requires-8 : tie.Need-add-four-requires-8 Inv-loop μ-loop
-add-four-requires-8 c κs = omega (arith, more (c .before .before .before .before .before .before .before .before .before .before .before), c .before .before .before .before .before .before .before .before .before .before .before .before .before .before .before .before .before .before .before .before .before .before .pre .7)
-
-loop-less : tie.Need-loop-less Inv-loop μ-loop
-loop-less c = omega (arith, more (c .before .before .before .before .before .before .before .before .before .before .before .before))
 
 loop-again : tie.Need-loop-again Inv-loop μ-loop
 loop-again c =
@@ -64,22 +44,20 @@ loop-again c =
     let at-add-four3 = at-add-four4 .before in
     let at-add-four2 = at-add-four3 .before in
     let at-add-four = at-add-four2 .before in
-    let back = at-add-four .before .before .before .before .before in
-    let back-2 = back .before in
-    let at = back-2 in
-    let start = at .before .before .before .before .before .before .before .before .before .before in
-    let x = start .args in
-    let l = at .loop in
-    let h : l .i + 4 ≤ length (x .q .now) = more (back) in (
+    let at = at-add-four .before in
+    let s = start at in
+    let x = s .args in
+    let l = at .before .before .before .before .before .loop in
+    let h : l .i + 4 ≤ length (x .q .now) = more at in (
       h,
-      subst (λ (s : Float). Left (x .q .now) (x .a .now) s (l .i + 4)) (sym (at-add-four .add-four .ensures)) (left-four (x .q .now) (x .a .now) (l .sum-a) (l .i) h (start .pre .0) (l .inv .1)),
-      subst (λ (s : Float). Left (x .q .now) (x .b .now) s (l .i + 4)) (sym (at-add-four2 .add-four2 .ensures)) (left-four (x .q .now) (x .b .now) (l .sum-b) (l .i) h (start .pre .1) (l .inv .2)),
-      subst (λ (s : Float). Left (x .q .now) (x .c .now) s (l .i + 4)) (sym (at-add-four3 .add-four3 .ensures)) (left-four (x .q .now) (x .c .now) (l .sum-c) (l .i) h (start .pre .2) (l .inv .3)),
-      subst (λ (s : Float). Left (x .q .now) (x .d .now) s (l .i + 4)) (sym (at-add-four4 .add-four4 .ensures)) (left-four (x .q .now) (x .d .now) (l .sum-d) (l .i) h (start .pre .3) (l .inv .4)),
-      subst (λ (s : Float). Left (x .q .now) (x .e .now) s (l .i + 4)) (sym (at-add-four5 .add-four5 .ensures)) (left-four (x .q .now) (x .e .now) (l .sum-e) (l .i) h (start .pre .4) (l .inv .5)),
-      subst (λ (s : Float). Left (x .q .now) (x .f .now) s (l .i + 4)) (sym (at-add-four6 .add-four6 .ensures)) (left-four (x .q .now) (x .f .now) (l .sum-f) (l .i) h (start .pre .5) (l .inv .6)),
-      subst (λ (s : Float). Left (x .q .now) (x .g .now) s (l .i + 4)) (sym (c .before .add-four7 .ensures)) (left-four (x .q .now) (x .g .now) (l .sum-g) (l .i) h (start .pre .6) (l .inv .7)),
-      subst (λ (s : Float). Left (x .q .now) (x .h .now) s (l .i + 4)) (sym (c .add-four8 .ensures)) (left-four (x .q .now) (x .h .now) (l .sum-h) (l .i) h (start .pre .7) (l .inv .8)),
+      rw (at-add-four .add-four .ensures) (left-four (x .q .now) (x .a .now) (l .sum-a) (l .i) h (s .pre .0) (l .inv .1)),
+      rw (at-add-four2 .add-four2 .ensures) (left-four (x .q .now) (x .b .now) (l .sum-b) (l .i) h (s .pre .1) (l .inv .2)),
+      rw (at-add-four3 .add-four3 .ensures) (left-four (x .q .now) (x .c .now) (l .sum-c) (l .i) h (s .pre .2) (l .inv .3)),
+      rw (at-add-four4 .add-four4 .ensures) (left-four (x .q .now) (x .d .now) (l .sum-d) (l .i) h (s .pre .3) (l .inv .4)),
+      rw (at-add-four5 .add-four5 .ensures) (left-four (x .q .now) (x .e .now) (l .sum-e) (l .i) h (s .pre .4) (l .inv .5)),
+      rw (at-add-four6 .add-four6 .ensures) (left-four (x .q .now) (x .f .now) (l .sum-f) (l .i) h (s .pre .5) (l .inv .6)),
+      rw (c .before .add-four7 .ensures) (left-four (x .q .now) (x .g .now) (l .sum-g) (l .i) h (s .pre .6) (l .inv .7)),
+      rw (c .add-four8 .ensures) (left-four (x .q .now) (x .h .now) (l .sum-h) (l .i) h (s .pre .7) (l .inv .8)),
       omega (arith, l .inv .9),
     )
 
@@ -108,7 +86,16 @@ dot8-within-spec =
     (λ c. search needs) (λ c. search needs) (λ c. search needs) (λ c. search needs) (λ c. search needs) (λ c. search needs) (λ c. search needs)
     (λ c. search needs) (λ c. search needs) (λ c. search needs) (λ c. search needs) (λ c. search needs)
     -- w
-    (λ c. search needs) add-four-requires add-four-requires-2 add-four-requires-3 add-four-requires-4 add-four-requires-5 add-four-requires-6
-    add-four-requires-7 add-four-requires-8 loop-less loop-again
+    (λ c. search needs)
+    -- the eight rows
+    (λ c κs. omega (arith, more c, start c .pre .0))
+    (λ c κs. let at = c .before in omega (arith, more at, start at .pre .1))
+    (λ c κs. let at = c .before .before in omega (arith, more at, start at .pre .2))
+    (λ c κs. let at = c .before .before .before in omega (arith, more at, start at .pre .3))
+    (λ c κs. let at = c .before .before .before .before in omega (arith, more at, start at .pre .4))
+    (λ c κs. let at = c .before .before .before .before .before in omega (arith, more at, start at .pre .5))
+    (λ c κs. let at = c .before .before .before .before .before .before in omega (arith, more at, start at .pre .6))
+    (λ c κs. let at = c .before .before .before .before .before .before .before in omega (arith, more at, start at .pre .7))
+    (λ c. omega (arith, more (c .before .before .before .before .before .before .before .before))) loop-again
     -- dot8_rest
     (λ c κs. search needs) returns)
