@@ -31,11 +31,7 @@ or-right false b t = t
 pub has-in : (x : ℕ) (l : List ℕ) → T (has x l) → In x l
 unfolding has
 has-in x [] t = absurd t
-has-in x (y ∷ l) t = go (has-in x l) (or-cases (eqb x y) (has x l) t)
-  where
-    go : (T (has x l) → In x l) → T (eqb x y) ⊎ T (has x l) → In x (y ∷ l)
-    go rec (inl e) = here (eqb→eq x y e)
-    go rec (inr m) = there (rec m)
+has-in x (y ∷ l) t = elim (or-cases (eqb x y) (has x l) t) [ inl e ↦ here (eqb→eq x y e) | inr m ↦ there (has-in x l m) ]
 
 pub in-has : {x : ℕ} {l : List ℕ} → In x l → T (has x l)
 unfolding has
@@ -97,11 +93,7 @@ in-upTo (suc n) x h = elim (decLt x n) [ yes k ↦ there (in-upTo n x k) | no k 
 upTo-below : (n x : ℕ) → In x (upTo n) → x < n
 unfolding upTo
 upTo-below zero x m = absurd (in-nil m)
-upTo-below (suc n) x m = go (upTo-below n x) (in-cons m)
-  where
-    go : (In x (upTo n) → x < n) → (x ≡ n) ⊎ In x (upTo n) → x < suc n
-    go rec (inl q) = omega arith
-    go rec (inr k) = let r = rec k in omega arith
+upTo-below (suc n) x m = elim (in-cons m) [ inl q ↦ omega arith | inr k ↦ let r = upTo-below n x k in omega arith ]
 
 -- at most n nodes below n, without repeats
 pub at-most : (n : ℕ) (l : List ℕ) → NoDup l → Below n l → length l ≤ n
@@ -111,15 +103,11 @@ at-most n l d b =
 
 -- n of them are all
 pub all-of : (n : ℕ) (l : List ℕ) → NoDup l → Below n l → n ≤ length l → (x : ℕ) → x < n → In x l
-all-of n l d b h x k = go (in-or-not x l)
+all-of n l d b h x k = elim (in-or-not x l) [ inl m ↦ m | inr f ↦ absurd (let r = at-most n (x ∷ l) (f, d) below in omega arith) ]
   where
     below : Below n (x ∷ l)
     below y (here e) = omega arith
     below y (there m) = b y m
-
-    go : In x l ⊎ (In x l → ⊥) → In x l
-    go (inl m) = m
-    go (inr f) = absurd (let r = at-most n (x ∷ l) (f, d) below in omega arith)
 
 -- a list that holds every node below n has n elements at least
 nodup-upTo : (n : ℕ) → NoDup (upTo n)

@@ -35,21 +35,19 @@ module _ {A : Type 0} (p : A → Bool) (xs : List A) (d : A) (m : ℕ) where
           ∙ every-at p part d (k - m * q) e (omega (arith, length-take n (drop (m * q) xs), length-drop (m * q) xs))
 
   pub parts-more : (q i : ℕ) → EqualParts q i → ((c : ℕ) → c < m → Holds (c * q + i)) → EqualParts q (i + 1)
-  parts-more q i h one = record { taken = λ c j l u. go c j l u (decLt j i); past = h .past }
-    where
-      go : (c j : ℕ) → c < m → j < i + 1 → Dec (j < i) → Holds (c * q + j)
-      go c j l u (yes t) = h .taken c j l t
-      go c j l u (no t) = let e : i ≡ j = omega arith in subst (λ (k : ℕ). Holds (c * q + k)) e (one c l)
+  parts-more q i h one = record {
+    taken = λ c j l u. elim (decLt j i) [
+      | yes t ↦ h .taken c j l t
+      | no t ↦ let e : i ≡ j = omega arith in subst (λ (k : ℕ). Holds (c * q + k)) e (one c l)
+    ];
+    past = h .past;
+  }
 
   pub parts-all : (q i : ℕ) → q ≤ i → EqualParts q i → every p xs ≡ true
-  parts-all q i most h = every-of p xs d (λ k u. go k u (decLt k (m * q)))
+  parts-all q i most h = every-of p xs d (λ k u. elim (decLt k (m * q)) [ yes t ↦ within k t (decLt 0 q) | no t ↦ h .past k (omega arith) u ])
     where
       within : (k : ℕ) → k < m * q → Dec (0 < q) → Holds k
       within k t (yes some) =
           let l = mod-lt k some in
           subst Holds (div-add-mod' k q) (h .taken (k / q) (k % q) (div-lt-iff-lt-mul some .1 t) (omega arith))
       within k t (no none) = let e : q ≡ 0 = omega arith in absurd (omega (arith, ap (λ (x : ℕ). m * x) e, mul-zero m))
-
-      go : (k : ℕ) → k < length xs → Dec (k < m * q) → Holds k
-      go k u (yes t) = within k t (decLt 0 q)
-      go k u (no t) = h .past k (omega arith) u

@@ -1,6 +1,6 @@
 -- Membership in a part of a list, in a row that a store replaced, and under a map; tests joined by `&&`. Assumes nothing.
-use mathlib.Core.Path.{_≡_, refl}
-use mathlib.Core.Logic.{_⊎_, inl, inr}
+use mathlib.Core.Path.{refl}
+use mathlib.Core.Logic.{inl, inr}
 use mathlib.Core.Bool.{Bool, true, false, _&&_}
 use mathlib.Core.List.{List, [], _∷_}
 use mathlib.Core.List.{List·Memᴰ as In, List·Memᴰ·head as here, List·Memᴰ·tail as there, List·Memᴰ·not-nil as in-nil, List·Memᴰ·cases-cons as in-cons}
@@ -10,15 +10,11 @@ use lib.Dec.{T}
 use lib.ListN.{length, getD, take, drop}
 use Rattle.basics.specs.Nodes.{NoDup}
 
-module _ {A : Type 0} {z : A} where
+module _ {ℓ} {A : Type ℓ} {z : A} where
   pub in-take : (k : ℕ) (l : List A) → In z (take k l) → In z l
   in-take zero l m = absurd (in-nil m)
   in-take (suc k) [] m = m
-  in-take (suc k) (x ∷ l) m = go (in-take k l) (in-cons m)
-    where
-      go : (In z (take k l) → In z l) → (z ≡ x) ⊎ In z (take k l) → In z (x ∷ l)
-      go rec (inl e) = here e
-      go rec (inr i) = there (rec i)
+  in-take (suc k) (x ∷ l) m = elim (in-cons m) [ inl e ↦ here e | inr i ↦ there (in-take k l i) ]
 
   pub in-drop : (k : ℕ) (l : List A) → In z (drop k l) → In z l
   in-drop zero l m = m

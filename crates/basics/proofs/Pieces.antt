@@ -12,10 +12,10 @@ use Rattle.basics.specs.Lists.{every, pieces}
 use Rattle.basics.proofs.Tests.{both-true}
 
 -- a part of a part
-pub drop-take : {A : Type 0} (a b : ℕ) (l : List A) → drop a (take (a + b) l) ≡ take b (drop a l)
-drop-take {A} zero b l = let same : zero + b ≡ b = omega arith in ap (λ (k : ℕ). take k l) same
-drop-take {A} (suc a) b [] = ap (drop (suc a)) (lib.Seq.take-nil (suc a + b)) ∙ sym (lib.Seq.take-nil b)
-drop-take {A} (suc a) b (x ∷ l) =
+pub drop-take {ℓ} : {A : Type ℓ} (a b : ℕ) (l : List A) → drop a (take (a + b) l) ≡ take b (drop a l)
+drop-take zero b l = let same : zero + b ≡ b = omega arith in ap (λ (k : ℕ). take k l) same
+drop-take (suc a) b [] = ap (drop (suc a)) (lib.Seq.take-nil (suc a + b)) ∙ sym (lib.Seq.take-nil b)
+drop-take (suc a) b (x ∷ l) =
     let next : suc a + b ≡ suc (a + b) = omega arith in
     ap (λ (k : ℕ). drop (suc a) (take k (x ∷ l))) next ∙ drop-take a b l
 
