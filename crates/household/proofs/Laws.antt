@@ -1,7 +1,7 @@
 -- What the household count says: the doc ids of a day are those of its sightings, and they are counted once each, so that the count is the length of
 -- every list without repeats that has the same members. Assumes nothing.
 use mathlib.Core.Path.{_≡_, refl, sym, subst}
-use mathlib.Core.Logic.{_⊎_, inl, inr}
+use mathlib.Core.Logic.{inl, inr}
 use mathlib.Core.Bool.{Bool, true, false, not, true≢false}
 use mathlib.Core.List.{List, [], _∷_}
 use mathlib.Core.List.{List·Memᴰ as In, List·Memᴰ·head as here, List·Memᴰ·tail as there, List·Memᴰ·not-nil as in-nil, List·Memᴰ·cases-cons as in-cons, Memᴰ·cast as in-cast}
@@ -45,20 +45,16 @@ pub from-different : (z : ℕ) (xs : List ℕ) → In z (different xs) → In z 
 unfolding different
 from-different z [] = λ m. m
 from-different z (x ∷ xs) =
-    pick-ind (λ (l : List ℕ). In z l → In z (x ∷ xs)) (has x xs) (λ _ m. there (from-different z xs m)) (λ _ m. kept (from-different z xs) (in-cons m))
-  where
-    kept : (In z (different xs) → In z xs) → (z ≡ x) ⊎ In z (different xs) → In z (x ∷ xs)
-    kept rec (inl e) = here e
-    kept rec (inr i) = there (rec i)
+    pick-ind (λ (l : List ℕ). In z l → In z (x ∷ xs)) (has x xs) (λ _ m. there (from-different z xs m))
+    (λ _ m. elim (in-cons {b = x} {l = different xs} m) [ inl e ↦ here e | inr i ↦ there (from-different z xs i) ])
 
 pub to-different : (z : ℕ) (xs : List ℕ) → In z xs → In z (different xs)
 unfolding different
 to-different z [] m = m
-to-different z (x ∷ xs) m = go (to-different z xs) (in-cons m)
-  where
-    go : (In z xs → In z (different xs)) → (z ≡ x) ⊎ In z xs → In z (different (x ∷ xs))
-    go rec (inl e) = pick-ind (In z) (has x xs) (λ t. rec (in-cast e (has-in x xs t))) (λ _. here e)
-    go rec (inr i) = pick-ind (In z) (has x xs) (λ _. rec i) (λ _. there (rec i))
+to-different z (x ∷ xs) m = elim (in-cons m) [
+  | inl e ↦ pick-ind (In z) (has x xs) (λ t. to-different z xs (in-cast e (has-in x xs t))) (λ _. here e)
+  | inr i ↦ pick-ind (In z) (has x xs) (λ _. to-different z xs i) (λ _. there (to-different z xs i))
+]
 
 -- each once
 pub different-once : (xs : List ℕ) → NoDup (different xs)
@@ -92,13 +88,11 @@ on-sighted day doc [] docs = λ m. absurd (in-nil m)
 on-sighted day doc (s ∷ seconds) [] = λ m. absurd (in-nil m)
 on-sighted day doc (s ∷ seconds) (d ∷ docs) =
     pick-ind (λ (l : List ℕ). In doc l → Sighted day doc (s ∷ seconds) (d ∷ docs)) (eqb (dayOf s) day)
-    (λ t m. go (eqb→eq (dayOf s) day t) (on-sighted day doc seconds docs) (in-cons m))
+    (λ t m. elim (in-cons {b = d} {l = docsOn day seconds docs} m) [
+      | inl e ↦ record { j = 0; among = (omega arith, omega arith); day-is = eqb→eq (dayOf s) day t; doc-is = sym e }
+      | inr i ↦ later (on-sighted day doc seconds docs i)
+    ])
     (λ t m. later (on-sighted day doc seconds docs m))
-  where
-    go : dayOf s ≡ day → (In doc (docsOn day seconds docs) → Sighted day doc seconds docs) → (doc ≡ d) ⊎ In doc (docsOn day seconds docs)
-        → Sighted day doc (s ∷ seconds) (d ∷ docs)
-    go q rec (inl e) = record { j = 0; among = (omega arith, omega arith); day-is = q; doc-is = sym e }
-    go q rec (inr i) = later (rec i)
 
 pub sighted-on : (day doc : ℕ) (seconds docs : List ℕ) → Sighted day doc seconds docs → In doc (docsOn day seconds docs)
 unfolding docsOn
