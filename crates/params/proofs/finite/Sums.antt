@@ -1,5 +1,5 @@
 -- A sum is finite only if all that it is of are. Assumes nothing.
-use mathlib.Core.Path.{_≡_, refl, sym, ap, _∙_, subst}
+use mathlib.Core.Path.{_≡_, refl, sym, ap, _∙_}
 use mathlib.Core.Bool.{Bool, true, false, false≢true, Bool·beq, cond}
 use mathlib.Core.List.{List}
 use Prim.Native.Nat.{ℕ, _+_, _*_, _≤_, _<_}
@@ -45,19 +45,17 @@ pub adding-more : (sums₀ components sums : List Float) (k : ℕ) → k < 32 �
 adding-more sums₀ components sums k more size a = record {
   within = omega arith;
   long = length-set sums k sum ∙ a .long;
-  done = λ c h. go c h (decLt c k);
+  done = λ c h. elim (decLt c k) [
+    | yes t ↦ getD-set-other sums k c sum nan (λ e. absurd (omega arith)) ∙ a .done c t
+    | no t ↦
+        let e : c ≡ k = omega arith in
+        rw e (getD-set-same sums k sum nan (omega (arith, a .long, size)) ∙ ap (λ (x : Float). add binary32 x (getD components k nan)) (a .left k (omega arith)))
+  ];
   left = λ c h. getD-set-other sums k c sum nan (λ e. absurd (omega arith)) ∙ a .left c (omega arith);
 }
   where
     sum : Float
     sum = add binary32 (getD sums k nan) (getD components k nan)
-
-    go : (c : ℕ) → c < k + 1 → Dec (c < k) → getD (set sums k sum) c nan ≡ add binary32 (getD sums₀ c nan) (getD components c nan)
-    go c h (yes t) = getD-set-other sums k c sum nan (λ e. absurd (omega arith)) ∙ a .done c t
-    go c h (no t) =
-        let e : k ≡ c = omega arith in
-        subst (λ (x : ℕ). getD (set sums k sum) x nan ≡ add binary32 (getD sums₀ x nan) (getD components x nan)) e
-        (getD-set-same sums k sum nan (omega (arith, a .long, size)) ∙ ap (λ (x : Float). add binary32 x (getD components k nan)) (a .left k (omega arith)))
 
 -- ---- the sum of all
 
@@ -66,11 +64,12 @@ abbrev pub Told : List Float → Float → ℕ → Type 0
 Told v sum i = finite sum ≡ true → (k : ℕ) → k < i → finite (getD v k nan) ≡ true
 
 pub told-more : (v : List Float) (sum : Float) (i : ℕ) → Told v sum i → Told v (add binary32 sum (getD v i nan)) (i + 1)
-told-more v sum i told e k l = let both = both-finite binary32 sum (getD v i nan) e in go (both .0) (both .1) (decLt k i)
-  where
-    go : finite sum ≡ true → finite (getD v i nan) ≡ true → Dec (k < i) → finite (getD v k nan) ≡ true
-    go old new (yes t) = told old k t
-    go old new (no t) = let same : i ≡ k = omega arith in subst (λ (x : ℕ). finite (getD v x nan) ≡ true) same new
+told-more v sum i told e k l =
+    let both = both-finite binary32 sum (getD v i nan) e in
+    elim (decLt k i) [
+      | yes t ↦ told (both .0) k t
+      | no t ↦ let same : k ≡ i = omega arith in rw same (both .1)
+    ]
 
 -- ---- turns of 32 components
 
@@ -88,16 +87,13 @@ summed-more v sums sums′ j n all s long added = record {
   long = long ∙ s .long;
   tells = λ k h e i l.
       let both = both-finite binary32 _ _ (sym (ap finite (added k h)) ∙ e) in
-      go k h (both .0) (both .1) i l (decLt i j);
+      elim (decLt i j) [
+        | yes t ↦ s .tells k h (both .0) i t
+        | no t ↦
+            let same : i ≡ j = omega arith in
+            rw same (ap finite (sym (getD-take n (drop (j * 32) v) k nan (omega arith) ∙ getD-drop (j * 32) v k nan)) ∙ both .1)
+      ];
 }
-  where
-    go : (k : ℕ) → k < 32 → finite (getD sums k nan) ≡ true → finite (getD (take n (drop (j * 32) v)) k nan) ≡ true → (i : ℕ) → i < j + 1 → Dec (i < j)
-        → finite (getD v (i * 32 + k) nan) ≡ true
-    go k h old new i l (yes t) = s .tells k h old i t
-    go k h old new i l (no t) =
-        let e : j ≡ i = omega arith in
-        subst (λ (x : ℕ). finite (getD v (x * 32 + k) nan) ≡ true) e
-        (ap finite (sym (getD-take n (drop (j * 32) v) k nan (omega arith) ∙ getD-drop (j * 32) v k nan)) ∙ new)
 
 -- all turns, and what stands past them
 pub summed-all : (v sums : List Float) (turns j n : ℕ) → turns ≤ j → length v ≤ turns * 32 + n → Summed v sums j → every finite sums ≡ true
