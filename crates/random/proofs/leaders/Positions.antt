@@ -1,6 +1,6 @@
 -- The numbers 0 up to n, and how many positions are drawn. Assumes nothing.
 use mathlib.Core.Path.{_≡_, refl, sym, ap}
-use mathlib.Core.Logic.{_⊎_, inl, inr}
+use mathlib.Core.Logic.{inl, inr}
 use mathlib.Core.List.{List, [], _∷_, _++_}
 use mathlib.Core.List.{List·Memᴰ as In, List·Memᴰ·head as here, List·Memᴰ·tail as there, List·Memᴰ·not-nil as in-nil, List·Memᴰ·append-cases as in-cases, List·Memᴰ·eq-of-singleton as in-one, Memᴰ·append-left as in-left, Memᴰ·append-right as in-right}
 use Prim.Native.Nat.{ℕ, zero, suc, _%_, _<_}
@@ -23,20 +23,13 @@ in-upTo (suc n) x h = elim (decLt x n) [
 pub upTo-below : (n : ℕ) → Below n (upTo n)
 unfolding upTo
 upTo-below zero x m = absurd (in-nil m)
-upTo-below (suc n) x m = go (upTo-below n x) (in-cases (upTo n) m)
-  where
-    go : (In x (upTo n) → x < n) → In x (upTo n) ⊎ In x (n ∷ []) → x < suc n
-    go rec (inl i) = let r = rec i in omega arith
-    go rec (inr i) = let e = in-one i in omega arith
+upTo-below (suc n) x m = elim (in-cases (upTo n) m) [ inl i ↦ let r = upTo-below n x i in omega arith | inr i ↦ let e = in-one i in omega arith ]
 
 -- one more at the end, which was not there
 nodup-snoc : (l : List ℕ) (x : ℕ) → NoDup l → (In x l → ⊥) → NoDup (l ++ (x ∷ []))
 nodup-snoc [] x d f = ((λ m. in-nil m), tt)
-nodup-snoc (y ∷ l) x d f = ((λ m. go (in-cases l m)), nodup-snoc l x (d .1) (λ m. f (there m)))
-  where
-    go : In y l ⊎ In y (x ∷ []) → ⊥
-    go (inl i) = d .0 i
-    go (inr i) = f (here (sym (in-one i)))
+nodup-snoc (y ∷ l) x d f =
+    ((λ m. elim (in-cases l m) [ inl i ↦ d .0 i | inr i ↦ f (here (sym (in-one i))) ]), nodup-snoc l x (d .1) (λ m. f (there m)))
 
 pub nodup-upTo : (n : ℕ) → NoDup (upTo n)
 unfolding upTo
