@@ -10,7 +10,7 @@ use lib.Dec.{eqb, ltb}
 use lib.ListN.{length, getD, drop-of-length-le}
 use lib.Seq.{drop-cons}
 use borrow.Author.Tests.{ltb-true, ltb-false, eqb-true, eqb-false, not-true, not-false}
-use Rattle.basics.specs.Choice.{pick, pick-true, pick-false}
+use Rattle.basics.specs.Choice.{pick, pick-ind, pick-true, pick-false}
 use Rattle.basics.proofs.Tests.{both-false}
 use Rattle.lists.specs.declared.chains.Cursor.{Cursor}
 use Rattle.lists.specs.Inside.Chains.{otherEndAt, nextLink, linkedEnds}
@@ -54,12 +54,8 @@ module _ (n : ℕ) (row bridges links : List ℕ) (at : Cursor) where
 
   -- the links on the way have a place
   pub next-linked : at .link ≤ length links → nextCursor n row links at .link ≤ length links
-  unfolding nextCursor pick
-  next-linked p = go (ltb (at .index) (length row))
-    where
-      go : (b : Bool) → pick b (cursorAt (at .index + 1) (at .link)) (cursorAt (at .index) (nextLink n links (at .link))) .link ≤ length links
-      go true = p
-      go false = next-place n links (at .link)
+  unfolding nextCursor
+  next-linked p = pick-ind (λ (k : Cursor). k .link ≤ length links) (ltb (at .index) (length row)) (λ _. p) (λ _. next-place n links (at .link))
 
   pub list-less : hasEntry row at ≡ true → at .link ≤ length links
       → length (listFrom n row bridges links (nextCursor n row links at)) < length (listFrom n row bridges links at)

@@ -59,11 +59,7 @@ path-same n links links′ link (s ∷ ss) l f p = (
 
 -- slots rise along a path
 path-rises : (n : ℕ) (links : List ℕ) (s s′ : ℕ) → nextLink n links (suc s) ≡ suc s′ → s < s′
-path-rises n links s s′ e = go (next-cases n links (suc s))
-  where
-    go : (nextLink n links (suc s) ≡ 0) ⊎ ((suc s < nextLink n links (suc s)) × (2 * n + nextLink n links (suc s) ≤ length links)) → s < s′
-    go (inl z) = absurd (omega arith)
-    go (inr h) = omega arith
+path-rises n links s s′ e = elim (next-cases n links (suc s)) [ inl z ↦ absurd (omega arith) | inr h ↦ omega arith ]
 
 path-last : (n : ℕ) (links : List ℕ) (u link s : ℕ) (ss : List ℕ) → Path n links link (s ∷ ss) → lastLink (suc s) ss ≡ suc u → s ≤ u
 path-last n links u link s [] p e = omega arith
@@ -166,11 +162,7 @@ module _ (n m t v : ℕ) (slots : ℕ → List ℕ) (links : List ℕ) (c : Chai
       new-slot i s = pick-ind (λ (l : List ℕ). In s l → (s ≡ t) × (i ≡ v)) (eqb i v) (λ e k. (in-one k, eqb→eq i v e)) (λ _ k. absurd (in-nil k))
 
       small′ : (i s : ℕ) → In s (more i) → s < suc t
-      small′ i s k = go (in-cases (slots i) k)
-        where
-          go : In s (slots i) ⊎ In s (pick (eqb i v) (t ∷ []) []) → s < suc t
-          go (inl a) = omega (arith, c .small i s a)
-          go (inr b) = omega (arith, new-slot i s b .0)
+      small′ i s k = elim (in-cases (slots i) k) [ inl a ↦ omega (arith, c .small i s a) | inr b ↦ omega (arith, new-slot i s b .0) ]
 
       owned′ : (i k s : ℕ) → In s (more i) → In s (more k) → i ≡ k
       owned′ i k s a b = go (in-cases (slots i) a) (in-cases (slots k) b)

@@ -29,11 +29,7 @@ next-cases n links link =
     (λ t. inr (ltb→lt link next (both-left (ltb link next) (leb (2 * n + next) (length links)) t), leb→le (2 * n + next) (length links) (both-right (ltb link next) (leb (2 * n + next) (length links)) t))) (λ _. inl refl)
 
 pub next-place : (n : ℕ) (links : List ℕ) (link : ℕ) → nextLink n links link ≤ length links
-next-place n links link = go (next-cases n links link)
-  where
-    go : (nextLink n links link ≡ 0) ⊎ ((link < nextLink n links link) × (2 * n + nextLink n links link ≤ length links)) → nextLink n links link ≤ length links
-    go (inl e) = omega arith
-    go (inr h) = omega arith
+next-place n links link = elim (next-cases n links link) [ inl e ↦ omega arith | inr h ↦ omega arith ]
 
 -- ---- the equations
 
@@ -51,13 +47,11 @@ module _ (n : ℕ) (bridges links : List ℕ) where
   ends-fuel zero b (suc s) p h k = absurd (omega arith)
   ends-fuel (suc a) b zero p h k = sym (ends-none b)
   ends-fuel (suc a) zero (suc s) p h k = absurd (omega arith)
-  ends-fuel (suc a) (suc b) (suc s) p h k = ap (λ (l : List ℕ). otherEndAt bridges (suc s) ∷ l) (go (nextLink n links (suc s)) (next-cases n links (suc s)) (ends-fuel a b))
-    where
-      go : (x : ℕ) → (x ≡ 0) ⊎ ((suc s < x) × (2 * n + x ≤ length links))
-          → ((link : ℕ) → link ≤ length links → length links < a + link → length links < b + link → endsFrom n bridges links a link ≡ endsFrom n bridges links b link)
-          → endsFrom n bridges links a x ≡ endsFrom n bridges links b x
-      go x (inl e) rec = rw e (ends-none a ∙ sym (ends-none b))
-      go x (inr q) rec = rec x (omega arith) (omega arith) (omega arith)
+  ends-fuel (suc a) (suc b) (suc s) p h k =
+      ap (λ (l : List ℕ). otherEndAt bridges (suc s) ∷ l) (elim (next-cases n links (suc s)) [
+        | inl e ↦ rw e (ends-none a ∙ sym (ends-none b))
+        | inr q ↦ ends-fuel a b (nextLink n links (suc s)) (omega arith) (omega arith) (omega arith)
+      ])
 
   pub linked-none : linkedEnds n bridges links 0 ≡ []
   unfolding linkedEnds
@@ -66,12 +60,11 @@ module _ (n : ℕ) (bridges links : List ℕ) where
   pub linked-more : (s : ℕ) → suc s ≤ length links
       → linkedEnds n bridges links (suc s) ≡ otherEndAt bridges (suc s) ∷ linkedEnds n bridges links (nextLink n links (suc s))
   unfolding linkedEnds endsFrom
-  linked-more s p = ap (λ (l : List ℕ). otherEndAt bridges (suc s) ∷ l) (go (nextLink n links (suc s)) (next-cases n links (suc s)))
-    where
-      go : (x : ℕ) → (x ≡ 0) ⊎ ((suc s < x) × (2 * n + x ≤ length links))
-          → endsFrom n bridges links (length links) x ≡ endsFrom n bridges links (suc (length links)) x
-      go x (inl e) = rw e (ends-none (length links) ∙ sym (ends-none (suc (length links))))
-      go x (inr q) = ends-fuel (length links) (suc (length links)) x (omega arith) (omega arith) (omega arith)
+  linked-more s p =
+      ap (λ (l : List ℕ). otherEndAt bridges (suc s) ∷ l) (elim (next-cases n links (suc s)) [
+        | inl e ↦ rw e (ends-none (length links) ∙ sym (ends-none (suc (length links))))
+        | inr q ↦ ends-fuel (length links) (suc (length links)) (nextLink n links (suc s)) (omega arith) (omega arith) (omega arith)
+      ])
 
   -- the same of a link that is not none
   pub linked-step : (link : ℕ) → (link ≡ 0 → ⊥) → link ≤ length links

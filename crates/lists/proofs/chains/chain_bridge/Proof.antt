@@ -24,9 +24,10 @@ returns-2 c =
 returns-3 : tie.Need-returns-3
 unfolding chainBridge
 returns-3 c =
-    let a = c .before .before .before .before .before .before .before .before .before .before .before .before .before .args in
+    let at-first = c .before .before .before .before .before .before .before .before .before in
+    let a = at-first .before .before .before .before .args in
     c .before .before .append-slot2 .ensures
-    ∙ ap (appendSlot (a .n) (a .far .0) (2 * a .j + 1)) (c .before .before .before .before .before .before .before .before .before .append-slot .ensures)
+    ∙ ap (appendSlot (a .n) (a .far .0) (2 * a .j + 1)) (at-first .append-slot .ensures)
     ∙ sym (pick-false _ _ (ne-eqb (a .near .0) (a .far .0) (c .before .before .before .before .if2 .left)))
     ∙ sym (pick-true _ _ (lt-ltb (a .j) (2 ^ 30) (omega arith)))
 
