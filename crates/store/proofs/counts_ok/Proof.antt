@@ -19,10 +19,8 @@ use Rattle.store.proofs.counts_ok.Tie as tie
 -- the first word from `at` on, as that of a piece
 count-test : (D at : ℕ) (l : List ℕ) → leb (getD l at 0) D ≡ countOk D (take (rowSize D) (drop at l))
 count-test D at l =
+    let same : at + 0 ≡ at = omega arith in
     ap (λ (k : ℕ). leb k D) (sym (getD-take (rowSize D) (drop at l) 0 0 (omega arith) ∙ getD-drop at l 0 0 ∙ ap (λ (k : ℕ). getD l k 0) same))
-  where
-    same : at + 0 ≡ at
-    same = omega arith
 
 abbrev Inv-loop : tie.InvT-loop
 Inv-loop words from degree n size ok₀ at₀ i₀ ok at i =

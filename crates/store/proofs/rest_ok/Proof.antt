@@ -29,8 +29,7 @@ bridges-ok-requires c κs =
     let at-word-at4 = c .before .before .before .before .before in
     let at-word-at3 = at-word-at4 .before in
     let at-word-at2 = at-word-at3 .before in
-    let back = at-word-at2 .before .before .before .before in
-    let s = back in
+    let s = at-word-at2 .before .before .before .before in
     let capacity = at-word-at2 .word-at2 in
     let degree = at-word-at3 .word-at3 in
     let bridges = at-word-at4 .word-at4 in
@@ -41,8 +40,7 @@ slice-aggregate-all-finite c =
     let at-floats-size = c .before .before .before .before .before in
     let at-word-at5 = at-floats-size .before in
     let at-word-at = at-word-at5 .before .before .before .before in
-    let back = at-word-at .before .before .before in
-    let s = back in
+    let s = at-word-at .before .before .before in
     let n = at-word-at .word-at in
     let dimension = at-word-at5 .word-at5 in
     let end = at-floats-size .floats-size in
@@ -61,19 +59,9 @@ returns c =
     let at-word-at3 = at-word-at4 .before in
     let at-word-at2 = at-word-at3 .before in
     let at-word-at = at-word-at2 .before in
-    rw (
-      c .all-finite .ensures,
-      at-bridges-ok .bridges-ok .ensures,
-      at-rows-ok .rows-ok .ensures,
-      at-bridges-at .bridges-at .ensures,
-      at-rows-at .rows-at .ensures,
-      at-floats-size .floats-size .ensures,
-      at-word-at5 .word-at5 .ensures,
-      at-word-at4 .word-at4 .ensures,
-      at-word-at3 .word-at3 .ensures,
-      at-word-at2 .word-at2 .ensures,
-      at-word-at .word-at .ensures,
-    )
+    rw (c .all-finite .ensures, at-bridges-ok .bridges-ok .ensures, at-rows-ok .rows-ok .ensures, at-bridges-at .bridges-at .ensures, at-rows-at .rows-at .ensures)
+    (rw (at-floats-size .floats-size .ensures, at-word-at5 .word-at5 .ensures, at-word-at4 .word-at4 .ensures, at-word-at3 .word-at3 .ensures)
+    (rw (at-word-at2 .word-at2 .ensures, at-word-at .word-at .ensures)))
 
 pub rest-ok-spec : {M : Type 1} → statement M
 rest-ok-spec =
