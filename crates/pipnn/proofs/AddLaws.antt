@@ -64,11 +64,8 @@ module _ (at k : ℕ) (f x : List Float) (fits : at + k ≤ length f) (full : le
 
   pub put-again : (y : List Float) → putMid at k (putMid at k f x) y ≡ putMid at k f y
   put-again y =
-      rw (
-        take-at (take at f) (x ++ drop k (drop at f)) at front,
-        drop-at (take at f) (x ++ drop k (drop at f)) at front,
-        drop-at x (drop k (drop at f)) k full,
-      )
+      let rest = drop k (drop at f) in
+      rw (take-at (take at f) (x ++ rest) at front, drop-at (take at f) (x ++ rest) at front, drop-at x rest k full)
 
 -- The vector copied to its place, then that place scaled: x is the part as copied, y as scaled.
 pub scaled-put : (f v : List Float) (at k : ℕ) (x y : List Float) → k ≡ length v → at + length v ≤ length f

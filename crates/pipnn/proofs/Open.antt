@@ -8,7 +8,6 @@ use native.Mathlib.Omega.{arith}
 use lib.ListN.{length, getD, take, drop, set, replicate, length-append, length-set, length-drop, length-replicate, getD-replicate, replicate-append-replicate, List·getD-append}
 use lib.Seq.{drop-drop, getD-take, getD-drop, getD-append-add, length-take-le}
 use lib.Ieee.{Float, binary32}
-use Rattle.basics.specs.Sum.{+zero}
 use Rattle.params.specs.declared.PipnnParams.{PipnnParams}
 use Rattle.store.specs.Layout.{word, headerSize, dimensionAt, nodesAt, degreeAt, capacityAt, docsAt, rowsAt, rowSize, rowAt, wordsSize, floatsSize}
 use Rattle.store.specs.View.{emptyHeader, View, view}
@@ -51,24 +50,8 @@ module _ (d : ℕ) (p : PipnnParams) (c : ℕ) (w : List ℕ) (f : List Float) (
   new-open h = record {
     is = new-view d p c w f h;
     blank = new-blank;
-    words =
-        omega (
-          arith,
-          t .words,
-          sixteen-words d p c,
-          length-append (emptyHeader d p c) (replicate (size - headerSize) 0 ++ drop size w),
-          length-append (replicate (size - headerSize) (zero)) (drop size w),
-          length-replicate (size - headerSize) (zero),
-          length-drop size w,
-        );
-    floats =
-        omega (
-          arith,
-          t .floats,
-          length-append (replicate (floatsSize c d) +zero) (drop (floatsSize c d) f),
-          length-replicate (floatsSize c d) +zero,
-          length-drop (floatsSize c d) f,
-        );
+    words = simp (length-append, length-replicate, length-drop) (omega (arith, t .words, sixteen-words d p c));
+    floats = simp (length-append, length-replicate, length-drop) (omega (arith, t .floats));
   }
 
 module _ (d : ℕ) (p : PipnnParams) (c : ℕ) (docs : List ℕ) (vectors : List (List Float)) (w : List ℕ) (f : List Float) (doc : ℕ) (v : List Float)
@@ -133,15 +116,5 @@ module _ (d : ℕ) (p : PipnnParams) (c : ℕ) (docs : List ℕ) (vectors : List
         is = add-view w f doc v t ∙ (λ i. grown (o .is i) doc (scaledOf binary32 v) (row-empty i)) ∙ grown-open;
         blank = add-blank;
         words = omega (arith, o .words, length-set (set w (docsAt + n) doc) nodesAt (n + 1), length-set w (docsAt + n) doc);
-        floats =
-            omega (
-              arith,
-              o .floats,
-              t .vector,
-              length-append (take at f) (scaledOf binary32 v ++ drop (at + length v) f),
-              length-append (scaledOf binary32 v) (drop (at + length v) f),
-              length-take-le at f (omega (arith, t .vector)),
-              length-scaled binary32 v,
-              length-drop (at + length v) f,
-            );
+        floats = simp (length-append, length-drop, length-scaled) (omega (arith, o .floats, t .vector, length-take-le at f (omega (arith, t .vector))));
       }

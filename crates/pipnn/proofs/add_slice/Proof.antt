@@ -25,22 +25,27 @@ Taken s = AddTaken (s .args .words .now) (s .args .floats .now) (s .args .vector
 taken : (c : tie.Else1) → Taken (c .before .before .before .before .before .before .before)
 taken c = add-taken _ _ _ (zero c)
 
+-- the checks have passed, from where the vector is written on
+abbrev accepted : tie.After-put-vector → tie.Else1
+accepted c = c .before .before .before .before .before .before .before
+
 returns : tie.Need-returns
 unfolding addSpec
 returns c = left-alone (refusal (c .before .before .before .before .before .before .before)) _ _ _ _ _ (c .before .add-refusal .ensures) (c .if1 .taken)
 
 put-vector-requires : tie.Need-put-vector-requires
 put-vector-requires c κs =
-    rw (c .before .floats-size .ensures, c .before .before .word-at2 .ensures, c .before .before .before .before .word-at .ensures) (taken (c .before .before .before .before .before .before) .vector)
+    rw (c .before .floats-size .ensures, c .before .before .word-at2 .ensures, c .before .before .before .before .word-at .ensures)
+    (taken (c .before .before .before .before .before .before) .vector)
 
 add-words : tie.Need-add-words
 add-words c =
-    let t = taken (c .before .before .before .before .before .before .before .before .before .before .before .before .before) in
+    let t = taken (accepted (c .before .before .before .before .before .before)) in
     omega (arith, c .before .before .before .before .before .before .before .before .before .before .before .word-at .ensures, t .free, t .stores .header .capacity .most)
 
 slice-write-words : tie.Need-slice-write-words
 slice-write-words c =
-    let t = taken (c .before .before .before .before .before .before .before .before .before .before .before .before .before) in
+    let t = taken (accepted (c .before .before .before .before .before .before)) in
     omega (arith, c .before .before .put-doc .kept .0, t .stores .long)
 
 returns-2 : tie.Need-returns-2
@@ -51,9 +56,8 @@ returns-2 c =
     let at-floats-size = at-put-vector .before .before in
     let at-word-at2 = at-floats-size .before in
     let at-word-at = at-word-at2 .before .before in
-    let back = at-word-at .before .before in
-    let back-2 = back .before .before .before .before .before .before .before in
-    let s = back-2 in
+    let checked = at-word-at .before .before in
+    let s = checked .before .before .before .before .before .before .before in
     let n = at-word-at .word-at in
     let d = at-word-at2 .word-at2 in
     let at = at-floats-size .floats-size in
@@ -62,7 +66,7 @@ returns-2 c =
     let words : set (doc .last .0) nodesAt (n .result + 1) ≡ addedWords (s .args .words .now) (s .args .doc .0) = rw (doc .ensures, n .ensures) in
     let floats : vector .last .0 ≡ addedFloats (s .args .words .now) (s .args .floats .now) (s .args .vector .now) =
     rw (vector .ensures, at .ensures, n .ensures, d .ensures) in
-    _∙_ {A = Answer} (λ i. (0, words i, floats i)) (changed (refusal s) _ _ _ _ (zero (back)))
+    _∙_ {A = Answer} (λ i. (0, words i, floats i)) (changed (refusal s) _ _ _ _ (zero checked))
 
 pub add-slice-spec : {M : Type 1} → statement M
 add-slice-spec =

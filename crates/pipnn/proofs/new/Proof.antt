@@ -1,7 +1,8 @@
 -- `pipnn::new` meets its contract: a refusal has written nothing; accepted, the sizes lie within both stores, and the header, then zeros, take their place. Assumes nothing.
 use mathlib.Core.Path.{_≡_, sym, _∙_}
-use Prim.Native.Nat.{ℕ}
+use Prim.Native.Nat.{ℕ, _≤_}
 use native.Mathlib.Omega.{arith}
+use lib.ListN.{length}
 use lib.Seq.{length-take-le}
 use borrow.Author.Needs.{needs}
 use Rattle.basics.specs.Refusals.{firstRefusal}
@@ -28,19 +29,9 @@ returns : tie.Need-returns
 unfolding newSpec
 returns c = left-alone (refusal (c .before .before .before .before .before .before)) _ _ _ _ _ (c .before .new-refusal .ensures) (c .if1 .taken)
 
-slice-relend-prefix-clear-floats : tie.Need-slice-relend-prefix-clear-floats
-slice-relend-prefix-clear-floats c =
-    let at-floats-size = c .before .before .before .before .before .before .before .before in
-    let back = at-floats-size .before .before .before in
-    let t = taken (back) in
-    rw (at-floats-size .floats-size .ensures) (t .floats)
-
-slice-aggregate-clear-floats : tie.Need-slice-aggregate-clear-floats
-slice-aggregate-clear-floats c =
-    let at-floats-size = c .before .before .before .before .before .before .before .before .before in
-    let back = at-floats-size .before .before .before in
-    let t = taken (back) in
-    sym (length-take-le _ _ (rw (at-floats-size .floats-size .ensures) (t .floats)))
+-- the floats' size lies within the store
+room : (c : tie.After-floats-size) → c .floats-size .result ≤ length (c .before .before .before .before .before .before .before .before .before .args .floats .now)
+room c = rw (c .floats-size .ensures) (taken (c .before .before .before) .floats)
 
 returns-2 : tie.Need-returns-2
 unfolding newSpec
@@ -50,10 +41,9 @@ returns-2 c =
     let at-put-header = at-clear-words .before .before .before .before in
     let at-floats-size = at-put-header .before .before in
     let at-words-size = at-floats-size .before in
-    let back = at-words-size .before .before in
-    let back-2 = back .before .before .before .before .before .before in
-    let s = back-2 in
-    let t = taken (back) in
+    let checked = at-words-size .before .before in
+    let s = checked .before .before .before .before .before .before in
+    let t = taken checked in
     let put = at-put-header .put-header in
     let words-size = at-words-size .words-size in
     let floats-size = at-floats-size .floats-size in
@@ -62,8 +52,8 @@ returns-2 c =
     let made-words = new-words-made (s .args .dimension) (s .args .params) (s .args .capacity) (s .args .words .now) (s .args .floats .now)
     (words-size .result) (put .last .0) (words .last .0) (words-size .ensures) (rw (words-size .ensures) (t .words)) (put .ensures) (words .ensures) in
     let made-floats = new-floats-made (s .args .dimension) (s .args .params) (s .args .capacity) (s .args .words .now) (s .args .floats .now)
-    (floats-size .result) (floats .last .0) (floats-size .ensures) (rw (floats-size .ensures) (t .floats)) (floats .ensures) in
-    _∙_ {A = Answer} (λ i. (0, made-words i, made-floats i)) (changed (refusal s) _ _ _ _ (zero (back)))
+    (floats-size .result) (floats .last .0) (floats-size .ensures) (room at-floats-size) (floats .ensures) in
+    _∙_ {A = Answer} (λ i. (0, made-words i, made-floats i)) (changed (refusal s) _ _ _ _ (zero checked))
 
 pub new-spec : {M : Type 1} → statement M
 new-spec =
@@ -76,6 +66,7 @@ new-spec =
     -- clear_words, part-clear-words-start
     (λ c. search needs) (λ c. search needs) (λ c. let t = taken (c .before .before .before .before .before .before .before) in omega arith)
     -- clear_words
-    (λ c κs. search needs) slice-relend-prefix-clear-floats slice-aggregate-clear-floats
+    (λ c κs. search needs) (λ c. room (c .before .before .before .before .before .before .before .before))
+    (λ c. sym (length-take-le _ _ (room (c .before .before .before .before .before .before .before .before .before))))
     -- clear_floats, lengths stay
     (λ c κs. search needs) (λ c. search needs) (λ c. search needs) returns-2)
