@@ -108,41 +108,20 @@ exact n q k e =
 pub root-law : (b q k : ℕ) → b < 0x7f80_0000 → q * 2 ^ k ≡ patternUnits b * 2 ^ 23 → 2 ^ 23 ≤ q → q < 2 ^ 24 → k ≤ 276
     → ofBits binary32 (((k + 1) / 2 + 51) * 2 ^ 23 + nearestRoot (q * 2 ^ (24 - k % 2))) ≡ rootOf binary32 (ofBits binary32 b)
 root-law b q k h e l u p =
+    let s : Float = ofBits binary32 b in
+    let n : ℕ = patternUnits b in
+    let N : ℕ = q * 2 ^ (24 - k % 2) in
+    let m : ℕ = nearestRoot N in
+    let x : ℕ = (k + 1) / 2 + 51 in
+    let r : Float = ofBits binary32 (x * 2 ^ 23 + m) in
+    let some : 0 < n = omega (arith, pow-pos k, mul-le-mul-right (2 ^ k) l) in
+    let digits : (2 ^ 46 ≤ N) × (N ≤ (2 ^ 24 - 1) * 2 ^ 24) = N-bounds q (k % 2) l u (omega arith) in
+    let words : ((2 * m - 1) * (2 * m - 1) < 4 * N) × (4 * N < (2 * m + 1) * (2 * m + 1)) = nearest N (lt-of-lt-of-le (pow-pos 46) (digits .0)) in
+    let w = m-bounds N (digits .0) (digits .1) in
+    let value : HasValue r false (m * 2 ^ x) (2 ^ 149) = rw (written x m (w .0) (w .1) (omega arith)) (odd-sign 24 false m x 149) in
+    let in-units : IsRoot binary32 n (2 ^ 149) r
+    = from-units binary32 n x N m r (exact n q k e) (digits .0) (lt-of-le-of-lt (digits .1) (omega arith)) (words .0) (words .1) value
+    (ofBits-fits binary32 (x * 2 ^ 23 + m)) in
     only-root binary32 (num s) (den s) r (rootOf binary32 s)
     (rescaled binary32 n (2 ^ 149) (num s) (den s) r (pow-pos 149) (den-pos s) (sym (value→cross s n (2 ^ 149) (pattern-value b h))) in-units)
     (roots binary32 .of-positive s (ofBits-fits binary32 b) (positive-of-value s n (2 ^ 149) (pattern-value b h) some))
-  where
-    s : Float
-    s = ofBits binary32 b
-
-    n : ℕ
-    n = patternUnits b
-
-    N : ℕ
-    N = q * 2 ^ (24 - k % 2)
-
-    m : ℕ
-    m = nearestRoot N
-
-    x : ℕ
-    x = (k + 1) / 2 + 51
-
-    r : Float
-    r = ofBits binary32 (x * 2 ^ 23 + m)
-
-    some : 0 < n
-    some = omega (arith, pow-pos k, mul-le-mul-right (2 ^ k) l)
-
-    digits : (2 ^ 46 ≤ N) × (N ≤ (2 ^ 24 - 1) * 2 ^ 24)
-    digits = N-bounds q (k % 2) l u (omega arith)
-
-    words : ((2 * m - 1) * (2 * m - 1) < 4 * N) × (4 * N < (2 * m + 1) * (2 * m + 1))
-    words = nearest N (lt-of-lt-of-le (pow-pos 46) (digits .0))
-
-    value : HasValue r false (m * 2 ^ x) (2 ^ 149)
-    value =
-        let w = m-bounds N (digits .0) (digits .1) in
-        subst (λ (y : Float). HasValue y false (m * 2 ^ x) (2 ^ 149)) (sym (written x m (w .0) (w .1) (omega arith))) (odd-sign 24 false m x 149)
-
-    in-units : IsRoot binary32 n (2 ^ 149) r
-    in-units = from-units binary32 n x N m r (exact n q k e) (digits .0) (lt-of-le-of-lt (digits .1) (omega arith)) (words .0) (words .1) value (ofBits-fits binary32 (x * 2 ^ 23 + m))
