@@ -17,7 +17,8 @@ use Rattle.basics.specs.Nodes.{has}
 use Rattle.basics.proofs.Loops.{front-set, front-length}
 use Rattle.basics.proofs.Tests.{both-false}
 use Rattle.basics.proofs.Counting.{at-most}
-use Rattle.sorting.specs.Sorting.{sortBy, both}
+use Rattle.sorting.specs.Sorting.{sortBy}
+use Rattle.sorting.specs.Inside.Pairs.{both}
 use Rattle.sorting.proofs.Laws.{length-sort, first-in}
 use Rattle.sorting.proofs.Pairs.{none-kept}
 use Rattle.beam_state.specs.Inside.Tournament.{emptyRank, Tournament}

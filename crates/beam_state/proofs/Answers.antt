@@ -6,7 +6,8 @@ use native.Mathlib.Omega.{arith}
 use lib.ListN.{length, take, drop, length-map, length-reverse}
 use lib.Seq.{drop-append-add, drop-drop}
 use lib.Ieee.{Float}
-use Rattle.sorting.specs.Sorting.{firstBy, pairs, keyIn, idIn, both, idsOf, keptPairs, keptKeys, keptIds}
+use Rattle.sorting.specs.Sorting.{firstBy}
+use Rattle.sorting.specs.Inside.Pairs.{pairs, keyIn, idIn, both, idsOf, keptPairs, keptKeys, keptIds}
 use Rattle.sorting.proofs.Laws.{length-first, first-map}
 use Rattle.sorting.proofs.Pairs.{kept-are, pairs-put}
 use Rattle.def_walk.specs.KeepClosest.{keyAt}

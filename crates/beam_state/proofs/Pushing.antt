@@ -15,7 +15,7 @@ use Rattle.basics.specs.Choice.{pick-ind}
 use Rattle.basics.specs.Nodes.{NoDup, Below}
 use Rattle.basics.proofs.Counting.{at-most}
 use Rattle.distance.specs.Order.{keyOf}
-use Rattle.sorting.specs.Sorting.{keptPairs, keptKeys, keptIds}
+use Rattle.sorting.specs.Inside.Pairs.{keptPairs, keptKeys, keptIds}
 use Rattle.def_walk.specs.Walk.{State}
 use Rattle.def_walk.specs.KeepClosest.{keyAt, sooner, replaceWorst, keepClosest, heldOf, cutoffOf}
 use Rattle.def_walk.specs.Beam.{toFrontier}

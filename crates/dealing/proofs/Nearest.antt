@@ -10,7 +10,8 @@ use lib.Ieee.{Float}
 use Rattle.distance.specs.Vectors.{rank}
 use Rattle.random.specs.Leaders.{upTo}
 use Rattle.random.proofs.leaders.Draws.{length-upTo}
-use Rattle.sorting.specs.Sorting.{firstBy, pairs, keyIn, idIn, both, keptPairs, keptKeys, keptIds}
+use Rattle.sorting.specs.Sorting.{firstBy}
+use Rattle.sorting.specs.Inside.Pairs.{pairs, keyIn, idIn, both, keptPairs, keptKeys, keptIds}
 use Rattle.sorting.proofs.Laws.{length-first, first-map}
 use Rattle.sorting.proofs.Pairs.{none-kept, kept-are, pairs-put, front-ids}
 use Rattle.def_graph.specs.Partition.{nearestLeaders}

@@ -18,7 +18,7 @@ use Rattle.basics.specs.Choice.{pick, pick-true, pick-false}
 use Rattle.basics.specs.Nodes.{Below}
 use Rattle.basics.proofs.Tests.{both-true, one-false}
 use Rattle.basics.proofs.Members.{in-getD}
-use Rattle.sorting.specs.Sorting.{pairs}
+use Rattle.sorting.specs.Inside.Pairs.{pairs}
 use Rattle.def_graph.specs.Leaf.{Cell, nodesIn, putCell, cellsFrom}
 use Rattle.def_graph.proofs.leaf.Cells.{hashesIn, cells-in}
 use Rattle.hashprune.proofs.Lists.{length-inserted}

@@ -17,7 +17,8 @@ use Rattle.basics.specs.Nodes.{Below}
 use Rattle.basics.proofs.Pieces.{nth-piece}
 use Rattle.basics.proofs.Members.{in-getD}
 use Rattle.distance.specs.Order.{keyOf}
-use Rattle.sorting.specs.Sorting.{sortBy, keyIn, idIn}
+use Rattle.sorting.specs.Sorting.{sortBy}
+use Rattle.sorting.specs.Inside.Pairs.{keyIn, idIn}
 use Rattle.sorting.proofs.Laws.{sort-map, take-map}
 use Rattle.distance.specs.Vectors.{vectorsIn, vectorOf, between, rank}
 use Rattle.def_graph.specs.Simhash.{residual}

@@ -5,7 +5,8 @@ use Prim.Native.Nat.{ℕ, _+_, _≤_, _<_, min}
 use native.Mathlib.Omega.{arith}
 use lib.ListN.{length, getD, set, take, drop, length-take, length-map, length-set, List·getD-map, drop-of-length-le}
 use lib.Seq.{take-all, take-at, take-take, take-append-add, take-append-le, drop-at}
-use Rattle.sorting.specs.Sorting.{sortBy, pairs, keyIn, idIn, keysOf, idsOf, sortedPairs, sortedKeys, sortedIds}
+use Rattle.sorting.specs.Sorting.{sortBy}
+use Rattle.sorting.specs.Inside.Pairs.{pairs, keyIn, idIn, keysOf, idsOf, sortedPairs, sortedKeys, sortedIds}
 use Rattle.sorting.proofs.Laws.{length-sort, take-map}
 use Rattle.sorting.proofs.Pairs.{length-pairs, length-front, pairs-append, pairs-of, pairs-put}
 use Rattle.words.proofs.slices.Laws.{copied, copied-more}

@@ -20,7 +20,7 @@ ghost use lib.ListN.{length, getD, set, take, drop};
 ghost use Rattle.distance.specs.Order.{keyOf};
 ghost use Rattle.distance.specs.Distance.{distanceOf};
 ghost use Rattle.distance.specs.Vectors.{vectorsIn, vectorOf};
-ghost use Rattle.sorting.specs.Sorting.{pairs, keysOf, idsOf, sortedKeys, sortedIds};
+ghost use Rattle.sorting.specs.Inside.Pairs.{pairs, keysOf, idsOf, sortedKeys, sortedIds};
 ghost use Rattle.def_graph.specs.Leaf.{putCell, dedup};
 ghost use Rattle.store.specs.View.{rowBlock};
 ghost use Rattle.hashprune.specs.Inside.Steps.{cellIn, cellsIn, Placed, insertedAt, farAt, winner, ContestRoom, hashBy, cellsOf};

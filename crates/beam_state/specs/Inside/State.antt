@@ -7,7 +7,8 @@ use Prim.Native.Nat.{ℕ, _+_, _-_, _*_, _≤_, _<_, min}
 use lib.ListN.{length, take, drop}
 use lib.Ieee.{Float}
 use Rattle.basics.specs.Nodes.{NoDup, Below}
-use Rattle.sorting.specs.Sorting.{firstBy, pairs, keyIn, both}
+use Rattle.sorting.specs.Sorting.{firstBy}
+use Rattle.sorting.specs.Inside.Pairs.{pairs, keyIn, both}
 use Rattle.def_walk.specs.Walk.{State}
 use Rattle.def_walk.specs.KeepClosest.{keyAt, heldOf, cutoffOf}
 use Rattle.def_walk.specs.Beam.{toFrontier}

@@ -13,7 +13,8 @@ use lib.Ieee.{Float, binary32, nan}
 use Rattle.basics.specs.Nodes.{Below}
 use Rattle.simd.proofs.Lanes.{lane-at}
 use Rattle.distance.specs.Order.{keyOf}
-use Rattle.sorting.specs.Sorting.{firstBy, keyIn, idIn, both}
+use Rattle.sorting.specs.Sorting.{firstBy}
+use Rattle.sorting.specs.Inside.Pairs.{keyIn, idIn, both}
 use Rattle.sorting.proofs.Laws.{first-map, first-in}
 use Rattle.sorting.proofs.Pairs.{front-ids}
 use Rattle.distance.specs.Vectors.{between, rank}

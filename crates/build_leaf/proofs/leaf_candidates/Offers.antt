@@ -8,7 +8,8 @@ use lib.ListN.{length, getD, take, drop, set, length-take, length-map}
 use lib.Seq.{take-suc, take-all, length-take-le}
 use lib.Ieee.{Float}
 use Rattle.basics.proofs.Loops.{front-set, front-length}
-use Rattle.sorting.specs.Sorting.{firstBy, pairs, keyIn, both, keptPairs, keptKeys, keptIds, insertedPairs}
+use Rattle.sorting.specs.Sorting.{firstBy}
+use Rattle.sorting.specs.Inside.Pairs.{pairs, keyIn, both, keptPairs, keptKeys, keptIds, insertedPairs}
 use Rattle.sorting.proofs.Pairs.{kept-are, none-kept}
 use Rattle.build_leaf.specs.Inside.Candidates.{placesFrom, offer, Offered, NearestPlaces}
 

@@ -7,7 +7,8 @@ use lib.ListN.{length, getD, take, drop}
 use lib.Ieee.{Float, binary32, nan}
 use Rattle.simd.specs.Inside.Eight.{laneOf}
 use Rattle.distance.specs.Order.{keyOf}
-use Rattle.sorting.specs.Sorting.{firstBy, pairs, keyIn, both}
+use Rattle.sorting.specs.Sorting.{firstBy}
+use Rattle.sorting.specs.Inside.Pairs.{pairs, keyIn, both}
 use Rattle.distance.specs.Vectors.{between}
 use Rattle.def_graph.specs.Leaf.{candidatesAt}
 

@@ -14,7 +14,8 @@ use lib.Ieee.{Float, binary32, mul, lt}
 use Rattle.basics.specs.Nodes.{NoDup, Below}
 use Rattle.basics.proofs.Counting.{at-most, all-of, holds-all}
 use Rattle.basics.proofs.Members.{both-left, in-take, nodup-take}
-use Rattle.sorting.specs.Sorting.{sortBy, Rising}
+use Rattle.sorting.specs.Sorting.{sortBy}
+use Rattle.sorting.specs.Inside.Pairs.{Rising}
 use Rattle.sorting.proofs.Laws.{sort-in, in-sort, length-sort, sort-nodup, sort-rising, rising-take}
 use Rattle.def_walk.specs.Walk.{Reach, start}
 use Rattle.def_walk.proofs.walk.Laws.{Inv, Closed, Ended, walk-ended, walk-short, reach-in}

@@ -6,7 +6,7 @@ use mathlib.Core.List.{List·Memᴰ as In, List·Memᴰ·head as here, List·Mem
 use Prim.Native.Nat.{ℕ, zero, suc, _≤_}
 use native.Mathlib.Omega.{arith}
 use lib.ListN.{take}
-use Rattle.sorting.specs.Sorting.{From, Rising}
+use Rattle.sorting.specs.Inside.Pairs.{From, Rising}
 
 module _ {A : Type 0} (key : A → ℕ) where
   pub from-in : (k : ℕ) (ys : List A) → From key k ys → (y : A) → In y ys → k ≤ key y

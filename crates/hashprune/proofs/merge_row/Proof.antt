@@ -3,7 +3,7 @@ use mathlib.Core.Path.{_≡_, ap, _∙_}
 use mathlib.Core.List.{List}
 use Prim.Native.Nat.{ℕ, _-_}
 use lib.ListN.{length, take}
-use Rattle.sorting.specs.Sorting.{fitting}
+use Rattle.sorting.specs.Inside.Pairs.{fitting}
 use Rattle.def_graph.specs.Leaf.{dedup}
 use Rattle.store.specs.View.{rowBlock}
 use Rattle.hashprune.proofs.Rows.{rest-whole}

@@ -4,7 +4,7 @@ use mathlib.Core.Path.{refl, sym, ap, _∙_}
 use mathlib.Core.List.{List, map}
 use Prim.Native.Nat.{ℕ, _-_, _≤_}
 use lib.ListN.{length, length-map}
-use Rattle.sorting.specs.Sorting.{keysOf, idsOf}
+use Rattle.sorting.specs.Inside.Pairs.{keysOf, idsOf}
 use Rattle.lists.proofs.Reading.{one-row}
 use Rattle.hashprune.specs.Inside.Steps.{rankedNode}
 use Rattle.hashprune.proofs.Rows.{length-entries}

@@ -1,7 +1,7 @@
 -- The first n pairs are passed on and come back sorted, with what stood past them. Assumes nothing.
 use mathlib.Core.Path.{_≡_}
 use lib.ListN.{take, length-take}
-use Rattle.sorting.specs.Sorting.{fitting}
+use Rattle.sorting.specs.Inside.Pairs.{fitting}
 use Rattle.hashprune.proofs.Ranked.{sorted-part}
 use native.Mathlib.Omega.{arith}
 use borrow.Author.Needs.{needs}

@@ -9,7 +9,8 @@ use Rattle.basics.specs.Choice.{pick}
 use Rattle.basics.specs.Nodes.{Below}
 use Rattle.distance.specs.Order.{keyOf}
 use Rattle.distance.specs.Distance.{distanceOf}
-use Rattle.sorting.specs.Sorting.{sortBy, pairs, keyIn, idIn, keysOf, idsOf}
+use Rattle.sorting.specs.Sorting.{sortBy}
+use Rattle.sorting.specs.Inside.Pairs.{pairs, keyIn, idIn, keysOf, idsOf}
 use Rattle.distance.specs.Vectors.{vectorsIn, vectorOf}
 use Rattle.def_graph.specs.Simhash.{residual}
 use Rattle.def_graph.specs.Leaf.{Cell, nodesIn, cellsFrom, dedup}

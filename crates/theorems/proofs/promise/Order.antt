@@ -2,7 +2,7 @@
 use mathlib.Core.List.{List, [], _∷_}
 use Prim.Native.Nat.{ℕ}
 use lib.Ieee.{Float}
-use Rattle.sorting.specs.Sorting.{Rising}
+use Rattle.sorting.specs.Inside.Pairs.{Rising}
 use Rattle.def_walk.specs.KeepClosest.{keyAt}
 use Rattle.def_walk.specs.Beam.{farFrom}
 use Rattle.def_walk.proofs.beam.Nearest.{from-in}
