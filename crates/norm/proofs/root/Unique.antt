@@ -29,11 +29,10 @@ unfolding toBits bits-by-units
 bits-are f nan s a c p v = absurd v
 bits-are f (inf t) s a c p v = absurd v
 bits-are f (fin t m e) s a c p v =
+    let cross : m * up e * 2 ^ low f * c ≡ a * 2 ^ low f * down e
+    = mul-right-comm (m * up e) (2 ^ low f) c ∙ ap (λ (n : ℕ). n * 2 ^ low f) (v .1) ∙ mul-right-comm a (down e) (2 ^ low f) in
     ap (λ (b : Bool). bits-by-units f b (m * up e * 2 ^ low f / down e)) (v .0)
     ∙ ap (bits-by-units f s) (div-same (m * up e * 2 ^ low f) (down e) (a * 2 ^ low f) c (down-pos e) p cross)
-  where
-    cross : m * up e * 2 ^ low f * c ≡ a * 2 ^ low f * down e
-    cross = mul-right-comm (m * up e) (2 ^ low f) c ∙ ap (λ (n : ℕ). n * 2 ^ low f) (v .1) ∙ mul-right-comm a (down e) (2 ^ low f)
 
 same-value : (f : Format) (x y : Float) (s : Bool) (a c : ℕ) → 0 < c → T (fits f x) → T (fits f y) → HasValue x s a c → HasValue y s a c → x ≡ y
 same-value f x y s a c p tx ty vx vy =
@@ -76,22 +75,19 @@ apart (negsuc j) (negsuc k) = elim (decLe (suc j) k) [
 -- s / 2^(2d) below 4 · Q and s / 2^(2e) from Q up, with 2^d at most half of 2^e, is impossible: a / c is s, and x / y is 2^d, u / v is 2^e
 impossible : (a c Q x y u v : ℕ) → 0 < v → a * (y * y) < 4 * Q * (c * (x * x)) → Q * (c * (u * u)) ≤ a * (v * v) → 2 * (x * v) ≤ u * y → ⊥
 impossible a c Q x y u v p below from half =
+    let gathered : Q * (c * (u * u)) * (y * y) ≡ Q * c * (u * y * (u * y)) = simp (mul-assoc, mul-left-comm) refl in
+    let spread : Q * c * (2 * (x * v) * (2 * (x * v))) ≡ 4 * Q * (c * (x * x)) * (v * v)
+    = ap (λ (n : ℕ). Q * c * n) (pairs 2 ∙ omega arith) ∙ apart-four 4 in
     lt-irrefl (Q * c * (u * y * (u * y)))
     (lt-of-le-of-lt (subst (λ (n : ℕ). n ≤ a * (v * v) * (y * y)) gathered (mul-le-mul-right (y * y) from))
     (lt-of-lt-of-le (subst (λ (n : ℕ). n < 4 * Q * (c * (x * x)) * (v * v)) (mul-right-comm a (y * y) (v * v)) (mul-lt-mul-of-pos-right below (mul-pos p p)))
     (subst (λ (n : ℕ). n ≤ Q * c * (u * y * (u * y))) spread (mul-le-mul-left (Q * c) (mul-le-mul half half)))))
   where
-    gathered : Q * (c * (u * u)) * (y * y) ≡ Q * c * (u * y * (u * y))
-    gathered = simp (mul-assoc, mul-left-comm) refl
-
     pairs : (t : ℕ) → t * (x * v) * (t * (x * v)) ≡ t * (t * (x * x * (v * v)))
     pairs t = simp (mul-assoc, mul-left-comm) refl
 
     apart-four : (k : ℕ) → Q * c * (k * (x * x * (v * v))) ≡ k * Q * (c * (x * x)) * (v * v)
     apart-four k = simp (mul-assoc, mul-left-comm) refl
-
-    spread : Q * c * (2 * (x * v) * (2 * (x * v))) ≡ 4 * Q * (c * (x * x)) * (v * v)
-    spread = ap (λ (n : ℕ). Q * c * n) (pairs 2 ∙ omega arith) ∙ apart-four 4
 
 four-times : (f : Format) → 2 ^ (2 * prec f) ≡ 4 * 2 ^ (2 * prec f - 2)
 four-times f =

@@ -109,13 +109,11 @@ module _ (f : Format) (n q j : ℕ) (e : n ≡ q * 2 ^ j) (h : q < 2 ^ prec f) w
   whole : n * 2 ^ (2 * prec f) ≡ q * 2 ^ spare * 2 ^ evenLength f n
   unfolding spare
   whole =
+      let places : spare + evenLength f n ≡ j + 2 * prec f = omega (arith, two f, size-at-most (prec f) n q j e h, length-to f n) in
       ap (λ (m : ℕ). m * 2 ^ (2 * prec f)) e
       ∙ mul-assoc q (2 ^ j) (2 ^ (2 * prec f))
       ∙ ap (λ (m : ℕ). q * m) (sym (pow-add 2 j (2 * prec f)) ∙ ap (λ (m : ℕ). 2 ^ m) (sym places) ∙ pow-add 2 spare (evenLength f n))
       ∙ sym (mul-assoc q (2 ^ spare) (2 ^ evenLength f n))
-    where
-      places : spare + evenLength f n ≡ j + 2 * prec f
-      places = omega (arith, two f, size-at-most (prec f) n q j e h, length-to f n)
 
   scaled-is : scaled f n ≡ q * 2 ^ spare
   scaled-is = ap (λ (m : ℕ). m / 2 ^ evenLength f n) whole ∙ mul-div-cancel (q * 2 ^ spare) (pow-pos (evenLength f n))
@@ -174,15 +172,13 @@ twice-exponent f n p = omega (arith, wide f, digits-some n p, two f)
 exact : (f : Format) (n : ℕ) → 0 < n → scaled f n * 2 ^ evenLength f n ≡ n * 2 ^ (2 * prec f)
     → n * 2 ^ low f ≡ scaled f n * (2 ^ exponent f n * 2 ^ exponent f n)
 exact f n p e =
+    let x : ℕ = exponent f n in
     eq-of-mul-eq-mul-right (2 ^ (2 * prec f)) (pow-pos (2 * prec f)) (n * 2 ^ low f) (scaled f n * (2 ^ x * 2 ^ x))
     (mul-right-comm n (2 ^ low f) (2 ^ (2 * prec f))
     ∙ ap (λ (m : ℕ). m * 2 ^ low f) (sym e)
     ∙ mul-assoc (scaled f n) (2 ^ evenLength f n) (2 ^ low f)
     ∙ ap (λ (m : ℕ). scaled f n * m) (sym (pow-add 2 (evenLength f n) (low f)) ∙ ap (λ (m : ℕ). 2 ^ m) (sym (twice-exponent f n p)) ∙ pow-add 2 (x + x) (2 * prec f) ∙ ap (λ (m : ℕ). m * 2 ^ (2 * prec f)) (pow-add 2 x x))
     ∙ sym (mul-assoc (scaled f n) (2 ^ x * 2 ^ x) (2 ^ (2 * prec f))))
-  where
-    x : ℕ
-    x = exponent f n
 
 -- ---- m has at most p digits
 
@@ -263,16 +259,17 @@ module _ (f : Format) (m : ℕ) (e : ℤ) (t : T (fits f (fin false (suc m) e)))
   -- the root is below the format's largest values
   within : r * 2 ^ x < 2 ^ (low f + suc (emax f))
   unfolding x
-  within = lt-of-lt-of-le (shl-lt (prec f) x few) (pow-mono (omega (arith, twice-exponent f n n-some, length-to f n, digits)))
-    where
-      small : n < 2 ^ (low f + suc (emax f))
-      small = lt-of-mul-lt-mul-right (down e) (subst (λ (k : ℕ). k < 2 ^ (low f + suc (emax f)) * down e) (sym n-value) (subst (λ (k : ℕ). suc m * up e * 2 ^ low f < k) moved (mul-lt-mul-of-pos-right (held f m e t .largest) (pow-pos (low f)))))
-        where
-          moved : 2 ^ suc (emax f) * down e * 2 ^ low f ≡ 2 ^ (low f + suc (emax f)) * down e
-          moved = mul-right-comm (2 ^ suc (emax f)) (down e) (2 ^ low f) ∙ ap (λ (k : ℕ). k * down e) (mul-comm (2 ^ suc (emax f)) (2 ^ low f) ∙ sym (pow-add 2 (low f) (suc (emax f))))
-
-      digits : size n ≤ low f + suc (emax f)
-      digits = size-le n (low f + suc (emax f)) small
+  within =
+      let L : ℕ = low f in
+      let E : ℕ = suc (emax f) in
+      let moved : 2 ^ E * down e * 2 ^ L ≡ 2 ^ (L + E) * down e
+      = mul-right-comm (2 ^ E) (down e) (2 ^ L) ∙ ap (λ (k : ℕ). k * down e) (mul-comm (2 ^ E) (2 ^ L) ∙ sym (pow-add 2 L E)) in
+      let small : n < 2 ^ (L + E)
+      = lt-of-mul-lt-mul-right (down e)
+      (subst (λ (k : ℕ). k < 2 ^ (L + E) * down e) (sym n-value)
+      (subst (λ (k : ℕ). suc m * up e * 2 ^ L < k) moved (mul-lt-mul-of-pos-right (held f m e t .largest) (pow-pos L)))) in
+      let digits : size n ≤ L + E = size-le n (L + E) small in
+      lt-of-lt-of-le (shl-lt (prec f) x few) (pow-mono (omega (arith, twice-exponent f n n-some, length-to f n)))
 
   root-units : IsRoot f n (2 ^ low f) (rootUnits f n)
   unfolding rootUnits N r x
