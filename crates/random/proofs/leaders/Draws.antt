@@ -51,68 +51,47 @@ one-draw : (k r m : ℕ) (left : List ℕ) → m < length left
     ≡ getD left (high (nextOf drawAddend r) % suc m) 0 ∷ drawn k (nextOf drawAddend r) (take m (set left (high (nextOf drawAddend r) % suc m) (getD left m 0)))
 unfolding drawn
 one-draw k r m left h =
+    let r′ : ℕ = nextOf drawAddend r in
+    let h′ : ℕ = high r′ in
+    let p-lt : h′ % suc m < suc m = mod-lt h′ (omega arith) in
     ap (λ (n : ℕ). getD (take (suc m) left) (h′ % n) 0 ∷ drawn k r′ (swapRemove (h′ % n) (take (suc m) left))) (length-take-le (suc m) left h)
     ∙ ap₂ (λ (x : ℕ) (l : List ℕ). x ∷ drawn k r′ l) (getD-take (suc m) left (h′ % suc m) 0 p-lt) (moved left m (h′ % suc m) h (omega (arith, p-lt)))
-  where
-    r′ : ℕ
-    r′ = nextOf drawAddend r
-
-    h′ : ℕ
-    h′ = high r′
-
-    p-lt : h′ % suc m < suc m
-    p-lt = mod-lt h′ (omega arith)
 
 module _ (count start : ℕ) (left₀ out₀ : List ℕ) where
   pub drawing-more : (i r : ℕ) (left out : List ℕ) → Drawing count start left₀ out₀ i r left out → i < count → count ≤ length left₀ → count ≤ length out₀
       → (p : ℕ) → p ≡ high (nextOf drawAddend r) % (length left₀ - i)
       → Drawing count start left₀ out₀ (i + 1) (nextOf drawAddend r) (set left p (getD left (length left₀ - i - 1) 0)) (set out i (getD left p 0))
-  drawing-more i r left out d h hl ho p e = record {
-    within = omega arith;
-    same-left = length-set left p last ∙ d .same-left;
-    same-out = length-set out i x ∙ d .same-out;
-    whole =
-        ap₂ (λ (a : List ℕ) (b : List ℕ). a ++ b) (ap (λ (j : ℕ). take j (set out i x)) (add-one i) ∙ take-suc-set out i x (omega (arith, d .same-out))) tail-is
-        ∙ append-snoc (take i out) x (drawn k r′ (take m (set left p last)))
-        ∙ ap (λ (l : List ℕ). take i out ++ l) (sym one)
-        ∙ d .whole;
-    rest =
-        ap (λ (j : ℕ). drop j (set out i x)) (add-one i)
-        ∙ drop-set-lt (suc i) out i x (omega arith)
-        ∙ sym (ap (λ (j : ℕ). drop j out) (add-one i)) ∙ sym (drop-drop 1 i out) ∙ ap (drop 1) (d .rest) ∙ drop-drop 1 i out₀;
-  }
-    where
-      k : ℕ
-      k = count - i - 1
-
-      m : ℕ
-      m = length left₀ - i - 1
-
-      r′ : ℕ
-      r′ = nextOf drawAddend r
-
-      last : ℕ
-      last = getD left (length left₀ - i - 1) 0
-
-      x : ℕ
-      x = getD left p 0
-
-      suc-m : length left₀ - i ≡ suc m
-      suc-m = omega arith
-
-      tail-is : drawn (count - (i + 1)) r′ (take (length left₀ - (i + 1)) (set left p last)) ≡ drawn k r′ (take m (set left p last))
-      tail-is =
-          let a : count - (i + 1) ≡ k = omega arith in
-          let b : length left₀ - (i + 1) ≡ m = omega arith in
-          ap₂ (λ (c : ℕ) (n : ℕ). drawn c r′ (take n (set left p last))) a b
-
-      one : drawn (count - i) r (take (length left₀ - i) left) ≡ x ∷ drawn k r′ (take m (set left p last))
-      one =
-          let c : count - i ≡ suc k = omega arith in
-          let q : high r′ % suc m ≡ p = ap (λ (n : ℕ). high r′ % n) (sym suc-m) ∙ sym e in
-          ap₂ (λ (a : ℕ) (n : ℕ). drawn a r (take n left)) c suc-m
-          ∙ one-draw k r m left (omega (arith, d .same-left))
-          ∙ ap (λ (z : ℕ). getD left z 0 ∷ drawn k r′ (take m (set left z (getD left m 0)))) q
+  drawing-more i r left out d h hl ho p e =
+      let k : ℕ = count - i - 1 in
+      let m : ℕ = length left₀ - i - 1 in
+      let r′ : ℕ = nextOf drawAddend r in
+      let last : ℕ = getD left m 0 in
+      let x : ℕ = getD left p 0 in
+      let rest′ : List ℕ = drawn k r′ (take m (set left p last)) in
+      let a : count - (i + 1) ≡ k = omega arith in
+      let b : length left₀ - (i + 1) ≡ m = omega arith in
+      let c : count - i ≡ suc k = omega arith in
+      let suc-m : length left₀ - i ≡ suc m = omega arith in
+      let q : high r′ % suc m ≡ p = ap (λ (n : ℕ). high r′ % n) (sym suc-m) ∙ sym e in
+      let one : drawn (count - i) r (take (length left₀ - i) left) ≡ x ∷ rest′
+      = ap₂ (λ (a : ℕ) (n : ℕ). drawn a r (take n left)) c suc-m
+      ∙ one-draw k r m left (omega (arith, d .same-left))
+      ∙ ap (λ (z : ℕ). getD left z 0 ∷ drawn k r′ (take m (set left z (getD left m 0)))) q in record {
+        within = omega arith;
+        same-left = length-set left p last ∙ d .same-left;
+        same-out = length-set out i x ∙ d .same-out;
+        whole =
+            ap₂ (λ (a : List ℕ) (b : List ℕ). a ++ b)
+            (ap (λ (j : ℕ). take j (set out i x)) (add-one i) ∙ take-suc-set out i x (omega (arith, d .same-out)))
+            (ap₂ (λ (c : ℕ) (n : ℕ). drawn c r′ (take n (set left p last))) a b)
+            ∙ append-snoc (take i out) x rest′
+            ∙ ap (λ (l : List ℕ). take i out ++ l) (sym one)
+            ∙ d .whole;
+        rest =
+            ap (λ (j : ℕ). drop j (set out i x)) (add-one i)
+            ∙ drop-set-lt (suc i) out i x (omega arith)
+            ∙ sym (ap (λ (j : ℕ). drop j out) (add-one i)) ∙ sym (drop-drop 1 i out) ∙ ap (drop 1) (d .rest) ∙ drop-drop 1 i out₀;
+      }
 
   pub drawing-done : (i r : ℕ) (left out : List ℕ) → Drawing count start left₀ out₀ i r left out → count ≤ i → out ≡ drawn count start left₀ ++ drop count out₀
   unfolding drawn
