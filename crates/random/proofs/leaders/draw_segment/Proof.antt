@@ -16,25 +16,22 @@ joined : (level n count start : ℕ) (left out : List ℕ) → level < 2 ^ 32 �
     → drawn count start left ++ drop count out ≡ drawnInto level n out
 unfolding drawnInto
 joined level n count start left out h e k s =
+    let small : level * 2654435761 + 42 < 2 ^ 64 = omega arith in
     let c : count ≡ min (length out) n = k ∙ ap (λ (l : List ℕ). min (length out) (length l)) e ∙ ap (min (length out)) (length-upTo n) in
-    let t : start ≡ drawStart level = s ∙ sym (mod-eq-of-lt (small level h)) in
+    let t : start ≡ drawStart level = s ∙ sym (mod-eq-of-lt small) in
     ap (λ (j : ℕ). drawn j start left ++ drop j out) c
     ∙ ap (λ (r : ℕ). drawn (min (length out) n) r left ++ drop (min (length out) n) out) t
     ∙ ap (λ (l : List ℕ). drawn (min (length out) n) (drawStart level) l ++ drop (min (length out) n) out) e
-  where
-    small : (level : ℕ) → level < 2 ^ 32 → level * 2654435761 + 42 < 2 ^ 64
-    small level h = omega arith
 
 returns : tie.Need-returns
 returns c =
     let at-draw = c .before .before .before .before in
     let at-lesser = at-draw .before .before .before in
     let at-count-up = at-lesser .before .before .before in
-    let back = at-count-up .before .before .before .before in
+    let start = at-count-up .before .before .before .before in
     let draw = at-draw .draw in
     let lesser = at-lesser .lesser in
     let up = at-count-up .count-up in
-    let start = back in
     let x = start .args in
     draw .ensures ∙ joined (x .level) (length (x .left .now)) (lesser .result) _ _ (x .out .now) (start .fits .level .fits) (up .ensures) (lesser .ensures) refl
 

@@ -1,7 +1,7 @@
 -- The three ranges of x: below −1 or no number, up to 2^64, and from there on, where the whole part is held to the last number. Assumes nothing.
 use mathlib.Core.Path.{_≡_, refl, sym, subst}
 use mathlib.Core.Bool.{true, false}
-use Prim.Native.Nat.{ℕ, _+_, _-_, _*_, _/_, _^_, _≤_, _<_, min}
+use Prim.Native.Nat.{_+_, _-_, _*_, _/_, _^_, _≤_}
 use native.Mathlib.Nat.{le-div-iff-mul-le}
 use native.Mathlib.Omega.{arith}
 use borrow.Author.Tests.{ltb-false}
@@ -14,34 +14,24 @@ use Rattle.random.proofs.leaders.floor_to.Statement.{statement}
 use Rattle.random.proofs.leaders.floor_to.Tie as tie
 
 -- below the range: nothing is left above zero
-n1 : (d y : ℕ) → 0 < d → 1 * d + y * 1 ≤ 0 → ⊥
-n1 d y p h = omega arith
-
 under : (x : Float) → lt (fin true 1 (pos 0)) x ≡ false → toUnsigned 64 x ≡ 0
 unfolding lt toUnsigned
 under nan h = refl
 under (inf true) h = refl
 under (inf false) h = absurd (subst T h tt)
 under (fin true m e) h = refl
-under (fin false m e) h = absurd (n1 (down e) (m * up e) (down-pos e) (ltb-false 0 (1 * down e + m * up e * 1) h))
+under (fin false m e) h = absurd (omega (arith, down-pos e, ltb-false 0 (1 * down e + m * up e * 1) h))
 
 -- from 2^64 up
-n2 : (d y : ℕ) → 0 < d → y * 1 + 2 ^ 64 * d ≤ 0 → ⊥
-n2 d y p h = omega arith
-
-n3 : (d y : ℕ) → 2 ^ 64 * d ≤ y * 1 → 2 ^ 64 * d ≤ y
-n3 d y h = omega arith
-
-n4 : (y : ℕ) → 2 ^ 64 ≤ y → min y (2 ^ 64 - 1) ≡ 2 ^ 64 - 1
-n4 y h = omega arith
-
 over : (x : Float) → lt (fin true 1 (pos 0)) x ≡ true → lt x (fin false 1 (pos 64)) ≡ false → toUnsigned 64 x ≡ 2 ^ 64 - 1
 unfolding lt toUnsigned
 over nan h k = absurd (subst T (sym h) tt)
 over (inf true) h k = absurd (subst T (sym h) tt)
 over (inf false) h k = refl
-over (fin true m e) h k = absurd (n2 (down e) (m * up e) (down-pos e) (ltb-false 0 (m * up e * 1 + 2 ^ 64 * down e) k))
-over (fin false m e) h k = n4 (m * up e / down e) (le-div-iff-mul-le (down-pos e) .1 (n3 (down e) (m * up e) (ltb-false (m * up e * 1) (2 ^ 64 * down e) k)))
+over (fin true m e) h k = absurd (omega (arith, down-pos e, ltb-false 0 (m * up e * 1 + 2 ^ 64 * down e) k))
+over (fin false m e) h k =
+    let big : 2 ^ 64 ≤ m * up e / down e = le-div-iff-mul-le (down-pos e) .1 (omega (arith, ltb-false (m * up e * 1) (2 ^ 64 * down e) k)) in
+    omega arith
 
 truncating-f64-to-u64-requires : tie.Need-truncating-f64-to-u64-requires
 unfolding ofBits neg
