@@ -5,7 +5,7 @@ use mathlib.Core.List.{List, [], _∷_, _++_, map, flatten, append-nil}
 use Prim.Native.Nat.{ℕ, zero, suc, _+_, _-_, _*_, _/_, _≤_, _<_}
 use native.Mathlib.Nat.{mul-div-cancel, zero-mul, suc-mul}
 use native.Mathlib.Omega.{arith}
-use lib.ListN.{length, getD, take, drop, set, replicate, length-map, length-append, length-replicate}
+use lib.ListN.{length, getD, take, drop, set, replicate, length-map, length-append, length-replicate, replicate-append-replicate}
 use Rattle.basics.specs.Lists.{pieces}
 use Rattle.basics.proofs.Pieces.{Sized, length-flatten}
 use Rattle.basics.proofs.Rows.{set-row, empty-rows}
@@ -78,11 +78,7 @@ zeros D (suc n) =
     let size : suc n * rowSize D ≡ suc (D + n * rowSize D) = omega (arith, suc-mul n (rowSize D)) in
     let all : D ≡ D - 0 = omega arith in
     ap (λ (k : ℕ). replicate {A = ℕ} k 0) size
-    ∙ ap (λ (l : List ℕ). 0 ∷ l) (replicate-add D (n * rowSize D) ∙ ap₂ (λ (k : ℕ) (l : List ℕ). replicate k 0 ++ l) all (zeros D n))
-  where
-    replicate-add : (a b : ℕ) → _≡_ {A = List ℕ} (replicate (a + b) 0) (replicate a 0 ++ replicate b 0)
-    replicate-add zero b = let e : zero + b ≡ b = omega arith in ap (λ (k : ℕ). replicate {A = ℕ} k 0) e
-    replicate-add (suc a) b = let e : suc a + b ≡ suc (a + b) = omega arith in ap (λ (k : ℕ). replicate {A = ℕ} k 0) e ∙ ap (λ (l : List ℕ). 0 ∷ l) (replicate-add a b)
+    ∙ ap (λ (l : List ℕ). 0 ∷ l) (sym (replicate-append-replicate D (n * rowSize D) 0) ∙ ap₂ (λ (k : ℕ) (l : List ℕ). replicate k 0 ++ l) all (zeros D n))
 
 pub cleared-blocks : (D n : ℕ) → Blocks D (replicate n []) (replicate (n * rowSize D) 0)
 cleared-blocks D n = record { words-are = zeros D n; short = empty-rows n D .short }

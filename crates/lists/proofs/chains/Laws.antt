@@ -1,7 +1,7 @@
 -- Chains with one slot more and with one bridge more, and what a reader of chains finds. A slot is linked behind the last one of its node, which
 -- no other node has, so that every other chain stays. Assumes nothing.
 use mathlib.Core.Path.{_≡_, refl, sym, ap, ap₂, subst, _∙_}
-use mathlib.Core.Logic.{_≢_, _⊎_, inl, inr}
+use mathlib.Core.Logic.{_≢_, inl, inr}
 use mathlib.Core.Bool.{Bool, true, false, _&&_}
 use mathlib.Core.List.{List, [], _∷_, _++_, map, map-append, flatten, append-nil, append-assoc}
 use mathlib.Core.List.{List·Memᴰ as In, List·Memᴰ·head as here, List·Memᴰ·tail as there, List·Memᴰ·not-nil as in-nil, List·Memᴰ·append-cases as in-cases, List·Memᴰ·eq-of-singleton as in-one, Memᴰ·cast as in-cast}
@@ -165,13 +165,13 @@ module _ (n m t v : ℕ) (slots : ℕ → List ℕ) (links : List ℕ) (c : Chai
       small′ i s k = elim (in-cases (slots i) k) [ inl a ↦ omega (arith, c .small i s a) | inr b ↦ omega (arith, new-slot i s b .0) ]
 
       owned′ : (i k s : ℕ) → In s (more i) → In s (more k) → i ≡ k
-      owned′ i k s a b = go (in-cases (slots i) a) (in-cases (slots k) b)
-        where
-          go : In s (slots i) ⊎ In s (pick (eqb i v) (t ∷ []) []) → In s (slots k) ⊎ In s (pick (eqb k v) (t ∷ []) []) → i ≡ k
-          go (inl x) (inl y) = c .owned i k s x y
-          go (inl x) (inr y) = absurd (omega (arith, c .small i s x, new-slot k s y .0))
-          go (inr x) (inl y) = absurd (omega (arith, c .small k s y, new-slot i s x .0))
-          go (inr x) (inr y) = new-slot i s x .1 ∙ sym (new-slot k s y .1)
+      owned′ i k s a b = elim (in-cases (slots i) a) [
+        | inl x ↦ elim (in-cases (slots k) b) [ inl y ↦ c .owned i k s x y | inr y ↦ absurd (omega (arith, c .small i s x, new-slot k s y .0)) ]
+        | inr x ↦ elim (in-cases (slots k) b) [
+          | inl y ↦ absurd (omega (arith, c .small k s y, new-slot i s x .0))
+          | inr y ↦ new-slot i s x .1 ∙ sym (new-slot k s y .1)
+        ]
+      ]
 
   abbrev placed : ℕ → List ℕ
   placed place = set (set (set links place (t + 1)) (2 * n + t) 0) (n + v) (t + 1)
