@@ -26,6 +26,9 @@ At = tie.After-shared-slice-known13 Inv-loop μ-loop
 abbrev start : At → tie.Start Inv-loop μ-loop
 start c = let turn = c .before .before .before .before in turn .before .before .before .before .before .before .before .before .before .before .before
 
+abbrev read : tie.After-add-four4 Inv-loop μ-loop → At
+read c = c .before .before .before .before
+
 -- there are four components more
 more : (c : At) → c .before .before .before .before .before .loop .i + 4 ≤ length (start c .args .q .now)
 more c = omega (arith, c .before .before .before .before .loop-test .taken, c .before .before .before .before .before .loop .inv .0)
@@ -89,13 +92,13 @@ dot8-within-spec =
     (λ c. search needs)
     -- the eight rows
     (λ c κs. omega (arith, more c, start c .pre .0))
-    (λ c κs. let at = c .before in omega (arith, more at, start at .pre .1))
-    (λ c κs. let at = c .before .before in omega (arith, more at, start at .pre .2))
-    (λ c κs. let at = c .before .before .before in omega (arith, more at, start at .pre .3))
-    (λ c κs. let at = c .before .before .before .before in omega (arith, more at, start at .pre .4))
-    (λ c κs. let at = c .before .before .before .before .before in omega (arith, more at, start at .pre .5))
-    (λ c κs. let at = c .before .before .before .before .before .before in omega (arith, more at, start at .pre .6))
-    (λ c κs. let at = c .before .before .before .before .before .before .before in omega (arith, more at, start at .pre .7))
+    (λ c κs. omega (arith, more (c .before), start (c .before) .pre .1))
+    (λ c κs. omega (arith, more (c .before .before), start (c .before .before) .pre .2))
+    (λ c κs. omega (arith, more (c .before .before .before), start (c .before .before .before) .pre .3))
+    (λ c κs. omega (arith, more (read c), start (read c) .pre .4))
+    (λ c κs. omega (arith, more (read (c .before)), start (read (c .before)) .pre .5))
+    (λ c κs. omega (arith, more (read (c .before .before)), start (read (c .before .before)) .pre .6))
+    (λ c κs. omega (arith, more (read (c .before .before .before)), start (read (c .before .before .before)) .pre .7))
     (λ c. omega (arith, more (c .before .before .before .before .before .before .before .before))) loop-again
     -- dot8_rest
     (λ c κs. search needs) returns)
