@@ -4,7 +4,7 @@ use native.Mathlib.Omega.{arith}
 use borrow.Author.Needs.{needs}
 use mathlib.Core.Path.{sym, ap, _∙_}
 use mathlib.Core.List.{List, [], _∷_}
-use Prim.Native.Nat.{ℕ}
+use Prim.Native.Nat.{ℕ, _≤_}
 use lib.ListN.{length, take}
 use lib.Seq.{length-take-le}
 use Rattle.basics.specs.Choice.{pick-true, pick-false}
@@ -23,27 +23,20 @@ gather-requires c κs =
     let a = c .before .before .before .before .args in
     accepted (a .seconds .now) (a .docs .now) (c .before .if1 .left)
 
-array-share-prefix-today : tie.Need-array-share-prefix-today
-array-share-prefix-today c =
-    let a = c .before .before .before .before .before .before .args in
-    let h = accepted (a .seconds .now) (a .docs .now) (c .before .before .before .if1 .left) in
-    omega (arith, c .before .gather .ensures .1, c .before .gather .ensures .2)
-
-slice-aggregate-count-different : tie.Need-slice-aggregate-count-different
-slice-aggregate-count-different c =
-    let a = c .before .before .before .before .before .before .before .args in
-    let h = accepted (a .seconds .now) (a .docs .now) (c .before .before .before .before .if1 .left) in
-    let g = c .before .before .gather .ensures in
-    sym (length-take-le _ _ (omega (arith, g .1, g .2)))
+-- what was gathered lies within the array
+within : (c : tie.After-gather) → (c .gather .result ≤ length (c .gather .last .1 .1 .1 .0)) × (c .gather .result ≤ 512)
+within c =
+    let a = c .before .before .before .before .before .args in
+    let h = accepted (a .seconds .now) (a .docs .now) (c .before .before .if1 .left) in
+    (omega (arith, c .gather .ensures .1, c .gather .ensures .2), omega (arith, c .gather .ensures .1))
 
 cast-t16 : tie.Need-cast-t16
 cast-t16 c =
-    let a = c .before .before .before .before .before .before .before .before .args in
-    let h = accepted (a .seconds .now) (a .docs .now) (c .before .before .before .before .before .if1 .left) in
-    let g = c .before .before .before .gather .ensures in
-    let few = different-short (take (c .before .before .before .gather .result) (c .before .before .before .gather .last .1 .1 .1 .0)) in
-    let long = lib.Seq.length-take-le (c .before .before .before .gather .result) (c .before .before .before .gather .last .1 .1 .1 .0) (omega (arith, g .1, g .2)) in
-    omega (arith, c .count-different .ensures, g .1)
+    let h = within (c .before .before .before) in
+    let g = c .before .before .before .gather in
+    let few = different-short (take (g .result) (g .last .1 .1 .1 .0)) in
+    let long = length-take-le (g .result) (g .last .1 .1 .1 .0) (h .0) in
+    omega (arith, c .count-different .ensures)
 
 returns-2 : tie.Need-returns-2
 unfolding householdValues householdOf
@@ -57,6 +50,6 @@ household-count-spec =
     (tie.spec
     returns
     -- gather
-    (λ c. search needs) gather-requires array-share-prefix-today slice-aggregate-count-different
+    (λ c. search needs) gather-requires (λ c. omega (arith, within (c .before) .1)) (λ c. sym (length-take-le _ _ (within (c .before .before) .0)))
     -- count_different
     (λ c κs. search needs) cast-t16 returns-2)
