@@ -29,11 +29,13 @@ second : (c : tie.After-capacity-within)
     ≡ (withinLimits (c .before .before .before .before .before .before .args .p) && capacityWithin (c .before .before .before .before .before .before .args .capacity))
 second c = λ i. c .before .within-limits .ensures i && c .capacity-within .ensures i
 
-taken : (c : tie.Else2)
-    → (withinLimits (c .before .before .before .before .before .before .before .args .p) && capacityWithin (c .before .before .before .before .before .before .before .args .capacity)) ≡ true
+abbrev start : tie.Else2 → tie.Start
+start c = c .before .before .before .before .before .before .before
+
+taken : (c : tie.Else2) → (withinLimits (start c .args .p) && capacityWithin (start c .args .capacity)) ≡ true
 taken c = sym (second (c .before)) ∙ not-false _ (c .if2 .left)
 
-passed-2 : (c : tie.Else2) → Pass (take 2 (K (c .before .before .before .before .before .before .before)))
+passed-2 : (c : tie.Else2) → Pass (take 2 (K (start c)))
 unfolding newChecks
 passed-2 c = (passed-1 (c .before .before .before) .0, (ap not (taken c), tt))
 
@@ -50,19 +52,15 @@ returns-2 c =
 returns-3 : tie.Need-returns-3
 unfolding newChecks
 returns-3 c =
-    let back = c .before .before .before in
-    let back-2 = back .before .before .before .before .before .before .before in
-    turned-at 2 (K (back-2)) (passed-2 (back))
-    (sym (c .before .store-short .ensures) ∙ c .if3 .taken)
+    let at = c .before .before .before in
+    turned-at 2 (K (start at)) (passed-2 at) (sym (c .before .store-short .ensures) ∙ c .if3 .taken)
 
 returns-4 : tie.Need-returns-4
 unfolding newChecks
 returns-4 c =
-    let back = c .before .before .before in
-    let back-2 = back .before .before .before .before .before .before .before in
-    let t = passed-2 (back) in
-    none-turned (K (back-2))
-    (t .0, (t .1 .0, (sym (c .before .store-short .ensures) ∙ c .if3 .left, tt)))
+    let at = c .before .before .before in
+    let t = passed-2 at in
+    none-turned (K (start at)) (t .0, (t .1 .0, (sym (c .before .store-short .ensures) ∙ c .if3 .left, tt)))
 
 pub new-refusal-spec : {M : Type 1} → statement M
 new-refusal-spec =
