@@ -102,7 +102,8 @@ exact n q k e =
     sym (mul-assoc n (2 ^ 23) (2 ^ 126))
     ∙ ap (λ (m : ℕ). m * 2 ^ 126) (sym e)
     ∙ mul-assoc q (2 ^ k) (2 ^ 126)
-    ∙ ap (λ (m : ℕ). q * m) (sym (pow-add 2 k 126) ∙ ap (λ (m : ℕ). 2 ^ m) sum ∙ pow-add 2 (24 - k % 2) (x + x) ∙ ap (λ (m : ℕ). 2 ^ (24 - k % 2) * m) (pow-add 2 x x))
+    ∙ ap (λ (m : ℕ). q * m)
+    (sym (pow-add 2 k 126) ∙ ap (λ (m : ℕ). 2 ^ m) sum ∙ pow-add 2 (24 - k % 2) (x + x) ∙ ap (λ (m : ℕ). 2 ^ (24 - k % 2) * m) (pow-add 2 x x))
     ∙ sym (mul-assoc q (2 ^ (24 - k % 2)) (2 ^ x * 2 ^ x))
 
 pub root-law : (b q k : ℕ) → b < 0x7f80_0000 → q * 2 ^ k ≡ patternUnits b * 2 ^ 23 → 2 ^ 23 ≤ q → q < 2 ^ 24 → k ≤ 276

@@ -91,9 +91,11 @@ scaled-bounds f n p =
     let room : q - 2 + a ≤ size n - 1 + q = omega (arith, two f, length-to f n) in
     let top : 2 ^ (size n - 1) ≤ n = size-reaches n (size n - 1) (omega arith) in (
       le-div-iff-mul-le (pow-pos a) .1
-          (le-trans (le-of-eq (sym (pow-add 2 (q - 2) a))) (le-trans (pow-mono room) (le-trans (le-of-eq (pow-add 2 (size n - 1) q)) (mul-le-mul-right (2 ^ q) top)))),
+          (le-trans (le-of-eq (sym (pow-add 2 (q - 2) a)))
+          (le-trans (pow-mono room) (le-trans (le-of-eq (pow-add 2 (size n - 1) q)) (mul-le-mul-right (2 ^ q) top)))),
       div-lt-iff-lt-mul (pow-pos a) .1
-          (lt-of-lt-of-le (mul-lt-mul-of-pos-right (size-lt n) (pow-pos q)) (le-trans (le-of-eq (mul-comm (2 ^ size n) (2 ^ q))) (mul-le-mul-left (2 ^ q) (pow-mono (length-from f n))))),
+          (lt-of-lt-of-le (mul-lt-mul-of-pos-right (size-lt n) (pow-pos q))
+          (le-trans (le-of-eq (mul-comm (2 ^ size n) (2 ^ q))) (mul-le-mul-left (2 ^ q) (pow-mono (length-from f n))))),
     )
 
 -- ---- s/2^(2e) is that whole number, where s has at most p digits
@@ -189,7 +191,9 @@ zeroes-left p N q r e h l = elim (decLe r p) [
   | no g ↦ let part = q * 2 ^ (r - p) in
       let double : 2 * p ≡ p + p = omega arith in
       let is : N ≡ part * 2 ^ p = e ∙ ap (λ (n : ℕ). q * 2 ^ n) (sym (back r p (le-of-lt (lt-of-not-le g)))) ∙ ap (λ (n : ℕ). q * n) (pow-add 2 (r - p) p) ∙ sym (mul-assoc q (2 ^ (r - p)) (2 ^ p)) in
-      let few : part < 2 ^ p = lt-of-mul-lt-mul-right (2 ^ p) (subst (λ (n : ℕ). part * 2 ^ p < n) (ap (λ (n : ℕ). 2 ^ n) double ∙ pow-add 2 p p) (subst (λ (n : ℕ). n < 2 ^ (2 * p)) is l)) in
+      let few : part < 2 ^ p
+      = lt-of-mul-lt-mul-right (2 ^ p)
+      (subst (λ (n : ℕ). part * 2 ^ p < n) (ap (λ (n : ℕ). 2 ^ n) double ∙ pow-add 2 p p) (subst (λ (n : ℕ). n < 2 ^ (2 * p)) is l)) in
       subst (λ (n : ℕ). n ≤ (2 ^ p - 1) * 2 ^ p) (sym is) (mul-le-mul-right (2 ^ p) (le-ones p few))
 ]
 
