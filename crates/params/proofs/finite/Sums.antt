@@ -49,7 +49,8 @@ adding-more sums₀ components sums k more size a = record {
     | yes t ↦ getD-set-other sums k c sum nan (λ e. absurd (omega arith)) ∙ a .done c t
     | no t ↦
         let e : c ≡ k = omega arith in
-        rw e (getD-set-same sums k sum nan (omega (arith, a .long, size)) ∙ ap (λ (x : Float). add binary32 x (getD components k nan)) (a .left k (omega arith)))
+        rw e
+        (getD-set-same sums k sum nan (omega (arith, a .long, size)) ∙ ap (λ (x : Float). add binary32 x (getD components k nan)) (a .left k (omega arith)))
   ];
   left = λ c h. getD-set-other sums k c sum nan (λ e. absurd (omega arith)) ∙ a .left c (omega arith);
 }
