@@ -19,7 +19,8 @@ returns c =
     let at-word-at = at-word-at2 .before in
     rw (at-within-limits .within-limits .ensures, at-params-of .params-of .ensures, at-dimension-within .dimension-within .ensures)
     (rw (at-capacity-within .capacity-within .ensures, at-word-at6 .word-at6 .ensures, c .before .word-at7 .ensures, c .word-at8 .ensures)
-    (rw (at-word-at5 .word-at5 .ensures, at-word-at4 .word-at4 .ensures, at-word-at3 .word-at3 .ensures, at-word-at2 .word-at2 .ensures, at-word-at .word-at .ensures)))
+    (rw (at-word-at5 .word-at5 .ensures, at-word-at4 .word-at4 .ensures, at-word-at3 .word-at3 .ensures)
+    (rw (at-word-at2 .word-at2 .ensures, at-word-at .word-at .ensures))))
 
 pub header-ok-spec : {M : Type 1} → statement M
 header-ok-spec =

@@ -59,9 +59,9 @@ returns c =
     let at-word-at3 = at-word-at4 .before in
     let at-word-at2 = at-word-at3 .before in
     let at-word-at = at-word-at2 .before in
-    rw (c .all-finite .ensures, at-bridges-ok .bridges-ok .ensures, at-rows-ok .rows-ok .ensures, at-bridges-at .bridges-at .ensures, at-rows-at .rows-at .ensures)
-    (rw (at-floats-size .floats-size .ensures, at-word-at5 .word-at5 .ensures, at-word-at4 .word-at4 .ensures, at-word-at3 .word-at3 .ensures)
-    (rw (at-word-at2 .word-at2 .ensures, at-word-at .word-at .ensures)))
+    rw (c .all-finite .ensures, at-bridges-ok .bridges-ok .ensures, at-rows-ok .rows-ok .ensures, at-bridges-at .bridges-at .ensures)
+    (rw (at-rows-at .rows-at .ensures, at-floats-size .floats-size .ensures, at-word-at5 .word-at5 .ensures, at-word-at4 .word-at4 .ensures)
+    (rw (at-word-at3 .word-at3 .ensures, at-word-at2 .word-at2 .ensures, at-word-at .word-at .ensures)))
 
 pub rest-ok-spec : {M : Type 1} → statement M
 rest-ok-spec =
