@@ -30,7 +30,8 @@ unfolding newSpec
 returns c = left-alone (refusal (c .before .before .before .before .before .before)) _ _ _ _ _ (c .before .new-refusal .ensures) (c .if1 .taken)
 
 -- the floats' size lies within the store
-room : (c : tie.After-floats-size) → c .floats-size .result ≤ length (c .before .before .before .before .before .before .before .before .before .args .floats .now)
+room : (c : tie.After-floats-size)
+    → c .floats-size .result ≤ length (c .before .before .before .before .before .before .before .before .before .args .floats .now)
 room c = rw (c .floats-size .ensures) (taken (c .before .before .before) .floats)
 
 returns-2 : tie.Need-returns-2
