@@ -35,14 +35,8 @@ workedVectors = (+one ∷ +zero ∷ []) ∷ (+zero ∷ +one ∷ []) ∷ (-one �
 
 abbrev pub workedSettings : Settings
 workedSettings = record {
-  dimension = 2;
-  maxLeafSize = 256;
-  minLeafSize = 0;
-  leaderFraction = half;
-  maxDegree = 1;
-  numHashBits = 0;
-  finalPrune = true;
-  alpha = alpha;
+  dimension = 2; maxLeafSize = 256; minLeafSize = 0; leaderFraction = half;
+  maxDegree = 1; numHashBits = 0; finalPrune = true; alpha = alpha;
 }
 
 -- node 1's two neighbours are equally near and meet in the one cell: the first stays
@@ -90,14 +84,8 @@ leafVectors = (+zero ∷ half ∷ []) ∷ (-one ∷ +one ∷ []) ∷ (half ∷ +
 
 leafSettings : Settings
 leafSettings = record {
-  dimension = 2;
-  maxLeafSize = 256;
-  minLeafSize = 2;
-  leaderFraction = threeQuarters;
-  maxDegree = 2;
-  numHashBits = 3;
-  finalPrune = true;
-  alpha = alpha;
+  dimension = 2; maxLeafSize = 256; minLeafSize = 2; leaderFraction = threeQuarters;
+  maxDegree = 2; numHashBits = 3; finalPrune = true; alpha = alpha;
 }
 
 leaf-rows : leafRows leafSettings leafVectors ≡ (1 ∷ []) ∷ (0 ∷ []) ∷ (1 ∷ 0 ∷ []) ∷ []
@@ -128,14 +116,8 @@ twiceVectors =
 
 twiceSettings : Settings
 twiceSettings = record {
-  dimension = 2;
-  maxLeafSize = 3;
-  minLeafSize = 2;
-  leaderFraction = threeQuarters;
-  maxDegree = 3;
-  numHashBits = 3;
-  finalPrune = true;
-  alpha = alpha;
+  dimension = 2; maxLeafSize = 3; minLeafSize = 2; leaderFraction = threeQuarters;
+  maxDegree = 3; numHashBits = 3; finalPrune = true; alpha = alpha;
 }
 
 twice-leaves : leavesOf 3 2 threeQuarters twiceVectors ≡ (0 ∷ 3 ∷ []) ∷ (2 ∷ 4 ∷ 5 ∷ []) ∷ (0 ∷ 3 ∷ []) ∷ (1 ∷ 1 ∷ []) ∷ (2 ∷ 4 ∷ 5 ∷ []) ∷ []
@@ -155,14 +137,8 @@ twice-entry = refl
 -- the earlier entry stays; with one, the residual of a node with itself, 0, sets its bit, so the other node has the lower hash.
 pairSettings : ℕ → Settings
 pairSettings bits = record {
-  dimension = 1;
-  maxLeafSize = 1;
-  minLeafSize = 3;
-  leaderFraction = threeQuarters;
-  maxDegree = 1;
-  numHashBits = bits;
-  finalPrune = true;
-  alpha = alpha;
+  dimension = 1; maxLeafSize = 1; minLeafSize = 3; leaderFraction = threeQuarters;
+  maxDegree = 1; numHashBits = bits; finalPrune = true; alpha = alpha;
 }
 
 pair-equal : rowsOf (pairSettings 0) ((+one ∷ []) ∷ (+one ∷ []) ∷ []) ≡ (1 ∷ []) ∷ (0 ∷ []) ∷ []

@@ -1,8 +1,7 @@
 -- What demand 3 asks of the graph before repair: as many rows as nodes, entries below that number, at most max_degree of them a row, and an
 -- entry node among the nodes. The final prune changes nothing. Assumes nothing.
 use mathlib.Core.Path.{_≡_, refl, sym, subst}
-use mathlib.Core.List.{List, []}
-use mathlib.Core.List.{List·Memᴰ as In}
+use mathlib.Core.List.{List, [], List·Memᴰ as In}
 use Prim.Native.Nat.{ℕ, _≤_, _<_}
 use lib.ListN.{length, getD}
 use lib.Ieee.{Float}

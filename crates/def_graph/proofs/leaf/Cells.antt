@@ -34,8 +34,8 @@ module _ (far : ℕ → Float) (new : Cell) where
       pick-ind Came (ltb (new .hash) (old .hash)) (λ _ m. in-cons m)
       (λ _. pick-ind Came (eqb (new .hash) (old .hash))
       (λ _ m. pick-ind (λ (c : Cell). (x ≡ part c) ⊎ In x (map part cells) → (x ≡ part new) ⊎ In x (map part (old ∷ cells)))
-      (lt (far (new .node)) (far (old .node))) (λ _. first) (λ _. second) (in-cons m))
-      (λ _ m. later rec (in-cons m)))
+      (lt (far (new .node)) (far (old .node))) (λ _. first) (λ _. elim [ inl e ↦ inr (here e) | inr i ↦ inr (there i) ]) (in-cons m))
+      (λ _ m. elim (in-cons {b = part old} {l = map part (putCell far new cells)} m) [ inl e ↦ inr (here e) | inr i ↦ first (rec i) ]))
     where
       Came : List Cell → Type 0
       Came l = In x (map part l) → (x ≡ part new) ⊎ In x (map part (old ∷ cells))
@@ -43,18 +43,6 @@ module _ (far : ℕ → Float) (new : Cell) where
       first : (x ≡ part new) ⊎ In x (map part cells) → (x ≡ part new) ⊎ In x (map part (old ∷ cells))
       first (inl e) = inl e
       first (inr i) = inr (there i)
-
-      second : (x ≡ part old) ⊎ In x (map part cells) → (x ≡ part new) ⊎ In x (map part (old ∷ cells))
-      second (inl e) = inr (here e)
-      second (inr i) = inr (there i)
-
-      later : (In x (map part (putCell far new cells)) → (x ≡ part new) ⊎ In x (map part cells))
-          → (x ≡ part old) ⊎ In x (map part (putCell far new cells)) → (x ≡ part new) ⊎ In x (map part (old ∷ cells))
-      later rec (inl e) = inr (here e)
-      later rec (inr i) = first (rec i)
-
-  came-hash : (x : ℕ) (cells : List Cell) → In x (hashesIn (putCell far new cells)) → (x ≡ new .hash) ⊎ In x (hashesIn cells)
-  came-hash = came (λ (c : Cell). c .hash)
 
   put-rising : (cells : List Cell) → Rising (hashesIn cells) → Rising (hashesIn (putCell far new cells))
   unfolding putCell
@@ -64,8 +52,8 @@ module _ (far : ℕ → Float) (new : Cell) where
       pick-ind Up (ltb (new .hash) (old .hash)) (λ t. ((λ y m. below (ltb→lt (new .hash) (old .hash) t) y (in-cons m)), r))
       (λ t. pick-ind Up (eqb (new .hash) (old .hash))
       (λ e. pick-ind (λ (c : Cell). Rising (c .hash ∷ hashesIn cells)) (lt (far (new .node)) (far (old .node)))
-      (λ _. (same (eqb→eq (new .hash) (old .hash) e), r .1)) (λ _. r))
-      (λ e. ((λ y m. above (ltb-no t) (eqb-no e) y (came-hash y cells m)), rec)))
+      (λ _. ((λ y i. omega (arith, eqb→eq (new .hash) (old .hash) e, r .0 y i)), r .1)) (λ _. r))
+      (λ e. ((λ y m. above (ltb-no t) (eqb-no e) y (came (λ (c : Cell). c .hash) y cells m)), rec)))
     where
       Up : List Cell → Type 0
       Up l = Rising (hashesIn l)
@@ -73,9 +61,6 @@ module _ (far : ℕ → Float) (new : Cell) where
       below : new .hash < old .hash → (y : ℕ) → (y ≡ old .hash) ⊎ In y (hashesIn cells) → new .hash < y
       below h y (inl e) = omega arith
       below h y (inr i) = let k = r .0 y i in omega arith
-
-      same : new .hash ≡ old .hash → (y : ℕ) → In y (hashesIn cells) → new .hash < y
-      same e y i = let k = r .0 y i in omega arith
 
       above : old .hash ≤ new .hash → new .hash ≢ old .hash → (y : ℕ) → (y ≡ new .hash) ⊎ In y (hashesIn cells) → old .hash < y
       above h f y (inl e) = omega arith
@@ -112,12 +97,9 @@ module _ (far : ℕ → Float) (hash : ℕ → ℕ) where
       → In x (nodesIn (cellsFrom far hash cells candidates)) → In x (nodesIn cells) ⊎ In x candidates
   unfolding cellsFrom
   cells-in x cells [] m = inl m
-  cells-in x cells (c ∷ candidates) m = go (cells-in x (putCell far (record { hash = hash c; node = c }) cells) candidates m)
-    where
-      new : (x ≡ c) ⊎ In x (nodesIn cells) → In x (nodesIn cells) ⊎ In x (c ∷ candidates)
-      new (inl e) = inr (here e)
-      new (inr i) = inl i
-
-      go : In x (nodesIn (putCell far (record { hash = hash c; node = c }) cells)) ⊎ In x candidates → In x (nodesIn cells) ⊎ In x (c ∷ candidates)
-      go (inl i) = new (came far (record { hash = hash c; node = c }) (λ (d : Cell). d .node) x cells i)
-      go (inr i) = inr (there i)
+  cells-in x cells (c ∷ candidates) m =
+      let new : Cell = record { hash = hash c; node = c } in
+      elim (cells-in x (putCell far new cells) candidates m) [
+        | inl i ↦ elim (came far new (λ (d : Cell). d .node) x cells i) [ inl e ↦ inr (here e) | inr j ↦ inl j ]
+        | inr i ↦ inr (there i)
+      ]

@@ -3,7 +3,7 @@ use mathlib.Core.Path.{_≡_, refl}
 use mathlib.Core.Logic.{_⊎_, inl, inr}
 use mathlib.Core.List.{List, [], _∷_, _++_}
 use mathlib.Core.List.{List·Memᴰ as In, List·Memᴰ·head as here, List·Memᴰ·tail as there, List·Memᴰ·not-nil as in-nil, List·Memᴰ·cases-cons as in-cons, List·Memᴰ·append-cases as in-cases}
-use Prim.Native.Nat.{ℕ, zero, suc, _+_, _-_, _*_, _^_, _≤_, _<_}
+use Prim.Native.Nat.{ℕ, zero, suc, _+_, _*_, _^_, _≤_, _<_}
 use native.Mathlib.Nat.{pow-suc}
 use native.Mathlib.Omega.{arith}
 use lib.Dec.{leb}
@@ -35,11 +35,8 @@ unfolding dedup
 dedup-in [] = λ m. m
 dedup-in {x} (y ∷ l) =
     let rec : In x (dedup l) → In x l = dedup-in l in
-    pick-ind (λ (r : List ℕ). In x r → In x (y ∷ l)) (startsWith y (dedup l)) (λ _ m. there (rec m)) (λ _ m. go rec (in-cons m))
-  where
-    go : (In x (dedup l) → In x l) → (x ≡ y) ⊎ In x (dedup l) → In x (y ∷ l)
-    go rec (inl e) = here e
-    go rec (inr i) = there (rec i)
+    pick-ind (λ (r : List ℕ). In x r → In x (y ∷ l)) (startsWith y (dedup l)) (λ _ m. there (rec m))
+    (λ _ m. elim (in-cons {b = y} {l = dedup l} m) [ inl e ↦ here e | inr i ↦ there (rec i) ])
 
 pub merged-in : {x : ℕ} (maxDegree : ℕ) (vs : List (List Float)) (p : ℕ) (row new : List ℕ) → In x (merged maxDegree vs p row new) → In x row ⊎ In x new
 unfolding merged
@@ -51,11 +48,9 @@ merged-short maxDegree vs p row new = omega (arith, length-take maxDegree (dedup
 
 pub candidates-in : {x : ℕ} (maxDegree : ℕ) (vs : List (List Float)) (leaf : List ℕ) (i : ℕ) → In x (candidatesAt maxDegree vs leaf i) → In x leaf
 unfolding candidatesAt
-candidates-in {x} maxDegree vs leaf i m = go (in-cases (take i leaf) (in-sort (rank vs (getD leaf i 0)) _ (in-take (offered maxDegree leaf) _ m)))
-  where
-    go : In x (take i leaf) ⊎ In x (drop (suc i) leaf) → In x leaf
-    go (inl k) = in-take i leaf k
-    go (inr k) = in-drop (suc i) leaf k
+candidates-in maxDegree vs leaf i m =
+    elim (in-cases (take i leaf) (in-sort (rank vs (getD leaf i 0)) _ (in-take (offered maxDegree leaf) _ m)))
+    [ inl k ↦ in-take i leaf k | inr k ↦ in-drop (suc i) leaf k ]
 
 -- at most 2·max_degree of them, so no more cells
 pub candidates-few : (maxDegree : ℕ) (vs : List (List Float)) (leaf : List ℕ) (i : ℕ) → length (candidatesAt maxDegree vs leaf i) ≤ 2 * maxDegree
@@ -67,11 +62,8 @@ module _ (maxDegree bits dimension : ℕ) (vs : List (List Float)) where
   pub selected-in : {x : ℕ} (p : ℕ) (candidates : List ℕ) → In x (selected maxDegree bits dimension vs p candidates) → In x candidates
   unfolding selected
   selected-in {x} p candidates m =
-      go (cells-in (between vs p) (hashOf bits dimension vs p) x [] candidates (in-sort (rank vs p) _ (in-take maxDegree _ m)))
-    where
-      go : In x [] ⊎ In x candidates → In x candidates
-      go (inl i) = absurd (in-nil i)
-      go (inr i) = i
+      elim (cells-in (between vs p) (hashOf bits dimension vs p) x [] candidates (in-sort (rank vs p) _ (in-take maxDegree _ m)))
+      [ inl i ↦ absurd (in-nil i) | inr i ↦ i ]
 
   -- ---- the rows
 
@@ -80,11 +72,9 @@ module _ (maxDegree bits dimension : ℕ) (vs : List (List Float)) where
         → Below n candidates → Rows n maxDegree rows → Rows n maxDegree (hashpruneInsert maxDegree bits dimension vs p candidates rows)
     unfolding hashpruneInsert
     insert-rows p candidates rows below h =
-        set-rows n maxDegree rows p _ h (merged-short maxDegree vs p (getD rows p []) (selected maxDegree bits dimension vs p candidates)) (λ x m. go x (merged-in maxDegree vs p (getD rows p []) (selected maxDegree bits dimension vs p candidates) m))
-      where
-        go : (x : ℕ) → In x (getD rows p []) ⊎ In x (selected maxDegree bits dimension vs p candidates) → x < n
-        go x (inl i) = h .inside p x i
-        go x (inr i) = below x (selected-in p candidates i)
+        let new : List ℕ = selected maxDegree bits dimension vs p candidates in
+        set-rows n maxDegree rows p _ h (merged-short maxDegree vs p (getD rows p []) new)
+        (λ x m. elim (merged-in maxDegree vs p (getD rows p []) new m) [ inl i ↦ h .inside p x i | inr i ↦ below x (selected-in p candidates i) ])
 
     places-rows : (leaf : List ℕ) (rows : List (List ℕ)) (i : ℕ)
         → Below n leaf → Rows n maxDegree rows → Rows n maxDegree (placesTo maxDegree bits dimension vs leaf rows i)

@@ -1,6 +1,6 @@
 -- The first numbers of the stream, as a table of them has it. Assumes nothing.
-use mathlib.Core.Path.{_≡_, refl, _∙_, subst}
-use mathlib.Core.List.{[], _∷_, _++_}
+use mathlib.Core.Path.{_≡_, refl, _∙_}
+use mathlib.Core.List.{[], _∷_}
 use Prim.Native.Nat.{ℕ, zero, suc, _<_}
 use native.Mathlib.Omega.{arith}
 use native.Mathlib.Decide.{decLt}
@@ -17,11 +17,7 @@ length-numbers f (suc n) = let r = length-numbers f n in omega (arith, length-ap
 pub number-at : (f : Format) (n k : ℕ) → k < n → getD (planeNumbers f n) k nan ≡ planeNumber f k
 unfolding planeNumbers
 number-at f zero k h = absurd (omega arith)
-number-at f (suc n) k h = go (number-at f n k) (decLt k n)
-  where
-    go : (k < n → getD (planeNumbers f n) k nan ≡ planeNumber f k) → Dec (k < n) → getD (planeNumbers f n ++ (planeNumber f n ∷ [])) k nan ≡ planeNumber f k
-    go rec (yes l) = List·getD-append (planeNumbers f n) _ nan k (omega (arith, length-numbers f n)) ∙ rec l
-    go rec (no l) =
-        let e : n ≡ k = omega arith in
-        subst (λ (j : ℕ). getD (planeNumbers f n ++ (planeNumber f n ∷ [])) j nan ≡ planeNumber f j) e
-        (getD-at (planeNumbers f n) (planeNumber f n) [] nan n (length-numbers f n))
+number-at f (suc n) k h = elim (decLt k n) [
+  | yes l ↦ List·getD-append (planeNumbers f n) _ nan k (omega (arith, length-numbers f n)) ∙ number-at f n k l
+  | no l ↦ let e : k ≡ n = omega arith in rw e (getD-at (planeNumbers f n) (planeNumber f n) [] nan n (length-numbers f n))
+]

@@ -1,8 +1,8 @@
 -- Dealing puts each node into as many buckets as the fanout says, or into those of all leaders if there are fewer: any weight is multiplied by that
 -- number. Assumes nothing.
-use mathlib.Core.Path.{_≡_, refl, sym, ap, _∙_, subst}
-use mathlib.Core.Logic.{_⊎_, inl, inr}
-use mathlib.Core.Bool.{Bool, true, false, not}
+use mathlib.Core.Path.{_≡_, refl, sym, ap, _∙_}
+use mathlib.Core.Logic.{inl, inr}
+use mathlib.Core.Bool.{Bool, true, false}
 use mathlib.Core.List.{List, [], _∷_, map}
 use mathlib.Core.List.{List·Memᴰ as In, List·Memᴰ·head as here, List·Memᴰ·tail as there, List·Memᴰ·not-nil as in-nil, List·Memᴰ·cases-cons as in-cons}
 use Prim.Native.Nat.{ℕ, _+_, _*_, min}
@@ -28,30 +28,17 @@ pub in-keep : {z : ℕ} (test : ℕ → Bool) (l : List ℕ) → In z (keep test
 unfolding keep
 in-keep test [] = λ m. absurd (in-nil m)
 in-keep {z} test (x ∷ l) =
-    let rec : In z (keep test l) → T (test z) × In z l = in-keep test l in
-    pick-ind (λ (k : List ℕ). In z k → T (test z) × In z (x ∷ l)) (test x) (λ t m. go t rec (in-cons m)) (λ _ m. later (rec m))
-  where
-    later : T (test z) × In z l → T (test z) × In z (x ∷ l)
-    later p = (p .0, there (p .1))
-
-    go : T (test x) → (In z (keep test l) → T (test z) × In z l) → (z ≡ x) ⊎ In z (keep test l) → T (test z) × In z (x ∷ l)
-    go t rec (inl e) = (subst (λ (y : ℕ). T (test y)) (sym e) t, here e)
-    go t rec (inr i) = later (rec i)
+    let later : In z (keep test l) → T (test z) × In z (x ∷ l) = λ m. let p = in-keep test l m in (p .0, there (p .1)) in
+    pick-ind (λ (k : List ℕ). In z k → T (test z) × In z (x ∷ l)) (test x)
+    (λ t m. elim (in-cons {b = x} {l = keep test l} m) [ inl e ↦ (rw e t, here e) | inr i ↦ later i ]) (λ _ m. later m)
 
 keep-in : {z : ℕ} (test : ℕ → Bool) (l : List ℕ) → T (test z) → In z l → In z (keep test l)
 unfolding keep
 keep-in test [] t m = m
 keep-in {z} test (x ∷ l) t m =
     let rec : In z l → In z (keep test l) = keep-in test l t in
-    pick-ind (In z) (test x) (λ _. first rec (in-cons m)) (λ u. second u rec (in-cons m))
-  where
-    first : (In z l → In z (keep test l)) → (z ≡ x) ⊎ In z l → In z (x ∷ keep test l)
-    first rec (inl e) = here e
-    first rec (inr i) = there (rec i)
-
-    second : T (not (test x)) → (In z l → In z (keep test l)) → (z ≡ x) ⊎ In z l → In z (keep test l)
-    second u rec (inl e) = absurd (lib.Dec.T-not (test x) u (subst (λ (y : ℕ). T (test y)) e t))
-    second u rec (inr i) = rec i
+    pick-ind (In z) (test x) (λ _. elim (in-cons m) [ inl e ↦ here e | inr i ↦ there (rec i) ])
+    (λ u. elim (in-cons m) [ inl e ↦ absurd (lib.Dec.T-not (test x) u (rw e at t)) | inr i ↦ rec i ])
 
 nodup-keep : (test : ℕ → Bool) (l : List ℕ) → NoDup l → NoDup (keep test l)
 unfolding keep

@@ -1,11 +1,10 @@
 -- The laws of carving: over all leaves each node below n occurs once if n ≤ max_leaf_size, else exactly twice, and no other number does.
 -- They are one law on weights: dealing multiplies a weight by the fanout, gathering keeps it, and from level 1 on the fanout is one. Assumes
 -- nothing.
-use mathlib.Core.Path.{_≡_, refl, ap, ap₂, _∙_}
-use mathlib.Core.Logic.{_⊎_, inl, inr}
+use mathlib.Core.Path.{_≡_, refl, ap, _∙_}
+use mathlib.Core.Logic.{inl, inr}
 use mathlib.Core.Bool.{Bool, true, false, not}
-use mathlib.Core.List.{List, [], _∷_, _++_}
-use mathlib.Core.List.{List·Memᴰ as In, List·Memᴰ·not-nil as in-nil, List·Memᴰ·cases-cons as in-cons}
+use mathlib.Core.List.{List, [], _∷_, List·Memᴰ as In, List·Memᴰ·not-nil as in-nil, List·Memᴰ·cases-cons as in-cons}
 use Prim.Native.Nat.{ℕ, zero, suc, _+_, _*_, _≤_, _<_, min}
 use native.Mathlib.Omega.{arith}
 use native.Mathlib.Nat.{one-mul, mul-zero}
@@ -83,18 +82,14 @@ module _ (maxLeaf minLeaf : ℕ) (fraction : Float) (vs : List (List Float)) (w 
       → weighAll w (carved level ids) ≡ spread maxLeaf fraction level ids * weigh w ids
   unfolding pick
   level-weight level keeps ids =
-      ap (weighAll w) (segment-equation maxLeaf minLeaf fraction vs level ids)
-      ∙ go (isLeaf maxLeaf level ids)
+      ap (weighAll w) (segment-equation maxLeaf minLeaf fraction vs level ids) ∙ go (isLeaf maxLeaf level ids)
     where
       dealtOut : List (List ℕ)
       dealtOut = carveBuckets maxLeaf minLeaf fraction vs (level + 1) (bucketsOf minLeaf fraction vs level ids)
 
-      down : weighAll w dealtOut ≡ min (fanout level) (leaderCount (length ids) fraction) * weigh w ids
-      down = each-weight (level + 1) keeps _ ∙ buckets-weight level ids
-
       go : (b : Bool) → weighAll w (pick b (ids ∷ []) dealtOut) ≡ pick b 1 (min (fanout level) (leaderCount (length ids) fraction)) * weigh w ids
       go true = omega arith
-      go false = down
+      go false = each-weight (level + 1) keeps _ ∙ buckets-weight level ids
 
   -- from level 1 on every weight stays
   below : (left level : ℕ) → 21 ≤ level + left → 0 < level → (ids : List ℕ) → weighAll w (carved level ids) ≡ weigh w ids
@@ -127,11 +122,10 @@ spread-large : (maxLeaf : ℕ) (fraction : Float) (n : ℕ) → 1 ≤ maxLeaf �
 unfolding isLeaf fanout pick
 spread-large maxLeaf fraction n h k =
     pick-ind (λ (c : ℕ). c ≡ 2) (isLeaf maxLeaf 0 (upTo n))
-    (λ t. absurd (go (or-yes (leb (length (upTo n)) maxLeaf) (eqb (fanout 0) 0) t))) (λ _. omega (arith, length-upTo n))
-  where
-    go : T (leb (length (upTo n)) maxLeaf) ⊎ T (eqb (fanout 0) 0) → ⊥
-    go (inl t) = omega (arith, leb→le (length (upTo n)) maxLeaf t, length-upTo n)
-    go (inr t) = t
+    (λ t. absurd (elim (or-yes (leb (length (upTo n)) maxLeaf) (eqb (fanout 0) 0) t) [
+      | inl u ↦ omega (arith, leb→le (length (upTo n)) maxLeaf u, length-upTo n)
+      | inr u ↦ u
+    ])) (λ _. omega (arith, length-upTo n))
 
 -- ---- one node's weight
 
@@ -149,21 +143,17 @@ weight-out (suc n) x h =
 weight-in : (n x : ℕ) → x < n → weigh (one x) (upTo n) ≡ 1
 unfolding upTo
 weight-in zero x h = absurd (omega arith)
-weight-in (suc n) x h = go (weight-in n x) (decLt x n)
-  where
-    more : weigh (one x) (upTo n ++ (n ∷ [])) ≡ weigh (one x) (upTo n) + (one x n + 0)
-    more = weigh-append (one x) (upTo n) (n ∷ [])
+weight-in (suc n) x h = elim (decLt x n) [
+  | yes k ↦
+      let e : one x n ≡ 0 = pick-no (eqb x n) 1 0 (no-eqb {a = x} {b = n} (λ (q : x ≡ n). absurd (omega arith))) in
+      omega (arith, weight-in n x k, weigh-append (one x) (upTo n) (n ∷ []))
+  | no k ↦
+      let q : x ≡ n = omega arith in
+      let e : one x n ≡ 1 = pick-yes (eqb x n) 1 0 (yes-eqb q) in
+      omega (arith, weight-out n x (omega arith), weigh-append (one x) (upTo n) (n ∷ []))
+]
 
-    go : (x < n → weigh (one x) (upTo n) ≡ 1) → Dec (x < n) → weigh (one x) (upTo n ++ (n ∷ [])) ≡ 1
-    go rec (yes k) =
-        let e : one x n ≡ 0 = pick-no (eqb x n) 1 0 (no-eqb {a = x} {b = n} (λ (q : x ≡ n). absurd (omega arith))) in
-        omega (arith, rec k, more)
-    go rec (no k) =
-        let q : x ≡ n = omega arith in
-        let e : one x n ≡ 1 = pick-yes (eqb x n) 1 0 (yes-eqb q) in
-        omega (arith, weight-out n x (omega arith), more)
-
-weight-length : (l : List ℕ) → weigh (λ (y : ℕ). 1) l ≡ length l
+pub weight-length : (l : List ℕ) → weigh (λ (y : ℕ). 1) l ≡ length l
 weight-length [] = refl
 weight-length (x ∷ l) = let r = weight-length l in omega arith
 
@@ -173,25 +163,20 @@ module _ (maxLeaf minLeaf : ℕ) (fraction : Float) (vs : List (List Float)) whe
 
   pub each-once : length vs ≤ maxLeaf → (x : ℕ) → x < length vs → occurrences x leaves ≡ 1
   each-once h x k =
-      leaves-weight maxLeaf minLeaf fraction vs (one x)
-      ∙ ap₂ (λ (c : ℕ) (d : ℕ). c * d) (spread-small maxLeaf fraction (length vs) h) (weight-in (length vs) x k)
+      leaves-weight maxLeaf minLeaf fraction vs (one x) ∙ rw (spread-small maxLeaf fraction (length vs) h, weight-in (length vs) x k)
 
   pub each-twice : 1 ≤ maxLeaf → maxLeaf < length vs → (x : ℕ) → x < length vs → occurrences x leaves ≡ 2
   each-twice h k x l =
-      leaves-weight maxLeaf minLeaf fraction vs (one x)
-      ∙ ap₂ (λ (c : ℕ) (d : ℕ). c * d) (spread-large maxLeaf fraction (length vs) h k) (weight-in (length vs) x l)
+      leaves-weight maxLeaf minLeaf fraction vs (one x) ∙ rw (spread-large maxLeaf fraction (length vs) h k, weight-in (length vs) x l)
 
   -- so there are n entries, or 2·n
   pub entries-once : length vs ≤ maxLeaf → entries leaves ≡ length vs
   entries-once h =
-      leaves-weight maxLeaf minLeaf fraction vs (λ y. 1)
-      ∙ ap₂ (λ (c : ℕ) (d : ℕ). c * d) (spread-small maxLeaf fraction (length vs) h) (weight-length (upTo (length vs)) ∙ length-upTo (length vs))
-      ∙ one-mul (length vs)
+      leaves-weight maxLeaf minLeaf fraction vs (λ y. 1) ∙ rw (spread-small maxLeaf fraction (length vs) h, weight-length, length-upTo, one-mul)
 
   pub entries-twice : 1 ≤ maxLeaf → maxLeaf < length vs → entries leaves ≡ 2 * length vs
   entries-twice h k =
-      leaves-weight maxLeaf minLeaf fraction vs (λ y. 1)
-      ∙ ap₂ (λ (c : ℕ) (d : ℕ). c * d) (spread-large maxLeaf fraction (length vs) h k) (weight-length (upTo (length vs)) ∙ length-upTo (length vs))
+      leaves-weight maxLeaf minLeaf fraction vs (λ y. 1) ∙ rw (spread-large maxLeaf fraction (length vs) h k, weight-length, length-upTo)
 
   -- ---- no other number occurs
 
@@ -208,28 +193,18 @@ module _ (maxLeaf minLeaf : ℕ) (fraction : Float) (vs : List (List Float)) whe
 
   all-inside : weighAll outside leaves ≡ 0
   all-inside =
-      leaves-weight maxLeaf minLeaf fraction vs outside
-      ∙ ap (λ (d : ℕ). spread maxLeaf fraction 0 (upTo (length vs)) * d) (none-outside (length vs) (omega arith))
-      ∙ mul-zero (spread maxLeaf fraction 0 (upTo (length vs)))
+      leaves-weight maxLeaf minLeaf fraction vs outside ∙ rw (none-outside (length vs) (omega arith), mul-zero)
 
   inside : (leaf : List ℕ) → weigh outside leaf ≡ 0 → Below (length vs) leaf
   inside [] e x m = absurd (in-nil m)
-  inside (y ∷ leaf) e x m = go (inside leaf (omega arith) x) (in-cons m)
-    where
-      first : outside y ≡ 0 → y < length vs
-      first = pick-ind (λ (d : ℕ). d ≡ 0 → y < length vs) (ltb y (length vs)) (λ t _. ltb→lt y (length vs) t) (λ _ f. absurd (omega arith))
-
-      go : (In x leaf → x < length vs) → (x ≡ y) ⊎ In x leaf → x < length vs
-      go rec (inl q) = omega (arith, first (omega arith))
-      go rec (inr i) = rec i
+  inside (y ∷ leaf) e x m =
+      let first : outside y ≡ 0 → y < length vs =
+          pick-ind (λ (d : ℕ). d ≡ 0 → y < length vs) (ltb y (length vs)) (λ t _. ltb→lt y (length vs) t) (λ _ f. absurd (omega arith)) in
+      elim (in-cons m) [ inl q ↦ omega (arith, first (omega arith)) | inr i ↦ inside leaf (omega arith) x i ]
 
   pub leaves-below : (leaf : List ℕ) → In leaf leaves → Below (length vs) leaf
   leaves-below leaf m = inside leaf (part leaves m all-inside)
     where
       part : (ls : List (List ℕ)) → In leaf ls → weighAll outside ls ≡ 0 → weigh outside leaf ≡ 0
       part [] i e = absurd (in-nil i)
-      part (l ∷ ls) i e = go (λ j. part ls j (omega arith)) (in-cons i)
-        where
-          go : (In leaf ls → weigh outside leaf ≡ 0) → (leaf ≡ l) ⊎ In leaf ls → weigh outside leaf ≡ 0
-          go rec (inl q) = ap (weigh outside) q ∙ omega arith
-          go rec (inr j) = rec j
+      part (l ∷ ls) i e = elim (in-cons i) [ inl q ↦ ap (weigh outside) q ∙ omega arith | inr j ↦ part ls j (omega arith) ]

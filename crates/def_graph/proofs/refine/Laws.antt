@@ -1,9 +1,8 @@
 -- Reverse edges keep the rows within max_degree, so that the final prune, which skips such rows, changes nothing. Assumes nothing.
 use mathlib.Core.Path.{_≡_, refl, ap, _∙_}
-use mathlib.Core.Logic.{_⊎_, inl, inr}
+use mathlib.Core.Logic.{inl, inr}
 use mathlib.Core.Bool.{not}
-use mathlib.Core.List.{List, [], _∷_, _++_}
-use mathlib.Core.List.{List·Memᴰ as In, List·Memᴰ·append-cases as in-cases, List·Memᴰ·eq-of-singleton as in-one}
+use mathlib.Core.List.{List, [], _∷_, _++_, List·Memᴰ·append-cases as in-cases, List·Memᴰ·eq-of-singleton as in-one}
 use Prim.Native.Nat.{ℕ, zero, suc, _≤_, _<_}
 use native.Mathlib.Omega.{arith}
 use lib.Dec.{T, leb, ltb, ltb→lt}
@@ -28,17 +27,10 @@ module _ (n maxDegree : ℕ) where
   back-rows : (i nb : ℕ) (rows : List (List ℕ)) → i < n → Rows n maxDegree rows → Rows n maxDegree (addBack maxDegree i nb rows)
   unfolding addBack
   back-rows i nb rows l h =
+      let row : List ℕ = getD rows nb [] in
       pick-ind (Rows n maxDegree) (takes maxDegree i row)
-      (λ t. set-rows n maxDegree rows nb (row ++ (i ∷ [])) h
-      (omega (arith, length-append row (i ∷ []), takes-room maxDegree i row t))
-      (λ v m. go v (in-cases row m))) (λ _. h)
-    where
-      row : List ℕ
-      row = getD rows nb []
-
-      go : (v : ℕ) → In v row ⊎ In v (i ∷ []) → v < n
-      go v (inl m) = h .inside nb v m
-      go v (inr m) = let q = in-one m in omega arith
+      (λ t. set-rows n maxDegree rows nb (row ++ (i ∷ [])) h (omega (arith, length-append row (i ∷ []), takes-room maxDegree i row t))
+      (λ v m. elim (in-cases row m) [ inl k ↦ h .inside nb v k | inr k ↦ let q = in-one k in omega arith ])) (λ _. h)
 
   backs-rows : (i : ℕ) (nbs : List ℕ) (rows : List (List ℕ)) → i < n → Rows n maxDegree rows → Rows n maxDegree (addBacks maxDegree i nbs rows)
   unfolding addBacks
