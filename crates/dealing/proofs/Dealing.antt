@@ -22,7 +22,7 @@ use Rattle.def_graph.specs.Inside.Occurrences.{entries}
 use Rattle.def_graph.proofs.partition.Dealing.{nearest-below, nearest-length, dealt-weight}
 use Rattle.dealing.specs.Inside.Deal.{Fitting}
 use Rattle.dealing.specs.Inside.Cards.{cardOf, names, bucketAt, bucketsBy}
-use Rattle.dealing.proofs.Gathering.{ones}
+use Rattle.def_graph.proofs.partition.Laws.{weight-length}
 
 or-same : (a : Bool) → (a || a) ≡ (a || false)
 or-same true = refl
@@ -70,11 +70,8 @@ module _ (vs : List (List Float)) (fan : ℕ) (leaders : List ℕ) (some : 1 ≤
 
   pub all-dealt : (ids : List ℕ) → entries (bucketsBy (length leaders) ids (map card ids)) ≡ fan * length ids
   all-dealt ids =
-      ap entries (by-cards ids) ∙ dealt-weight (λ (y : ℕ). 1) vs fan leaders ids
-      ∙ ap₂ (λ (m : ℕ) (n : ℕ). m * n) fewer (ones ids)
-    where
-      fewer : min fan (length leaders) ≡ fan
-      fewer = omega arith
+      let fewer : min fan (length leaders) ≡ fan = omega arith in
+      ap entries (by-cards ids) ∙ dealt-weight (λ (y : ℕ). 1) vs fan leaders ids ∙ rw (fewer, weight-length)
 
 -- ---- cards, as a loop over nodes writes them
 
@@ -102,10 +99,7 @@ unfolding drawnInto
 drawn-all level n room out h k =
     let a : min n room ≡ n = omega arith in
     let b : min (length out) n ≡ length out = omega arith in
-    ap (λ (m : ℕ). drawn (min (length out) m) (drawStart level) (upTo m) ++ drop (min (length out) m) out) a
-    ∙ ap (λ (m : ℕ). drawn m (drawStart level) (upTo n) ++ drop m out) b
-    ∙ ap (λ (r : List ℕ). drawn (length out) (drawStart level) (upTo n) ++ r) (drop-of-length-le out {i = length out} (omega arith))
-    ∙ append-nil (drawn (length out) (drawStart level) (upTo n))
+    rw (a, b, drop-of-length-le out {i = length out} (omega arith), append-nil)
 
 -- ---- a card, read from the nearest leaders
 
@@ -169,7 +163,7 @@ module _ (minLeaf : ℕ) (fraction : Float) (vs : List (List Float)) (level fan 
       ∙ all-dealt vs fan leaders some (omega arith) (omega arith) (omega arith) ids
 
 -- a segment that fits has few nodes
-pub few-ids : (level : ℕ) (ids nodes marks : List ℕ) (room cards : ℕ) → Fitting level ids nodes marks room cards → (length ids ≤ 2048) × (length ids ≤ length nodes)
-few-ids level ids nodes marks room cards f =
+pub few-ids : {level : ℕ} {ids nodes marks : List ℕ} {room cards : ℕ} → Fitting level ids nodes marks room cards → (length ids ≤ 2048) × (length ids ≤ length nodes)
+few-ids {level} {ids} f =
     let m = mul-le-mul-right (length ids) (f .deals) in
     (omega (arith, f .nodes-size, f .few), omega (arith, f .nodes-size))

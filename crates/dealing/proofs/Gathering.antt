@@ -1,6 +1,5 @@
 -- Gathering as the slices hold it: one bucket more, and what remains at the end. Assumes nothing.
-use mathlib.Core.Path.{_≡_, refl, sym, ap, ap₂, _∙_, subst}
-use mathlib.Core.Bool.{Bool}
+use mathlib.Core.Path.{_≡_, refl, sym, ap, ap₂, _∙_}
 use mathlib.Core.List.{List, [], _∷_, _++_, map-append, flatten, append-assoc, append-nil}
 use Prim.Native.Nat.{ℕ, zero, suc, _+_, _-_, _≤_, _<_}
 use native.Mathlib.Numerals.{add-one}
@@ -14,8 +13,9 @@ use borrow.Author.Tests.{le-leb, lt-leb, eq-eqb, ne-eqb}
 use Rattle.basics.specs.Choice.{pick, pick-ind, pick-true, pick-false}
 use Rattle.random.specs.Leaders.{upTo}
 use Rattle.def_graph.specs.Partition.{Gathered, gatherOne, gatherAll, ontoLast, gathered}
-use Rattle.def_graph.specs.Inside.Occurrences.{weigh, entries}
+use Rattle.def_graph.specs.Inside.Occurrences.{entries}
 use Rattle.def_graph.proofs.partition.Gathering.{all-weight, weighAll-append}
+use Rattle.def_graph.proofs.partition.Laws.{weight-length}
 use Rattle.dealing.specs.Inside.Marks.{run, marksOf}
 use Rattle.dealing.specs.Inside.Cards.{bucketAt, bucketsBy}
 use Rattle.dealing.specs.Inside.Steps.{Holds, Gathers, Roomy, noneYet}
@@ -23,23 +23,32 @@ use Rattle.dealing.proofs.Marks.{length-run, length-marks, flatten-snoc
 
 -- ---- a part put behind what is placed
 
-module _ (placed : List (List ℕ)) (at : ℕ) (nodes marks part : List ℕ) (size : at ≡ length (flatten placed))
-    (nodes-are : take at nodes ≡ flatten placed) (marks-are : take at marks ≡ marksOf placed) where
-  pub put-size : at + length part ≡ length (flatten (placed ++ (part ∷ [])))
-  put-size = omega (arith, ap length (flatten-snoc placed part), length-append (flatten placed) part)
+-- `part` stands behind the first `at`, and is marked as a bucket
+abbrev Put : List ℕ → ℕ → (nodes marks nodes′ marks′ : List ℕ) → Type 0
+Put part at nodes marks nodes′ marks′ =
+    (nodes′ ≡ take at nodes ++ (part ++ drop (at + length part) nodes)) × (marks′ ≡ take at marks ++ (run 1 (length part) ++ drop (at + length part) marks))
 
-  pub put-nodes : (rest : List ℕ) → take (at + length part) (take at nodes ++ (part ++ rest)) ≡ flatten (placed ++ (part ∷ []))
-  put-nodes rest =
-      ap (take (at + length part)) (sym (append-assoc (take at nodes) part rest))
-      ∙ take-at (take at nodes ++ part) rest (at + length part) (omega (arith, length-append (take at nodes) part, ap length nodes-are))
-      ∙ ap (λ (r : List ℕ). r ++ part) nodes-are ∙ sym (flatten-snoc placed part)
+-- the first words of a slice, once more are put behind them
+put-front : (front part rest : List ℕ) (k : ℕ) → length front + length part ≡ k → take k (front ++ (part ++ rest)) ≡ front ++ part
+put-front front part rest k e = rw (← append-assoc front part rest) (take-at (front ++ part) rest k (omega (arith, length-append front part)))
 
-  pub put-marks : (rest : List ℕ) → take (at + length part) (take at marks ++ (run 1 (length part) ++ rest)) ≡ marksOf (placed ++ (part ∷ []))
-  put-marks rest =
-      ap (take (at + length part)) (sym (append-assoc (take at marks) (run 1 (length part)) rest))
-      ∙ take-at (take at marks ++ run 1 (length part)) rest (at + length part)
-      (omega (arith, length-append (take at marks) (run 1 (length part)), length-run 1 (length part), ap length marks-are, length-marks placed))
-      ∙ ap (λ (r : List ℕ). r ++ run 1 (length part)) marks-are ∙ sym (marks-snoc placed part)
+holds-more : {g : Gathered} {at held : ℕ} {small nodes marks : List ℕ} → Holds g at held small nodes marks
+    → (part nodes′ marks′ : List ℕ) → Put part at nodes marks nodes′ marks′
+    → {held′ : ℕ} {small′ kept : List ℕ} → held′ ≡ length kept → take held′ small′ ≡ kept
+    → Holds (record { placed = g .placed ++ (part ∷ []); small = kept }) (at + length part) held′ small′ nodes′ marks′
+holds-more {g} {at} {held} {small} {nodes} {marks} h part nodes′ marks′ put size kept-is = record {
+  placed-size = omega (arith, h .placed-size, ap length (flatten-snoc (g .placed) part), length-append (flatten (g .placed)) part);
+  small-size = size;
+  placed-nodes =
+      ap (take (at + length part)) (put .0) ∙ put-front (take at nodes) part _ (at + length part) (omega (arith, h .placed-size, ap length (h .placed-nodes)))
+      ∙ rw (h .placed-nodes, flatten-snoc);
+  placed-marks =
+      ap (take (at + length part)) (put .1)
+      ∙ put-front (take at marks) (run 1 (length part)) _ (at + length part)
+      (omega (arith, h .placed-size, ap length (h .placed-marks), length-marks (g .placed), length-run 1 (length part)))
+      ∙ rw (h .placed-marks, marks-snoc);
+  small-nodes = kept-is;
+}
 
 -- ---- the bucket found, behind what has gathered
 
@@ -78,7 +87,7 @@ module _ (minLeaf : ℕ) (g : Gathered) (bucket : List ℕ) where
   unfolding gatherOne
   one-small h k = pick-false _ _ (lt-leb minLeaf (length bucket) h) ∙ pick-false _ _ (lt-leb minLeaf (length (g .small ++ bucket)) k)
 
-module _ (minLeaf : ℕ) (bucket ids cards : List ℕ) (at held : ℕ) (small nodes marks small′ : List ℕ) (end : ℕ)
+module _ (minLeaf : ℕ) {bucket ids cards : List ℕ} {at held : ℕ} {small nodes marks small′ : List ℕ} {end : ℕ}
     (room : Roomy bucket at held ids cards small nodes marks) (size : end ≡ held + length bucket)
     (found : small′ ≡ (take held small ++ bucket) ++ drop end small) where
   within : held ≤ length small
@@ -91,55 +100,31 @@ module _ (minLeaf : ℕ) (bucket ids cards : List ℕ) (at held : ℕ) (small no
   joined-size g h = omega (arith, length-append (g .small) bucket, h .small-size)
 
   -- placed: its own place
-  pub gathers-large : (part nodes′ marks′ : List ℕ) → part ≡ take (end - held) (drop held small′) → minLeaf ≤ end - held
-      → (nodes′ ≡ take at nodes ++ (part ++ drop (at + length part) nodes)) × (marks′ ≡ take at marks ++ (run 1 (length part) ++ drop (at + length part) marks))
-      → Gathers minLeaf bucket at held small nodes marks (at + (end - held)) held small′ nodes′ marks′
-  gathers-large part nodes′ marks′ p large put g h = subst (λ (r : Gathered). Holds r (at + (end - held)) held small′ nodes′ marks′) (sym (one-large minLeaf g bucket (omega arith))) record {
-    placed-size = ends ∙ put-size (g .placed) at nodes marks bucket (h .placed-size) (h .placed-nodes) (h .placed-marks);
-    small-size = h .small-size;
-    placed-nodes = ap₂ take ends (put .0 ∙ ap (λ (r : List ℕ). take at nodes ++ (r ++ drop (at + length r) nodes)) is) ∙ put-nodes (g .placed) at nodes marks bucket (h .placed-size) (h .placed-nodes) (h .placed-marks) (drop (at + length bucket) nodes);
-    placed-marks = ap₂ take ends (put .1 ∙ ap (λ (r : List ℕ). take at marks ++ (run 1 (length r) ++ drop (at + length r) marks)) is) ∙ put-marks (g .placed) at nodes marks bucket (h .placed-size) (h .placed-nodes) (h .placed-marks) (drop (at + length bucket) marks);
-    small-nodes = found-before bucket small small′ held end within size found ∙ h .small-nodes;
-  }
-    where
-      is : part ≡ bucket
-      is = p ∙ found-bucket bucket small small′ held end within size found
-
-      ends : at + (end - held) ≡ at + length bucket
-      ends = omega arith
+  pub gathers-large : {part nodes′ marks′ : List ℕ} → part ≡ take (end - held) (drop held small′) → minLeaf ≤ end - held
+      → Put part at nodes marks nodes′ marks′ → Gathers minLeaf bucket at held small nodes marks (at + (end - held)) held small′ nodes′ marks′
+  gathers-large {part} {nodes′} {marks′} p large put g h =
+      let is : part ≡ bucket = p ∙ found-bucket bucket small small′ held end within size found in
+      let ends : end - held ≡ length part = omega (arith, ap length is) in
+      rw (one-large minLeaf g bucket (omega arith), ← is, ends)
+      (holds-more h part nodes′ marks′ put (h .small-size) (found-before bucket small small′ held end within size found ∙ h .small-nodes))
 
   -- placed with those before it
-  pub gathers-joined : (part nodes′ marks′ : List ℕ) → part ≡ take end small′ → end - held < minLeaf → minLeaf ≤ end
-      → (nodes′ ≡ take at nodes ++ (part ++ drop (at + length part) nodes)) × (marks′ ≡ take at marks ++ (run 1 (length part) ++ drop (at + length part) marks))
-      → Gathers minLeaf bucket at held small nodes marks (at + end) 0 small′ nodes′ marks′
-  gathers-joined part nodes′ marks′ p few enough put g h =
-      subst (λ (r : Gathered). Holds r (at + end) 0 small′ nodes′ marks′) (sym (one-joined minLeaf g bucket (omega arith) (omega (arith, joined-size g h)))) record {
-        placed-size = ends ∙ put-size (g .placed) at nodes marks joined (h .placed-size) (h .placed-nodes) (h .placed-marks);
-        small-size = refl;
-        placed-nodes = ap₂ take ends (put .0 ∙ ap (λ (r : List ℕ). take at nodes ++ (r ++ drop (at + length r) nodes)) is) ∙ put-nodes (g .placed) at nodes marks joined (h .placed-size) (h .placed-nodes) (h .placed-marks) (drop (at + length joined) nodes);
-        placed-marks = ap₂ take ends (put .1 ∙ ap (λ (r : List ℕ). take at marks ++ (run 1 (length r) ++ drop (at + length r) marks)) is) ∙ put-marks (g .placed) at nodes marks joined (h .placed-size) (h .placed-nodes) (h .placed-marks) (drop (at + length joined) marks);
-        small-nodes = refl;
-      }
-    where
-      joined : List ℕ
-      joined = g .small ++ bucket
-
-      is : part ≡ joined
-      is = p ∙ joined-is g h
-
-      ends : at + end ≡ at + length joined
-      ends = omega (arith, joined-size g h)
+  pub gathers-joined : {part nodes′ marks′ : List ℕ} → part ≡ take end small′ → end - held < minLeaf → minLeaf ≤ end
+      → Put part at nodes marks nodes′ marks′ → Gathers minLeaf bucket at held small nodes marks (at + end) 0 small′ nodes′ marks′
+  gathers-joined {part} {nodes′} {marks′} p few enough put g h =
+      let is : part ≡ g .small ++ bucket = p ∙ joined-is g h in
+      let ends : end ≡ length part = omega (arith, ap length is, joined-size g h) in
+      rw (one-joined minLeaf g bucket (omega arith) (omega (arith, joined-size g h)), ← is, ends) (holds-more h part nodes′ marks′ put refl refl)
 
   -- it stays with them
   pub gathers-small : end - held < minLeaf → end < minLeaf → Gathers minLeaf bucket at held small nodes marks at end small′ nodes marks
-  gathers-small few small-yet g h =
-      subst (λ (r : Gathered). Holds r at end small′ nodes marks) (sym (one-small minLeaf g bucket (omega arith) (omega (arith, joined-size g h)))) record {
-        placed-size = h .placed-size;
-        small-size = joined-size g h;
-        placed-nodes = h .placed-nodes;
-        placed-marks = h .placed-marks;
-        small-nodes = joined-is g h;
-      }
+  gathers-small few small-yet g h = rw (one-small minLeaf g bucket (omega arith) (omega (arith, joined-size g h))) record {
+    placed-size = h .placed-size;
+    small-size = joined-size g h;
+    placed-nodes = h .placed-nodes;
+    placed-marks = h .placed-marks;
+    small-nodes = joined-is g h;
+  }
 
 -- ---- all buckets
 
@@ -148,14 +133,10 @@ unfolding gatherAll
 all-snoc minLeaf g [] b = refl
 all-snoc minLeaf g (c ∷ bs) b = all-snoc minLeaf (gatherOne minLeaf g c) bs b
 
-pub ones : (l : List ℕ) → weigh (λ (y : ℕ). 1) l ≡ length l
-ones [] = refl
-ones (x ∷ l) = let r = ones l in omega arith
-
 pub entries-length : (bs : List (List ℕ)) → entries bs ≡ length (flatten bs)
 unfolding flatten
 entries-length [] = refl
-entries-length (b ∷ bs) = let r = entries-length bs in omega (arith, ones b, length-append b (flatten bs))
+entries-length (b ∷ bs) = let r = entries-length bs in omega (arith, weight-length b, length-append b (flatten bs))
 
 module _ (ids cards : List ℕ) where
   by-more : (l : ℕ) → bucketsBy (l + 1) ids cards ≡ bucketsBy l ids cards ++ (bucketAt l ids cards ∷ [])
@@ -165,23 +146,14 @@ module _ (ids cards : List ℕ) where
   entries-more : (l : ℕ) → entries (bucketsBy (l + 1) ids cards) ≡ entries (bucketsBy l ids cards) + length (bucketAt l ids cards)
   entries-more l =
       ap entries (by-more l) ∙ weighAll-append (λ (y : ℕ). 1) (bucketsBy l ids cards) (bucketAt l ids cards ∷ [])
-      ∙ omega (arith, ones (bucketAt l ids cards))
-
-  entries-up : (l more : ℕ) → entries (bucketsBy l ids cards) ≤ entries (bucketsBy (l + more) ids cards)
-  entries-up l zero = omega (arith, ap (λ (k : ℕ). entries (bucketsBy k ids cards)) (same l))
-    where
-      same : (l : ℕ) → l + zero ≡ l
-      same l = omega arith
-  entries-up l (suc more) =
-      let rec = entries-up l more in
-      let step = entries-more (l + more) in
-      omega (arith, ap (λ (k : ℕ). entries (bucketsBy k ids cards)) (next l more))
-    where
-      next : (l more : ℕ) → l + suc more ≡ l + more + 1
-      next l more = omega arith
+      ∙ omega (arith, weight-length (bucketAt l ids cards))
 
   entries-upto : (l k : ℕ) → l ≤ k → entries (bucketsBy l ids cards) ≤ entries (bucketsBy k ids cards)
-  entries-upto l k h = let e : l + (k - l) ≡ k = omega arith in omega (arith, entries-up l (k - l), ap (λ (m : ℕ). entries (bucketsBy m ids cards)) e)
+  entries-upto l zero h = let e : l ≡ 0 = omega arith in rw e (omega arith)
+  entries-upto l (suc k) h = elim (decLe l k) [
+    | yes j ↦ omega (arith, entries-upto l k j, rw add-one at (entries-more k))
+    | no j ↦ let e : l ≡ suc k = omega arith in rw e (omega arith)
+  ]
 
   module _ (minLeaf : ℕ) where
     abbrev pub soFar : ℕ → Gathered
@@ -191,25 +163,17 @@ module _ (ids cards : List ℕ) where
     unfolding bucketsBy upTo gatherAll flatten marksOf
     so-far-none small nodes marks = record { placed-size = refl; small-size = refl; placed-nodes = refl; placed-marks = refl; small-nodes = refl }
 
-    so-far-size : (l at held : ℕ) (small nodes marks : List ℕ) → Holds (soFar l) at held small nodes marks → at + held ≡ entries (bucketsBy l ids cards)
-    so-far-size l at held small nodes marks h =
-        omega (arith, all-weight (λ (y : ℕ). 1) minLeaf noneYet (bucketsBy l ids cards), entries-length (soFar l .placed), ones (soFar l .small), h .placed-size, h .small-size)
+    module _ (l : ℕ) {at held : ℕ} {small nodes marks : List ℕ} (h : Holds (soFar l) at held small nodes marks) where
+      pub so-far-all : at + held ≡ entries (bucketsBy l ids cards)
+      so-far-all =
+          omega (arith, all-weight (λ (y : ℕ). 1) minLeaf noneYet (bucketsBy l ids cards), entries-length (soFar l .placed), weight-length (soFar l .small), h .placed-size, h .small-size)
 
-    pub so-far-room : (leaders l at held : ℕ) (small nodes marks : List ℕ) → Holds (soFar l) at held small nodes marks → l < leaders
-        → at + (held + length (bucketAt l ids cards)) ≤ entries (bucketsBy leaders ids cards)
-    so-far-room leaders l at held small nodes marks h k =
-        omega (arith, so-far-size l at held small nodes marks h, entries-more l, entries-upto (l + 1) leaders (omega arith))
+      pub so-far-room : (leaders : ℕ) → l < leaders → at + (held + length (bucketAt l ids cards)) ≤ entries (bucketsBy leaders ids cards)
+      so-far-room leaders k = omega (arith, so-far-all, entries-more l, entries-upto (l + 1) leaders (omega arith))
 
-    pub so-far-all : (l at held : ℕ) (small nodes marks : List ℕ) → Holds (soFar l) at held small nodes marks → at + held ≡ entries (bucketsBy l ids cards)
-    so-far-all = so-far-size
-
-    pub so-far-more : (l at held : ℕ) (small nodes marks : List ℕ) (at′ held′ : ℕ) (small′ nodes′ marks′ : List ℕ) → Holds (soFar l) at held small nodes marks
-        → Gathers minLeaf (bucketAt l ids cards) at held small nodes marks at′ held′ small′ nodes′ marks′
-        → Holds (soFar (l + 1)) at′ held′ small′ nodes′ marks′
-    so-far-more l at held small nodes marks at′ held′ small′ nodes′ marks′ h step =
-        subst (λ (r : Gathered). Holds r at′ held′ small′ nodes′ marks′)
-        (sym (ap (gatherAll minLeaf noneYet) (by-more l) ∙ all-snoc minLeaf noneYet (bucketsBy l ids cards) (bucketAt l ids cards)))
-        (step (soFar l) h)
+      pub so-far-more : {at′ held′ : ℕ} {small′ nodes′ marks′ : List ℕ}
+          → Gathers minLeaf (bucketAt l ids cards) at held small nodes marks at′ held′ small′ nodes′ marks′ → Holds (soFar (l + 1)) at′ held′ small′ nodes′ marks′
+      so-far-more step = rw (by-more l, all-snoc minLeaf noneYet (bucketsBy l ids cards) (bucketAt l ids cards)) (step (soFar l) h)
 
 -- ---- what remains
 

@@ -14,51 +14,31 @@ Inv-loop ids cards l to₀ held at₀ i₀ to at i = Appended l ids cards to₀ 
 abbrev μ-loop : tie.MeasureT-loop
 μ-loop ids cards l to₀ held at₀ i₀ to at i = length ids - i
 
-loop-holds : tie.Need-loop-holds Inv-loop μ-loop
-loop-holds c =
-    let s = c .before .before .before in
-    let x = s .args in
-    appended-none (x .l) (x .ids .now) (x .cards .now) (x .to .now) (x .held) (s .pre .0) (s .pre .1)
-
 append-if-requires : tie.Need-append-if-requires Inv-loop μ-loop
 append-if-requires c κs =
-    let l = c .before .before .before .before .before .loop in
-    let s = c .before .before .before .before .before .before .before .before .before in
-    let x = s .args in
-    appended-room (x .l) (x .ids .now) (x .cards .now) (x .to .now) (x .held) (s .pre .0) (s .pre .1) (l .i) (l .at) (l .to) (l .inv) (c .before .before .before .before .loop-test .taken) _ (c .before .before .is-named .ensures)
+    let at-loop = c .before .before .before .before .before in
+    let s = at-loop .before .before .before .before in
+    appended-room (s .pre .0) (s .pre .1) (at-loop .loop .inv) (c .before .before .before .before .loop-test .taken) (c .before .before .is-named .ensures)
 
 loop-again : tie.Need-loop-again Inv-loop μ-loop
 loop-again c =
-    let at-append-if = c .before .before in
-    let at-is-named = at-append-if .before .before .before in
-    let at-loop-test = at-is-named .before .before in
-    let at-loop = at-loop-test .before in
-    let back = at-loop .before .before .before .before in
-    let l = at-loop .loop in
-    let s = back in
-    let x = s .args in
-    let done = at-append-if .append-if .ensures in
-    appended-more (x .l) (x .ids .now) (x .cards .now) (x .to .now) (x .held) (s .pre .0) (s .pre .1) (l .i) (l .at) (l .to) (l .inv) (at-loop-test .loop-test .taken) _ (at-is-named .is-named .ensures) _ _ (done .0) (done .1)
+    let at-is-named = c .before .before .before .before .before in
+    let at-loop = at-is-named .before .before .before in
+    let s = at-loop .before .before .before .before in
+    let done = c .before .before .append-if .ensures in
+    appended-more (s .pre .0) (s .pre .1) (at-loop .loop .inv) (at-is-named .before .before .loop-test .taken) (at-is-named .is-named .ensures) (done .0) (done .1)
 
 same-length : tie.Need-same-length Inv-loop μ-loop
-same-length c =
-    let l = c .before .loop in
-    let s = c .before .before .before .before .before in
-    let x = s .args in
-    appended-length (x .l) (x .ids .now) (x .cards .now) (x .to .now) (x .held) (s .pre .0) (s .pre .1) (l .i) (l .at) (l .to) (l .inv)
+same-length c = let s = c .before .before .before .before .before in appended-length (s .pre .0) (s .pre .1) (c .before .loop .inv)
 
 returns : tie.Need-returns Inv-loop μ-loop
-returns c =
-    let l = c .before .loop in
-    let s = c .before .before .before .before .before in
-    let x = s .args in
-    appended-done (x .l) (x .ids .now) (x .cards .now) (x .to .now) (x .held) (s .pre .0) (s .pre .1) (l .i) (l .at) (l .to) (l .inv) (omega arith)
+returns c = let s = c .before .before .before .before .before in appended-done (s .pre .0) (s .pre .1) (c .before .loop .inv) (omega arith)
 
 pub append-bucket-spec : {M : Type 1} → statement M
 append-bucket-spec =
     tie.close
     (tie.spec
-    Inv-loop μ-loop loop-holds
+    Inv-loop μ-loop (λ c. let s = c .before .before .before in appended-none (s .pre .0) (s .pre .1))
     -- is_named, append_if
     (λ c. search needs) (λ c. search needs) (λ c κs. search needs) (λ c. search needs) (λ c. search needs) append-if-requires
     -- i, the loop measure

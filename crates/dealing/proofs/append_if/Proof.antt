@@ -10,9 +10,6 @@ use Rattle.dealing.proofs.append_if.Tie as tie
 returns : tie.Need-returns
 returns c = (ap (λ (n : ℕ). c .before .args .at + n) (sym (pick-true {X = ℕ} 1 0 (c .if1 .taken))), sym (pick-true _ _ (c .if1 .taken)))
 
-returns-2 : tie.Need-returns-2
-returns-2 c = (let e = pick-false {X = ℕ} 1 0 (c .if1 .left) in omega (arith, e), sym (pick-false _ _ (c .if1 .left)))
-
 pub append-if-spec : {M : Type 1} → statement M
 append-if-spec =
     tie.close
@@ -20,4 +17,5 @@ append-if-spec =
     -- to
     (λ c. search needs) (λ c. let e = pick-true {X = ℕ} 1 0 (c .if1 .taken) in omega (arith, e))
     -- result, lengths stay
-    (λ c. search needs) (λ c. search needs) returns returns-2)
+    (λ c. search needs) (λ c. search needs) returns
+    (λ c. (let e = pick-false {X = ℕ} 1 0 (c .if1 .left) in omega (arith, e), sym (pick-false _ _ (c .if1 .left)))))

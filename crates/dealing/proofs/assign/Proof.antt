@@ -19,9 +19,6 @@ Inv-loop vectors dimension leaders fan ids cards₀ i₀ cards i =
 abbrev μ-loop : tie.MeasureT-loop
 μ-loop vectors dimension leaders fan ids cards₀ i₀ cards i = length ids - i
 
-loop-holds : tie.Need-loop-holds Inv-loop μ-loop
-loop-holds c = (omega arith, refl, refl)
-
 loop-again : tie.Need-loop-again Inv-loop μ-loop
 loop-again c =
     let l = c .before .before .before .loop in
@@ -33,9 +30,6 @@ loop-again c =
       length-set (l .cards) (l .i) _ ∙ l .inv .1,
       ap₂ (λ (r : List ℕ) (v : ℕ). set r (l .i) v) (l .inv .2) (c .card-of .ensures) ∙ written-more g (x .ids .now) (x .cards .now) same (l .i) (omega arith),
     )
-
-same-length : tie.Need-same-length Inv-loop μ-loop
-same-length c = c .before .loop .inv .1
 
 returns : tie.Need-returns Inv-loop μ-loop
 returns c =
@@ -49,7 +43,7 @@ pub assign-spec : {M : Type 1} → statement M
 assign-spec =
     tie.close
     (tie.spec
-    Inv-loop μ-loop loop-holds
+    Inv-loop μ-loop (λ c. (omega arith, refl, refl))
     -- card_of, cards, i, the loop measure
     (λ c. search needs) (λ c. search needs) (λ c κs. search needs) (λ c. search needs) (λ c. search needs) (λ c. search needs) (λ c. search needs)
-    loop-again same-length returns)
+    loop-again (λ c. c .before .loop .inv .1) returns)

@@ -20,7 +20,7 @@ use Rattle.dealing.proofs.deal_all.Tie as tie
 
 -- the segment is small, and has as many words of room
 few : (c : tie.Start) → (length (c .args .ids .now) ≤ 2048) × (length (c .args .ids .now) ≤ length (c .args .nodes .now))
-few c = let x = c .args in few-ids (x .level) (x .ids .now) (x .nodes .now) (x .marks .now) (length (x .room .now)) (length (x .cards .now)) (c .pre .1)
+few c = few-ids (c .pre .1)
 
 -- ---- the leaders
 
@@ -130,14 +130,12 @@ same-length-3 : tie.Need-same-length-3
 same-length-3 c =
     let at-gather = c .before .before .before .before .before .before in
     let back-1 = at-gather .before .before .before .before .before .before .before .before .before .before .before .before in
-    let back = back-1 .before .before .before in
-    at-gather .gather .kept .1 .1 .1 .1 .0 ∙ room-size (back)
+    at-gather .gather .kept .1 .1 .1 .1 .0 ∙ room-size (back-1 .before .before .before)
 
 returns : tie.Need-returns
 returns c =
     let at-gather = c .before .before .before .before .before .before in
-    let back = at-gather .before .before .before .before .before .before .before .before in
-    let a = back in
+    let a = at-gather .before .before .before .before .before .before .before .before in
     let all = at-gather .gather in
     (all .ensures .0 ∙ ap flatten (buckets-are a), all .ensures .1 ∙ ap marksOf (buckets-are a))
 

@@ -12,8 +12,7 @@ returns : tie.Need-returns
 returns c =
     let at-nodes-at = c .before .before in
     let at-draw-leaders = at-nodes-at .before .before .before .before .before .before in
-    let back = at-draw-leaders .before .before .before .before .before .before in
-    let s = back in
+    let s = at-draw-leaders .before .before .before .before .before .before in
     let x = s .args in
     at-nodes-at .nodes-at .ensures
     ∙ ap (map (λ (p : ℕ). getD (x .ids .now) p 0)) (at-draw-leaders .draw-leaders .ensures ∙ drawn-all (x .level) (length (x .ids .now)) (length (x .left .now)) (x .leaders .now) (s .pre .1) (s .pre .2))

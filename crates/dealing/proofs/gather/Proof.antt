@@ -23,7 +23,7 @@ start c = c .before .before .before .before .before .before .before .before .bef
 all-held : (c : tie.After-gather-all) → c .gather-all .result .at + c .gather-all .result .held ≡ length (start c .args .nodes .now)
 all-held c =
     let x = start c .args in
-    so-far-all (x .ids .now) (x .cards .now) (x .min-leaf) (x .leaders) _ _ _ _ _ (c .gather-all .ensures) ∙ start c .pre .0 .all-entries
+    so-far-all (x .ids .now) (x .cards .now) (x .min-leaf) (x .leaders) (c .gather-all .ensures) ∙ start c .pre .0 .all-entries
 
 held-fits : (c : tie.After-gather-all) → c .gather-all .result .held ≤ length (small c)
 held-fits c = omega (arith, all-held c, start c .pre .1, c .gather-all .kept .1 .1 .1 .1 .0)
@@ -36,8 +36,7 @@ finish-requires c κs =
 returns : tie.Need-returns
 returns c =
     let at-finish = c .before .before .before .before in
-    let back = at-finish .before .before .before .before .before .before .before .before .before .before in
-    let all = back in
+    let all = at-finish .before .before .before .before .before .before .before .before .before .before in
     let x = start all .args in
     let end = at-finish .finish in (
       end .ensures .0 ∙ gathered-nodes (x .min-leaf) (bucketsBy (x .leaders) (x .ids .now) (x .cards .now)) _ _ _ _ _ (all .gather-all .ensures),

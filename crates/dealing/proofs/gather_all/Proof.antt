@@ -1,7 +1,7 @@
 -- The invariant: the slices hold what has been gathered from the first l leaders (`soFar`), and no length changes. The measure is how many leaders
 -- are left. Assumes nothing.
-use mathlib.Core.Path.{_≡_, refl, sym, subst, _∙_}
-use Prim.Native.Nat.{ℕ, _-_, _≤_}
+use mathlib.Core.Path.{_≡_, refl, sym, _∙_}
+use Prim.Native.Nat.{_-_, _≤_}
 use lib.ListN.{length}
 use Rattle.dealing.specs.Inside.Steps.{Holds}
 use Rattle.dealing.proofs.Gathering.{soFar, so-far-none, so-far-room, so-far-more}
@@ -17,6 +17,9 @@ Inv-loop ids cards leaders min-leaf small₀ nodes₀ marks₀ g₀ l₀ small n
 abbrev μ-loop : tie.MeasureT-loop
 μ-loop ids cards leaders min-leaf small₀ nodes₀ marks₀ g₀ l₀ small nodes marks g l = leaders - l
 
+abbrev start : tie.At-loop Inv-loop μ-loop → tie.Start Inv-loop μ-loop
+start c = c .before .before .before .before .before .before
+
 loop-holds : tie.Need-loop-holds Inv-loop μ-loop
 loop-holds c =
     let x = c .before .before .before .before .before .args in
@@ -27,7 +30,7 @@ gather-one-requires c κs =
     let l = c .before .before .before .before .loop in
     let s = c .before .before .before .before .before .before .before .before .before .before in
     let x = s .args in
-    let room = so-far-room (x .ids .now) (x .cards .now) (x .min-leaf) (x .leaders) (l .l) (l .g .at) (l .g .held) (l .small) (l .nodes) (l .marks) (l .inv .4) (c .before .before .before .loop-test .taken) in
+    let room = so-far-room (x .ids .now) (x .cards .now) (x .min-leaf) (l .l) (l .inv .4) (x .leaders) (c .before .before .before .loop-test .taken) in
     record {
       cards-size = s .pre .0 .cards-size;
       marks-size = l .inv .3 ∙ s .pre .0 .marks-size ∙ sym (l .inv .2);
@@ -38,30 +41,21 @@ gather-one-requires c κs =
 loop-again : tie.Need-loop-again Inv-loop μ-loop
 loop-again c =
     let l = c .before .before .before .before .before .before .before .before .before .before .before .loop in
-    let x = c .before .before .before .before .before .before .before .before .before .before .before .before .before .before .before .before .before .args in
+    let x = start (c .before .before .before .before .before .before .before .before .before .before .before) .args in
     let one = c .before .before .before .before .before .before .gather-one in (
       omega arith,
       one .kept .1 .1 .1 .1 .0 ∙ l .inv .1,
       one .kept .1 .1 .1 .1 .1 .0 ∙ l .inv .2,
       one .kept .1 .1 .1 .1 .1 .1 .0 ∙ l .inv .3,
-      so-far-more (x .ids .now) (x .cards .now) (x .min-leaf) (l .l) (l .g .at) (l .g .held) (l .small) (l .nodes) (l .marks) _ _ _ _ _ (l .inv .4) (one .ensures),
+      so-far-more (x .ids .now) (x .cards .now) (x .min-leaf) (l .l) (l .inv .4) (one .ensures),
     )
-
-same-length : tie.Need-same-length Inv-loop μ-loop
-same-length c = c .before .loop .inv .1
-
-same-length-2 : tie.Need-same-length-2 Inv-loop μ-loop
-same-length-2 c = c .before .loop .inv .2
-
-same-length-3 : tie.Need-same-length-3 Inv-loop μ-loop
-same-length-3 c = c .before .loop .inv .3
 
 returns : tie.Need-returns Inv-loop μ-loop
 returns c =
     let l = c .before .loop in
     let x = c .before .before .before .before .before .before .before .args in
     let all : l .l ≡ x .leaders = omega arith in
-    subst (λ (k : ℕ). Holds (soFar (x .ids .now) (x .cards .now) (x .min-leaf) k) (l .g .at) (l .g .held) (l .small) (l .nodes) (l .marks)) all (l .inv .4)
+    rw all at (l .inv .4)
 
 pub gather-all-spec : {M : Type 1} → statement M
 gather-all-spec =
@@ -69,4 +63,4 @@ gather-all-spec =
     (tie.spec
     Inv-loop μ-loop loop-holds gather-one-requires
     -- l, the loop measure
-    (λ c. search needs) (λ c. search needs) loop-again same-length same-length-2 same-length-3 returns)
+    (λ c. search needs) (λ c. search needs) loop-again (λ c. c .before .loop .inv .1) (λ c. c .before .loop .inv .2) (λ c. c .before .loop .inv .3) returns)

@@ -21,17 +21,11 @@ loop-holds c =
 
 loop-again : tie.Need-loop-again Inv-loop μ-loop
 loop-again c =
-    let l = c .before .before .before .before .before .before .before .before .before .before .loop in
-    let s = c .before .before .before .before .before .before .before .before .before .before .before .before .before .before .before in
-    let x = s .args in
+    let at-loop = c .before .before .before .before .before .before .before .before .before .before in
+    let l = at-loop .loop in
+    let x = at-loop .before .before .before .before .before .args in
     let kept = c .before .before .before .before .keep-first in
     found-more (vectorsIn (x .dimension) (x .vectors .now)) (x .leaders .now) (x .id) (x .keys .now) (x .found .now) (l .l) (l .held) (l .keys) (l .found) (l .inv) (omega arith) _ _ _ _ (c .before .before .before .before .before .before .before .rank-of .ensures) (kept .ensures) (kept .kept .0) (kept .kept .1 .0)
-
-same-length : tie.Need-same-length Inv-loop μ-loop
-same-length c = c .before .loop .inv .keys-size
-
-same-length-2 : tie.Need-same-length-2 Inv-loop μ-loop
-same-length-2 c = c .before .loop .inv .found-size
 
 returns : tie.Need-returns Inv-loop μ-loop
 returns c =
@@ -47,4 +41,4 @@ nearest-leaders-spec =
     Inv-loop μ-loop loop-holds
     -- rank_of, keep_first, l, the loop measure
     (λ c. search needs) (λ c. search needs) (λ c κs. search needs) (λ c. search needs) (λ c κs. search needs) (λ c. search needs) (λ c. search needs)
-    loop-again same-length same-length-2 returns)
+    loop-again (λ c. c .before .loop .inv .keys-size) (λ c. c .before .loop .inv .found-size) returns)

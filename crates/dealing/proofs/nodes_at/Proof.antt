@@ -18,27 +18,6 @@ abbrev μ-loop : tie.MeasureT-loop
 kept : (c : tie.At-loop Inv-loop μ-loop) → length (c .loop .positions) ≡ length (c .before .before .before .args .positions .now)
 kept c = let x = c .before .before .before .args in ap length (c .loop .inv .1) ∙ part-length (λ (p : ℕ). getD (x .ids .now) p 0) (x .positions .now) (c .loop .i) (c .loop .inv .0)
 
-loop-holds : tie.Need-loop-holds Inv-loop μ-loop
-loop-holds c = (omega arith, refl)
-
-mul-word-at : tie.Need-mul-word-at Inv-loop μ-loop
-mul-word-at c = let n = kept (c .before) in search needs
-
-slice-read-word-at : tie.Need-slice-read-word-at Inv-loop μ-loop
-slice-read-word-at c = omega arith
-
-cast-word-at : tie.Need-cast-word-at Inv-loop μ-loop
-cast-word-at c = omega (arith, c .slice-known2 .given (c .before .before .loop .i))
-
-mul-positions : tie.Need-mul-positions Inv-loop μ-loop
-mul-positions c = let n = kept (c .before .before .before) in search needs
-
-add-i : tie.Need-add-i Inv-loop μ-loop
-add-i c = let n = kept (c .before .before .before) in omega arith
-
-loop-less : tie.Need-loop-less Inv-loop μ-loop
-loop-less c = let n = kept (c .before .before .before) in omega arith
-
 loop-again : tie.Need-loop-again Inv-loop μ-loop
 loop-again c =
     let l = c .before .before .before .loop in
@@ -49,9 +28,6 @@ loop-again c =
       ap₂ (λ (r : List ℕ) (v : ℕ). set r (l .i) v) (l .inv .1) (c .word-at .ensures ∙ ap (λ (r : List ℕ). g (getD r (l .i) 0)) (l .inv .1) ∙ ap g (part-get g (x .positions .now) 0 (l .i) (omega arith)))
           ∙ part-set g (x .positions .now) 0 (l .i) (omega arith),
     )
-
-same-length : tie.Need-same-length Inv-loop μ-loop
-same-length c = kept (c .before)
 
 returns : tie.Need-returns Inv-loop μ-loop
 returns c =
@@ -64,8 +40,10 @@ pub nodes-at-spec : {M : Type 1} → statement M
 nodes-at-spec =
     tie.close
     (tie.spec
-    Inv-loop μ-loop loop-holds mul-word-at slice-read-word-at cast-word-at
+    Inv-loop μ-loop (λ c. (omega arith, refl)) (λ c. let n = kept (c .before) in search needs) (λ c. search needs)
+    (λ c. omega (arith, c .slice-known2 .given (c .before .before .loop .i)))
     -- word_at
-    (λ c κs. search needs) mul-positions
+    (λ c κs. search needs) (λ c. let n = kept (c .before .before .before) in search needs)
     -- positions
-    (λ c. search needs) add-i loop-less loop-again same-length returns)
+    (λ c. search needs) (λ c. let n = kept (c .before .before .before) in omega arith) (λ c. let n = kept (c .before .before .before) in omega arith)
+    loop-again (λ c. kept (c .before)) returns)
