@@ -33,6 +33,18 @@ start c = c .before .before .before .before .before .before
 abbrev n : tie.After-all-positions2 → ℕ
 n c = start c .args .n
 
+abbrev positions : tie.After-deal → tie.After-all-positions2
+positions c = c .before .before .before .before .before .before .before
+
+abbrev dealt : tie.After-carve-buckets → tie.After-deal
+dealt c = c .before .before .before .before .before .before .before .before .before .before .before .before
+
+ids-long : (c : tie.After-all-positions2) → length (c .all-positions2 .last .1 .0 ++ drop (n c) array) ≡ 2048
+ids-long c = array-back (start c) (c .all-positions2 .last .1 .0) (c .all-positions2 .kept .1 .0)
+
+cards-long : (c : tie.After-deal) → length (c .deal .last .1 .1 .1 .1 .1 .1 .1 .0 ++ drop (n (positions c)) array) ≡ 2048
+cards-long c = array-back (start (positions c)) (c .deal .last .1 .1 .1 .1 .1 .1 .1 .0) (c .deal .kept .1 .1 .1 .1 .1 .1 .1 .0)
+
 part-is : (c : tie.After-all-positions2) → take (n c) (c .all-positions2 .last .1 .0 ++ drop (n c) array) ≡ upTo (n c)
 part-is c =
     let all = c .all-positions2 in
@@ -56,65 +68,48 @@ returns c =
           (take-at (marked .last .0) _ (x .n) (marked .kept .0 ∙ length-take-le (x .n) (x .marks .now) long) ∙ marked .ensures ∙ ap (run 1) (length-take-le (x .n) (x .marks .now) long));
     }
 
-array-share-prefix-ids : tie.Need-array-share-prefix-ids
-array-share-prefix-ids c = let s = c .before .before .before .before .before .before .before in omega (arith, s .pre .0, array-back s (c .before .all-positions2 .last .1 .0) (c .before .all-positions2 .kept .1 .0))
-
-slice-aggregate-deal-3 : tie.Need-slice-aggregate-deal-3
-slice-aggregate-deal-3 c =
-    let back = c .before .before .before .before .before .before .before .before .before .before .before .before in
-    sym (first-words (back))
-
 -- ---- its buckets
-
-slice-aggregate-carve-buckets : tie.Need-slice-aggregate-carve-buckets
-slice-aggregate-carve-buckets c =
-    let back-1 = c .before .before .before .before .before .before .before .before .before .before .before .before in
-    let at-all-positions2 = back-1 .before .before .before .before in
-    let back = at-all-positions2 .before .before .before .before .before .before in
-    sym (array-back (back) (at-all-positions2 .all-positions2 .last .1 .0) (at-all-positions2 .all-positions2 .kept .1 .0))
-
-slice-aggregate-carve-buckets-3 : tie.Need-slice-aggregate-carve-buckets-3
-slice-aggregate-carve-buckets-3 c =
-    let at-deal = c .before .before .before .before .before .before .before .before .before .before .before in
-    let back-1 = at-deal .before .before .before .before .before .before .before .before .before .before .before .before in
-    let back = back-1 .before in
-    sym (array-back (back) (at-deal .deal .last .1 .1 .1 .1 .1 .1 .1 .0) (at-deal .deal .kept .1 .1 .1 .1 .1 .1 .1 .0))
 
 carve-buckets-requires : tie.Need-carve-buckets-requires
 carve-buckets-requires c κs =
-    let s = c .before .before .before .before .before .before .before .before .before .before .before .before .before .before .before .before .before .before .before .before .before .before .before .before in
-    let dealt = c .before .before .before .before .before .before .before .before .before .before .before .deal in
-    let a = dealt .kept .1 .1 .1 .1 .0 in
-    let ids = array-back s (c .before .before .before .before .before .before .before .before .before .before .before .before .before .before .before .before .before .before .all-positions2 .last .1 .0) (c .before .before .before .before .before .before .before .before .before .before .before .before .before .before .before .before .before .before .all-positions2 .kept .1 .0) in
-    let cards = array-back s (dealt .last .1 .1 .1 .1 .1 .1 .1 .0) (dealt .kept .1 .1 .1 .1 .1 .1 .1 .0) in
+    let at-deal = c .before .before .before .before .before .before .before .before .before .before .before in
+    let s = start (positions at-deal) in
+    let kept = at-deal .deal .kept in
+    let a = kept .1 .1 .1 .1 .0 in
     record {
       some = s .pre .1;
       below = omega arith;
       levels = omega arith;
       few = omega (arith, a, s .pre .0, s .pre .2);
-      marked = dealt .kept .1 .1 .1 .1 .1 .0 ∙ s .pre .3 ∙ sym (s .pre .2) ∙ sym a;
-      scratch = record { ids-size = omega (arith, ids); room-size = omega (arith, dealt .kept .1 .1 .1 .1 .1 .1 .0); cards-size = omega (arith, cards) };
+      marked = kept .1 .1 .1 .1 .1 .0 ∙ s .pre .3 ∙ sym (s .pre .2) ∙ sym a;
+      scratch = record {
+        ids-size = omega (arith, ids-long (positions at-deal));
+        room-size = omega (arith, kept .1 .1 .1 .1 .1 .1 .0);
+        cards-size = omega (arith, cards-long at-deal);
+      };
     }
 
 returns-2 : tie.Need-returns-2
 returns-2 c =
-    let d = c .before .before .before .before .before .before .before .before .before .before .before .before .before .before .before .before .before .before .before .before .before .before .before .before .before .before in
-    let s = c .before .before .before .before .before .before .before .before .before .before .before .before .before .before .before .before .before .before .before .before .before .before .before .before .before .before .before .before .before .before .before .before in
+    let at-deal = dealt (c .before .before .before .before .before .before .before) in
+    let d = positions at-deal in
+    let s = start d in
     let x = s .args in
-    let dealt = c .before .before .before .before .before .before .before .before .before .before .before .before .before .before .before .before .before .before .before .deal in
+    let kept = at-deal .deal .kept in
     let carved = c .before .before .before .before .before .before .before .carve-buckets in
     let nodes : List ℕ = carved .last .1 .1 .1 .1 .0 in
     let marks : List ℕ = carved .last .1 .1 .1 .1 .1 .0 in
-    let two : 2 ≤ x .n = omega (arith, s .pre .1, c .before .before .before .before .before .before .before .before .before .before .before .before .before .before .before .before .before .before .before .before .before .before .before .before .before .before .before .before .if1 .left) in
+    let two : 2 ≤ x .n = omega (arith, s .pre .1, d .before .before .if1 .left) in
     let fits = fitting-top (x .n) _ (x .nodes .now) (x .marks .now) _ (s .pre .0) two (s .pre .2) (s .pre .3) (part-is d) (first-words s) in
     let same : length marks ≡ length nodes =
-    carved .kept .1 .1 .1 .1 .1 .0 ∙ dealt .kept .1 .1 .1 .1 .1 .0 ∙ s .pre .3
-    ∙ sym (carved .kept .1 .1 .1 .1 .0 ∙ dealt .kept .1 .1 .1 .1 .0 ∙ s .pre .2) in
-    let held = carved .ensures (bucketsOf (x .p .«min_leaf») (x .p .«leader_fraction») (vectorsIn (x .p .dimension) (x .vectors .now)) 0 _) (dealt .ensures .dealt fits) in
+    carved .kept .1 .1 .1 .1 .1 .0 ∙ kept .1 .1 .1 .1 .1 .0 ∙ s .pre .3
+    ∙ sym (carved .kept .1 .1 .1 .1 .0 ∙ kept .1 .1 .1 .1 .0 ∙ s .pre .2) in
+    let held = carved .ensures (bucketsOf (x .p .«min_leaf») (x .p .«leader_fraction») (vectorsIn (x .p .dimension) (x .vectors .now)) 0 _) (at-deal .deal .ensures .dealt fits) in
     record {
       within = omega arith;
       leaves = λ many.
-          let down = top-dealt (x .max-leaf) (x .p .«min_leaf») (x .p .«leader_fraction») (vectorsIn (x .p .dimension) (x .vectors .now)) (x .n) many (c .before .before .before .before .before .before .before .before .before .before .before .before .before .before .before .before .before .before .before .before .before .before .before .before .before .before .before .before .if1 .left) _ (part-is d) in
+          let down = top-dealt (x .max-leaf) (x .p .«min_leaf») (x .p .«leader_fraction») (vectorsIn (x .p .dimension) (x .vectors .now)) (x .n) many
+          (d .before .before .if1 .left) _ (part-is d) in
           (take-all (length nodes) nodes (omega arith) ∙ held .0 ∙ sym (ap flatten down), take-all (length nodes) marks (omega arith) ∙ held .1 ∙ sym (ap marksOf down));
     }
 
@@ -122,8 +117,14 @@ pub carve-all-spec : {M : Type 1} → statement M
 carve-all-spec =
     tie.close
     (tie.spec
+    -- up to the leaf that a small index is
     (λ c κs. search needs) (λ c. search needs) slice-aggregate-mark (λ c κs. search needs) (λ c. search needs) (λ c. search needs) returns
-    (λ c. search needs) (λ c. sym (first-words (c .before .before .before .before .before))) (λ c κs. search needs) array-share-prefix-ids
-    (λ c. sym (ap length (part-is (c .before .before)) ∙ length-upTo _)) (λ c. search needs) (λ c. search needs) slice-aggregate-deal-3
-    (λ c κs. search needs) slice-aggregate-carve-buckets (λ c. search needs) slice-aggregate-carve-buckets-3 carve-buckets-requires (λ c. search needs)
-    (λ c. search needs) returns-2)
+    -- up to deal
+    (λ c. search needs) (λ c. sym (first-words (c .before .before .before .before .before))) (λ c κs. search needs)
+    (λ c. omega (arith, start (c .before) .pre .0, ids-long (c .before))) (λ c. sym (ap length (part-is (c .before .before)) ∙ length-upTo _))
+    (λ c. search needs) (λ c. search needs) (λ c. sym (first-words (start (c .before .before .before .before .before .before)))) (λ c κs. search needs)
+    -- up to carve_buckets
+    (λ c. sym (ids-long (positions (c .before .before .before .before .before .before .before .before .before)))) (λ c. search needs)
+    (λ c. sym (cards-long (c .before .before .before .before .before .before .before .before .before .before .before))) carve-buckets-requires
+    -- lengths stay
+    (λ c. search needs) (λ c. search needs) returns-2)

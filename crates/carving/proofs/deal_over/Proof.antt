@@ -40,14 +40,12 @@ part-is c =
 slice-aggregate-deal-2 : tie.Need-slice-aggregate-deal-2
 slice-aggregate-deal-2 c =
     let back-1 = c .before .before .before .before .before .before .before .before .before .before .before .before in
-    let back = back-1 .before .before .before .before in
-    sym (cards-fit (back))
+    sym (cards-fit (back-1 .before .before .before .before))
 
 returns : tie.Need-returns
 returns c =
     let at-deal = c .before .before .before .before .before .before .before .before in
-    let back = at-deal .before .before .before .before .before .before .before .before in
-    let d = back in
+    let d = at-deal .before .before .before .before .before .before .before .before in
     let s = start d in
     let x = s .args in
     let dealt = at-deal .deal in

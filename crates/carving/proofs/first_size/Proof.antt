@@ -20,24 +20,19 @@ Inv-loop marks i₀ i = i + zeroes (drop i marks) ≡ firstSize marks
 abbrev μ-loop : tie.MeasureT-loop
 μ-loop marks i₀ i = length marks - i
 
-loop-holds : tie.Need-loop-holds Inv-loop μ-loop
-loop-holds c = starts (c .args .marks .now)
-
 returns : tie.Need-returns Inv-loop μ-loop
 returns c = let l = c .before .before .before .loop in found-mark (c .before .before .before .before .args .marks .now) (l .i) (c .before .before .loop-test .taken) (c .if1 .taken) (l .inv)
 
 loop-again : tie.Need-loop-again Inv-loop μ-loop
 loop-again c = let l = c .before .before .before .loop in more-zero (c .before .before .before .before .args .marks .now) (l .i) (c .before .before .loop-test .taken) (c .if1 .left) (l .inv)
 
-returns-2 : tie.Need-returns-2 Inv-loop μ-loop
-returns-2 c = let l = c .before .loop in no-mark (c .before .before .args .marks .now) (l .i) (omega arith) (l .inv)
-
 pub first-size-spec : {M : Type 1} → statement M
 first-size-spec =
     tie.close
     (tie.spec
-    Inv-loop μ-loop loop-holds
+    Inv-loop μ-loop (λ c. starts (c .args .marks .now))
     -- if1
     (λ c. search needs) (λ c. search needs) returns
     -- i, the loop measure
-    (λ c. search needs) (λ c. search needs) loop-again returns-2)
+    (λ c. search needs) (λ c. search needs) loop-again
+    (λ c. let l = c .before .loop in no-mark (c .before .before .args .marks .now) (l .i) (omega arith) (l .inv)))

@@ -54,15 +54,6 @@ total-fits c = omega (arith, total-within c, length-append (marks c) (drop (2 * 
 asked : (c : tie.Else3) → Asked (c .before .before .before .before .before .args .max-leaf-size) (n c) (words c)
 asked c = record { most = few c; some = omega (arith, c .before .if2 .left); room = omega (arith, c .if3 .left) }
 
-returns : tie.Need-returns
-returns c = record { made = λ _ a. absurd (omega (arith, a .most, c .if1 .taken)); refused = λ _. (refl, refl) }
-
-returns-2 : tie.Need-returns-2
-returns-2 c = record { made = λ _ a. absurd (omega (arith, a .some, c .if2 .taken)); refused = λ _. (refl, refl) }
-
-returns-3 : tie.Need-returns-3
-returns-3 c = record { made = λ _ a. absurd (omega (arith, a .room, c .if3 .taken)); refused = λ _. (refl, refl) }
-
 carve-all-requires : tie.Need-carve-all-requires
 carve-all-requires c κs =
     let at = c .before .before in
@@ -82,10 +73,8 @@ sizes-of-requires c κs =
 returns-4 : tie.Need-returns-4
 returns-4 c =
     let at-sizes-of = c .before .before in
-    let back = at-sizes-of .before .before .before .before .before .before in
-    let start = back .before .before .before .before .before .before .before .before in
-    let at = back in
-    let x = start .args in
+    let at = at-sizes-of .before .before .before .before .before .before in
+    let x = at .before .before .before .before .before .before .before .before .args in
     let size : ℕ = 2 * x .n in
     let all = at .carve-all in
     let made = at-sizes-of .sizes-of in
@@ -104,7 +93,9 @@ pub partition-spec : {M : Type 1} → statement M
 partition-spec =
     tie.close
     (tie.spec
-    returns returns-2 (λ c. search needs) returns-3 (λ c. search needs) (λ c. search needs) (λ c. sym (length-take-le _ _ (room (c .before))))
-    (λ c. search needs) (λ c. sym (length-take-le _ _ (array-room (c .before .before)))) carve-all-requires (λ c. total-fits (c .before .before .before))
-    (λ c. sym (length-take-le _ _ (total-fits (c .before .before .before .before)))) (λ c. search needs) (λ c. search needs) (λ c. search needs)
-    (λ c. search needs) sizes-of-requires (λ c. search needs) (λ c. search needs) returns-4)
+    (λ c. record { made = λ _ a. absurd (omega (arith, a .most, c .if1 .taken)); refused = λ _. (refl, refl) })
+    (λ c. record { made = λ _ a. absurd (omega (arith, a .some, c .if2 .taken)); refused = λ _. (refl, refl) }) (λ c. search needs)
+    (λ c. record { made = λ _ a. absurd (omega (arith, a .room, c .if3 .taken)); refused = λ _. (refl, refl) }) (λ c. search needs) (λ c. search needs)
+    (λ c. sym (length-take-le _ _ (room (c .before)))) (λ c. search needs) (λ c. sym (length-take-le _ _ (array-room (c .before .before))))
+    carve-all-requires (λ c. total-fits (c .before .before .before)) (λ c. sym (length-take-le _ _ (total-fits (c .before .before .before .before))))
+    (λ c. search needs) (λ c. search needs) (λ c. search needs) (λ c. search needs) sizes-of-requires (λ c. search needs) (λ c. search needs) returns-4)

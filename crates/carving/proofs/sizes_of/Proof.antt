@@ -24,21 +24,6 @@ loop-holds c = let x = c .before .before .args in (omega arith, omega arith, ref
 next : (c : tie.After-first-size Inv-loop μ-loop) → NextSize (c .before .before .before .before .before .before .args .marks .now) (c .before .before .before .loop .at) (c .first-size .result)
 next c = next-size _ _ _ (c .before .before .loop-test .taken) (c .first-size .ensures)
 
-cast-sizes : tie.Need-cast-sizes Inv-loop μ-loop
-cast-sizes c = let n = next c in omega (arith, c .before .before .before .before .before .before .pre .0)
-
-slice-write-sizes : tie.Need-slice-write-sizes Inv-loop μ-loop
-slice-write-sizes c = let n = next c in omega (arith, c .before .before .before .before .before .before .pre .1)
-
-add-count : tie.Need-add-count Inv-loop μ-loop
-add-count c = let n = next c in omega arith
-
-add-at : tie.Need-add-at Inv-loop μ-loop
-add-at c = let n = next c in omega arith
-
-loop-less : tie.Need-loop-less Inv-loop μ-loop
-loop-less c = let n = next c in omega arith
-
 loop-again : tie.Need-loop-again Inv-loop μ-loop
 loop-again c =
     let l = c .before .before .before .loop in
@@ -49,9 +34,6 @@ loop-again c =
       length-set (l .sizes) (l .count) _ ∙ l .inv .2,
       λ leaves e. listed-more leaves (s .args .marks .now) (l .sizes) (l .at) (l .count) (c .first-size .result) (l .inv .3 leaves e) (c .before .before .loop-test .taken) (omega (arith, s .pre .1)) (n .is),
     )
-
-same-length : tie.Need-same-length Inv-loop μ-loop
-same-length c = c .before .loop .inv .2
 
 returns : tie.Need-returns Inv-loop μ-loop
 returns c =
@@ -65,6 +47,9 @@ sizes-of-spec =
     (tie.spec
     Inv-loop μ-loop loop-holds
     -- first_size, part-first-size-start, part-first-size-end
-    (λ c. search needs) (λ c. search needs) (λ c. search needs) (λ c. search needs) (λ c κs. search needs) cast-sizes
+    (λ c. search needs) (λ c. search needs) (λ c. search needs) (λ c. search needs) (λ c κs. search needs)
+    (λ c. let n = next c in omega (arith, c .before .before .before .before .before .before .pre .0))
     -- sizes
-    (λ c. search needs) slice-write-sizes add-count add-at loop-less loop-again same-length returns)
+    (λ c. search needs) (λ c. let n = next c in omega (arith, c .before .before .before .before .before .before .pre .1))
+    (λ c. let n = next c in omega arith) (λ c. let n = next c in omega arith) (λ c. let n = next c in omega arith) loop-again (λ c. c .before .loop .inv .2)
+    returns)
