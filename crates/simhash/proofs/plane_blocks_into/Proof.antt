@@ -31,9 +31,6 @@ loop-again c =
       blocks-set (a .planes .now) (a .dimension) (a .bits) (a .out .now) (l .out) (l .k) v (l .inv .2) (omega arith) (c .block-number .ensures),
     )
 
-same-length : tie.Need-same-length Inv-loop μ-loop
-same-length c = c .before .loop .inv .1
-
 returns : tie.Need-returns Inv-loop μ-loop
 returns c =
     let l = c .before .loop in
@@ -47,4 +44,4 @@ plane-blocks-into-spec =
     (tie.spec
     Inv-loop μ-loop loop-holds
     -- block_number, out, k, the loop measure
-    (λ c κs. search needs) (λ c. search needs) (λ c. search needs) (λ c. search needs) (λ c. search needs) loop-again same-length returns)
+    (λ c κs. search needs) (λ c. search needs) (λ c. search needs) (λ c. search needs) (λ c. search needs) loop-again (λ c. c .before .loop .inv .1) returns)

@@ -35,33 +35,6 @@ inside c =
     let s = both-true _ _ (t .0) in
     (ltb-true _ _ (s .0), ltb-true _ _ (s .1), ltb-true _ _ (t .1))
 
-loop-holds : tie.Need-loop-holds Inv-loop μ-loop
-loop-holds c = (omega arith, omega arith, refl)
-
-mul-out : tie.Need-mul-out Inv-loop μ-loop
-mul-out c = let t = inside c in omega arith
-
-shared-slice-read-out : tie.Need-shared-slice-read-out Inv-loop μ-loop
-shared-slice-read-out c = let t = inside (c .before) in omega arith
-
-mul-out-2 : tie.Need-mul-out-2 Inv-loop μ-loop
-mul-out-2 c = let t = inside (c .before) in omega arith
-
-shared-slice-read-out-2 : tie.Need-shared-slice-read-out-2 Inv-loop μ-loop
-shared-slice-read-out-2 c = let t = inside (c .before .before) in omega arith
-
-mul-out-3 : tie.Need-mul-out-3 Inv-loop μ-loop
-mul-out-3 c = let t = inside (c .before .before) in omega arith
-
-slice-write-out : tie.Need-slice-write-out Inv-loop μ-loop
-slice-write-out c = let t = inside (c .before .before) in omega arith
-
-add-i : tie.Need-add-i Inv-loop μ-loop
-add-i c = let t = inside (c .before .before) in omega arith
-
-loop-less : tie.Need-loop-less Inv-loop μ-loop
-loop-less c = let t = inside (c .before .before) in let n = kept (c .before .before .before) in omega arith
-
 loop-again : tie.Need-loop-again Inv-loop μ-loop
 loop-again c =
     let a = c .before .before .before .before .args in
@@ -74,9 +47,6 @@ loop-again c =
       rw (l .inv .2, ← residual-at binary32 (a .c .now) (a .p .now) (l .i) (t .1) (t .2))
           (copied-more (a .out .now) (residual binary32 (a .c .now) (a .p .now)) nan (l .i) (omega arith) (omega arith)),
     )
-
-same-length : tie.Need-same-length Inv-loop μ-loop
-same-length c = kept (c .before)
 
 returns : tie.Need-returns Inv-loop μ-loop
 returns c =
@@ -98,5 +68,8 @@ pub residual-into-spec : {M : Type 1} → statement M
 residual-into-spec =
     tie.close
     (tie.spec
-    Inv-loop μ-loop loop-holds mul-out shared-slice-read-out mul-out-2 shared-slice-read-out-2 mul-out-3 slice-write-out add-i loop-less loop-again
-    same-length returns)
+    Inv-loop μ-loop (λ c. (omega arith, omega arith, refl)) (λ c. let t = inside c in omega arith) (λ c. let t = inside (c .before) in omega arith)
+    (λ c. let t = inside (c .before) in omega arith) (λ c. let t = inside (c .before .before) in omega arith)
+    (λ c. let t = inside (c .before .before) in omega arith) (λ c. let t = inside (c .before .before) in omega arith)
+    (λ c. let t = inside (c .before .before) in omega arith)
+    (λ c. let t = inside (c .before .before) in let n = kept (c .before .before .before) in omega arith) loop-again (λ c. kept (c .before)) returns)
