@@ -35,9 +35,6 @@ loop-again c =
           ∙ added-set (x .sums .now) (x .row .now) e (l .j) h,
     )
 
-same-length : tie.Need-same-length Inv-loop μ-loop
-same-length c = c .before .loop .inv .1
-
 returns : tie.Need-returns Inv-loop μ-loop
 returns c =
     let l = c .before .loop in
@@ -51,4 +48,4 @@ add-row-spec =
     Inv-loop μ-loop loop-holds
     -- sums, j, the loop measure
     (λ c. search needs) (λ c. search needs) (λ c. search needs) (λ c. search needs) (λ c. search needs) (λ c. search needs) (λ c. search needs)
-    (λ c. search needs) loop-again same-length returns)
+    (λ c. search needs) loop-again (λ c. c .before .loop .inv .1) returns)

@@ -51,8 +51,7 @@ returns-2 : tie.Need-returns-2
 returns-2 c =
     let at-lesser = c .before .before in
     let at-centroid = at-lesser .before .before .before .before in
-    let start = at-centroid .before .before .before .before in
-    let x = start .args in
+    let x = at-centroid .before .before .before .before .args in
     let mean = at-centroid .centroid in
     joined (x .vectors .now) (x .centroid .now) _ (x .n) (at-lesser .lesser .result) _ (mean .ensures) (mean .kept .1 .1 .0) (at-lesser .lesser .ensures) (c .nearest-row .ensures)
 

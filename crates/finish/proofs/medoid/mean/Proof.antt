@@ -23,8 +23,7 @@ sum-rows-requires c κs =
 int-to-float-divide : tie.Need-int-to-float-divide
 unfolding inFloat
 int-to-float-divide c =
-    let back = c .before .before .before .before .before .before .before .before .before .before .before .before in
-    let start = back in
+    let start = c .before .before .before .before .before .before .before .before .before .before .before .before in
     le→leb (start .args .n) (2 ^ 24) (start .pre .1)
 
 -- the three steps, one after the other
@@ -45,8 +44,7 @@ returns c =
     let at-divide = c .before .before in
     let at-sum-rows = at-divide .before .before .before .before .before in
     let at-clear-floats = at-sum-rows .before .before .before .before in
-    let start = at-clear-floats .before .before .before .before in
-    let x = start .args in
+    let x = at-clear-floats .before .before .before .before .args in
     joined (x .vectors .now) (x .out .now) _ _ _ (x .n)
     (at-clear-floats .clear-floats .ensures)
     (at-sum-rows .sum-rows .ensures)

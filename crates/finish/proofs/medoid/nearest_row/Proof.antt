@@ -30,15 +30,6 @@ loop-holds c = (omega arith, omega arith, record { node-is = refl; distance-is =
 fits : (c : tie.In-loop Inv-loop μ-loop) → c .before .loop .at + length (c .before .before .before .before .args .centroid .now) ≤ length (c .before .before .before .before .args .vectors .now)
 fits c = let s = c .before .before .before .before in row-end (s .args .n) _ _ (c .before .loop .i) _ (s .pre) (c .loop-test .taken) (c .before .loop .inv .1)
 
-add-end : tie.Need-add-end Inv-loop μ-loop
-add-end c = omega (arith, fits c)
-
-mul-cosine-distance-normalized : tie.Need-mul-cosine-distance-normalized Inv-loop μ-loop
-mul-cosine-distance-normalized c = let h = fits c in search needs
-
-part-cosine-distance-normalized-end : tie.Need-part-cosine-distance-normalized-end Inv-loop μ-loop
-part-cosine-distance-normalized-end c = fits c
-
 loop-again : tie.Need-loop-again Inv-loop μ-loop
 loop-again c =
     let l = c .before .before .before .before .loop in
@@ -63,5 +54,5 @@ pub nearest-row-spec : {M : Type 1} → statement M
 nearest-row-spec =
     tie.close
     (tie.spec
-    Inv-loop μ-loop float-from-bits-t9 loop-holds add-end mul-cosine-distance-normalized (λ c. search needs) (λ c. search needs)
-    part-cosine-distance-normalized-end (λ c κs. search needs) (λ c κs. search needs) (λ c. search needs) (λ c. search needs) loop-again returns)
+    Inv-loop μ-loop float-from-bits-t9 loop-holds (λ c. omega (arith, fits c)) (λ c. let h = fits c in search needs) (λ c. search needs) (λ c. search needs)
+    (λ c. fits c) (λ c κs. search needs) (λ c κs. search needs) (λ c. search needs) (λ c. search needs) loop-again returns)

@@ -27,18 +27,6 @@ loop-holds c =
 fits : (c : tie.In-loop Inv-loop μ-loop) → c .before .loop .at + length (c .before .before .before .before .args .sums .now) ≤ length (c .before .before .before .before .args .vectors .now)
 fits c = let s = c .before .before .before .before in row-end (s .args .n) _ _ (c .before .loop .i) _ (s .pre) (c .loop-test .taken) (c .before .loop .inv .1)
 
-add-end : tie.Need-add-end Inv-loop μ-loop
-add-end c = omega (arith, fits c)
-
-mul-add-row : tie.Need-mul-add-row Inv-loop μ-loop
-mul-add-row c = let h = fits c in search needs
-
-part-add-row-start : tie.Need-part-add-row-start Inv-loop μ-loop
-part-add-row-start c = omega arith
-
-part-add-row-end : tie.Need-part-add-row-end Inv-loop μ-loop
-part-add-row-end c = fits c
-
 add-row-requires : tie.Need-add-row-requires Inv-loop μ-loop
 add-row-requires c κs = part-length _ (c .before .before .before .loop .at) _ (fits (c .before .before)) ∙ sym (c .before .before .before .loop .inv .2)
 
@@ -55,9 +43,6 @@ loop-again c =
           (summing-more (x .vectors .now) d (x .n) (x .sums .now) (l .at) (l .i) (l .sums) (omega arith) (l .inv .3)),
     )
 
-same-length : tie.Need-same-length Inv-loop μ-loop
-same-length c = c .before .loop .inv .2
-
 returns : tie.Need-returns Inv-loop μ-loop
 returns c =
     let l = c .before .loop in
@@ -68,5 +53,5 @@ pub sum-rows-spec : {M : Type 1} → statement M
 sum-rows-spec =
     tie.close
     (tie.spec
-    Inv-loop μ-loop loop-holds add-end mul-add-row (λ c. search needs) part-add-row-start part-add-row-end add-row-requires (λ c. search needs)
-    (λ c. search needs) loop-again same-length returns)
+    Inv-loop μ-loop loop-holds (λ c. omega (arith, fits c)) (λ c. let h = fits c in search needs) (λ c. search needs) (λ c. search needs) (λ c. fits c)
+    add-row-requires (λ c. search needs) (λ c. search needs) loop-again (λ c. c .before .loop .inv .2) returns)

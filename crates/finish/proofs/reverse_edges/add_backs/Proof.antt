@@ -32,9 +32,6 @@ loop-again c =
       turn-more (x .degree) (x .node .0) (x .rows .now) (l .e) (nb .result .0) (l .rows) (back .last .0) (omega (arith, ap length (row .ensures))) (nb .ensures) (l .inv .1) (back .ensures),
     )
 
-same-length : tie.Need-same-length Inv-loop μ-loop
-same-length c = c .before .loop .inv .0
-
 returns : tie.Need-returns Inv-loop μ-loop
 returns c =
     let l = c .before .loop in
@@ -49,4 +46,4 @@ add-backs-spec =
     -- row_of
     (λ c κs. search needs) loop-holds
     -- entry_of, add_back, e, the loop measure
-    (λ c κs. search needs) (λ c κs. search needs) (λ c. search needs) (λ c. search needs) loop-again same-length returns)
+    (λ c κs. search needs) (λ c κs. search needs) (λ c. search needs) (λ c. search needs) loop-again (λ c. c .before .loop .inv .0) returns)

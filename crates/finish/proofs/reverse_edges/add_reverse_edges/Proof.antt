@@ -28,9 +28,6 @@ loop-again c =
       reverse-more (x .degree) (x .rows .now) (l .i) (l .rows) _ (omega arith) (l .inv .2) (c .before .before .add-backs .ensures),
     )
 
-same-length : tie.Need-same-length Inv-loop μ-loop
-same-length c = c .before .loop .inv .1
-
 returns : tie.Need-returns Inv-loop μ-loop
 returns c =
     let l = c .before .loop in
@@ -45,4 +42,4 @@ add-reverse-edges-spec =
     -- size, lesser, n
     (λ c. search needs) (λ c. search needs) (λ c κs. search needs) (λ c. search needs) loop-holds
     -- add_backs, i, the loop measure
-    (λ c κs. search needs) (λ c. search needs) (λ c. search needs) loop-again same-length returns)
+    (λ c κs. search needs) (λ c. search needs) (λ c. search needs) loop-again (λ c. c .before .loop .inv .1) returns)
