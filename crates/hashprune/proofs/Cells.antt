@@ -2,9 +2,9 @@
 -- has its hash, or a new cell is put. Assumes nothing.
 use mathlib.Core.Path.{_≡_, refl, sym, ap, ap₂, _∙_, subst}
 use mathlib.Core.Bool.{Bool, true, false, _&&_}
-use mathlib.Core.Logic.{_⊎_, inl, inr}
+use mathlib.Core.Logic.{inl, inr}
 use mathlib.Core.List.{List, [], _∷_, _++_, map}
-use mathlib.Core.List.{List·Memᴰ as In, List·Memᴰ·head as here, List·Memᴰ·not-nil as in-nil, List·Memᴰ·cases-cons as in-cons, List·Memᴰ·append-cases as in-cases}
+use mathlib.Core.List.{List·Memᴰ as In, List·Memᴰ·head as here, List·Memᴰ·not-nil as in-nil, List·Memᴰ·eq-of-singleton as in-one, List·Memᴰ·append-cases as in-cases}
 use Prim.Native.Nat.{ℕ, zero, suc, _+_, _≤_, _<_}
 use native.Mathlib.Numerals.{add-one}
 use native.Mathlib.Omega.{arith}
@@ -186,15 +186,11 @@ module _ (far : ℕ → Float) (held hash place at : ℕ) (hs is : List ℕ) (hk
   new-cells hs′ is′ t hr ir eh ei =
       ap₂ (λ (h i : List ℕ). map cellIn (pairs h i)) (inserted-front hs hs′ held at hash at-within hr eh) (inserted-front is is′ held at place at-within ir ei)
       ∙ cells-put (take held hs) (take held is) at hash place (size-h ∙ sym size-i) (placed .within)
-      ∙ sym (put-new far new cells at (omega (arith, many, at-within)) before (λ k. above k (one-false (ltb at (length (take held hs))) (eqb (getD (take held hs) at 0) hash) t)))
-    where
-      above : at < length cells → (ltb at (length (take held hs)) ≡ false) ⊎ (eqb (getD (take held hs) at 0) hash ≡ false) → hash < getD (hashesIn cells) at 0
-      above k (inl f) = absurd (omega (arith, ltb-false at (length (take held hs)) f, size-h, many))
-      above k (inr f) =
-          let inside : at < length (take held hs) = omega (arith, size-h, many) in
-          let least = placed .here inside in
-          let apart : getD (take held hs) at 0 ≡ hash → ⊥ = eqb-false _ _ f in
-          rw hashes-are (lt-of-le-ne least (λ e. apart (sym e)))
+      ∙ sym (put-new far new cells at (omega (arith, many, at-within)) before (λ k.
+      elim (one-false (ltb at (length (take held hs))) (eqb (getD (take held hs) at 0) hash) t) [
+        | inl f ↦ absurd (omega (arith, ltb-false at (length (take held hs)) f, size-h, many))
+        | inr f ↦ rw hashes-are (lt-of-le-ne (placed .here (omega (arith, size-h, many))) (λ e. eqb-false (getD (take held hs) at 0) hash f (sym e)))
+      ]))
 
   -- the place that holds the cell is among those held
   pub holder-inside : (m : ℕ) → Below m (take held is) → test ≡ true → getD is at 0 < m
@@ -207,15 +203,10 @@ module _ (far : ℕ → Float) (held hash place at : ℕ) (hs is : List ℕ) (hk
 pub places-below : (i x : ℕ) → In x (firstPlaces i) → x < i
 unfolding firstPlaces
 places-below zero x m = absurd (in-nil m)
-places-below (suc i) x m = go (places-below i x) (in-cases (firstPlaces i) m)
-  where
-    last : (x ≡ i) ⊎ In x [] → x < suc i
-    last (inl e) = omega arith
-    last (inr n) = absurd (in-nil n)
-
-    go : (In x (firstPlaces i) → x < i) → In x (firstPlaces i) ⊎ In x (i ∷ []) → x < suc i
-    go rec (inl n) = let k = rec n in omega arith
-    go rec (inr n) = last (in-cons n)
+places-below (suc i) x m = elim (in-cases (firstPlaces i) m) [
+  | inl n ↦ let k = places-below i x n in omega arith
+  | inr n ↦ let e = in-one n in omega arith
+]
 
 module _ (far : ℕ → Float) (hash : ℕ → ℕ) where
   cells-snoc : (cells : List Cell) (xs : List ℕ) (x : ℕ)
@@ -226,37 +217,24 @@ module _ (far : ℕ → Float) (hash : ℕ → ℕ) where
 
   -- places that hold cells are places that came
   pub cells-below : (i : ℕ) → Below i (nodesIn (cellsFrom far hash [] (firstPlaces i)))
-  cells-below i x m = go (cells-in far hash x [] (firstPlaces i) m)
-    where
-      go : In x [] ⊎ In x (firstPlaces i) → x < i
-      go (inl n) = absurd (in-nil n)
-      go (inr n) = places-below i x n
+  cells-below i x m = elim (cells-in far hash x [] (firstPlaces i) m) [ inl n ↦ absurd (in-nil n) | inr n ↦ places-below i x n ]
 
   -- the first i have come, and hold the first cells of two slices
   pub record Came (i held : ℕ) (hs is : List ℕ) : Type 0 where
     pub few : held ≤ i
     pub cells-are : cellsIn held hs is ≡ cellsFrom far hash [] (firstPlaces i)
 
-  pub came-none : (hs is : List ℕ) → Came 0 0 hs is
+module _ {far : ℕ → Float} {hash : ℕ → ℕ} where
+  pub came-none : {hs is : List ℕ} → Came far hash 0 0 hs is
   unfolding cellsFrom firstPlaces pairs
-  came-none hs is = record { few = omega arith; cells-are = refl }
+  came-none = record { few = omega arith; cells-are = refl }
 
-  pub came-below : (i held : ℕ) (hs is : List ℕ) → held ≤ length hs → held ≤ length is → Came i held hs is → Below i (take held is)
-  came-below i held hs is hk ik c x m =
-      let h : length (take held hs) ≡ held = simp length-take (omega arith) in
-      let k : length (take held is) ≡ held = simp length-take (omega arith) in
-      cells-below i x (subst (λ (l : List Cell). In x (nodesIn l)) (c .cells-are) (subst (In x) (sym (nodes-of (take held hs) (take held is) (h ∙ sym k))) m))
-
-  pub came-more : (i held r h : ℕ) (hs is hs′ is′ : List ℕ) → Came i held hs is → h ≡ hash i → r ≤ held + 1
-      → cellsIn r hs′ is′ ≡ putCell far (cellIn (h, i)) (cellsIn held hs is) → Came (i + 1) r hs′ is′
+  pub came-more : {i held r h : ℕ} {hs is hs′ is′ : List ℕ} → Came far hash i held hs is → h ≡ hash i → r ≤ held + 1
+      → cellsIn r hs′ is′ ≡ putCell far (cellIn (h, i)) (cellsIn held hs is) → Came far hash (i + 1) r hs′ is′
   unfolding firstPlaces
-  came-more i held r h hs is hs′ is′ c e n q = record {
+  came-more {i} c e n q = record {
     few = omega (arith, c .few);
-    cells-are =
-        q
-        ∙ ap₂ (λ (x : ℕ) (l : List Cell). putCell far (cellIn (x, i)) l) e (c .cells-are)
-        ∙ sym (cells-snoc [] (firstPlaces i) i)
-        ∙ ap (λ (k : ℕ). cellsFrom far hash [] (firstPlaces k)) (sym (add-one i));
+    cells-are = q ∙ rw (e, c .cells-are, add-one) (sym (cells-snoc far hash [] (firstPlaces i) i));
   }
 
 -- the slice of places alone
@@ -266,3 +244,7 @@ places-are held hs is cells hk ik e =
     let h : length (take held hs) ≡ held = simp length-take (omega arith) in
     let k : length (take held is) ≡ held = simp length-take (omega arith) in
     sym (nodes-of (take held hs) (take held is) (h ∙ sym k)) ∙ ap nodesIn e
+
+pub came-below : {far : ℕ → Float} {hash : ℕ → ℕ} {i held : ℕ} {hs is : List ℕ} → held ≤ length hs → held ≤ length is
+    → Came far hash i held hs is → Below i (take held is)
+came-below {far} {hash} {i} {held} {hs} {is} hk ik c x m = cells-below far hash i x (rw (places-are held hs is _ hk ik (c .cells-are)) at m)

@@ -1,10 +1,10 @@
 -- What the steps make of a turn is what the definitions of part 5 say, where the caller prepared what `Turn` says: an index stands for its candidate,
 -- a pair for its node. Assumes nothing.
-use mathlib.Core.Path.{_≡_, refl, sym, ap, ap₂, _∙_, subst}
-use mathlib.Core.Logic.{_⊎_, inl, inr}
+use mathlib.Core.Path.{_≡_, refl, sym, ap, ap₂, _∙_}
+use mathlib.Core.Logic.{inl, inr}
 use mathlib.Core.Bool.{Bool}
-use mathlib.Core.List.{List, [], _∷_, _++_, map, map-append}
-use mathlib.Core.List.{List·Memᴰ as In, List·Memᴰ·head as here, List·Memᴰ·tail as there, List·Memᴰ·not-nil as in-nil}
+use mathlib.Core.List.{List, [], _∷_, _++_, map, map-append, map-map, map-id}
+use mathlib.Core.List.{List·Memᴰ·head as here, List·Memᴰ·tail as there, List·Memᴰ·not-nil as in-nil, List·Memᴰ·eq-of-singleton as in-one}
 use Prim.Native.Nat.{ℕ, zero, suc, _-_, _*_, _/_, _≤_, _<_, min}
 use native.Mathlib.Nat.{mul-le-mul-right, div-mul-le-self}
 use native.Mathlib.Omega.{arith}
@@ -38,14 +38,6 @@ use Rattle.hashprune.proofs.Cells.{cells-below, places-below}
 map-same {ℓ} : {B : Type ℓ} (f g : ℕ → B) (n : ℕ) (xs : List ℕ) → Below n xs → ((i : ℕ) → i < n → f i ≡ g i) → map f xs ≡ map g xs
 map-same f g n [] b e = refl
 map-same f g n (x ∷ xs) b e = ap₂ (λ y l. y ∷ l) (e x (b x (here refl))) (map-same f g n xs (λ y m. b y (there m)) e)
-
-map-twice {ℓ κ} : {B : Type ℓ} {C : Type κ} (g : B → C) (f : ℕ → B) (xs : List ℕ) → map g (map f xs) ≡ map (λ (x : ℕ). g (f x)) xs
-map-twice g f [] = refl
-map-twice g f (x ∷ xs) = ap (λ l. g (f x) ∷ l) (map-twice g f xs)
-
-map-own : (xs : List ℕ) → map (λ (x : ℕ). x) xs ≡ xs
-map-own [] = refl
-map-own (x ∷ xs) = ap (λ (l : List ℕ). x ∷ l) (map-own xs)
 
 -- ---- cells seen through their places
 
@@ -96,15 +88,8 @@ module _ (n : ℕ) (far far′ : ℕ → Float) (same : (i : ℕ) → i < n → 
 
   put-below : (new : Cell) (cells : List Cell) → new .node < n → Below n (nodesIn cells) → Below n (nodesIn (putCell far′ new cells))
   unfolding cellsFrom
-  put-below new cells h b x m = go (cells-in far′ (λ (i : ℕ). new .hash) x cells (new .node ∷ []) m)
-    where
-      one : (x : ℕ) → In x (new .node ∷ []) → x < n
-      one x (here e) = subst (λ (z : ℕ). z < n) (sym e) h
-      one x (there k) = absurd (in-nil k)
-
-      go : In x (nodesIn cells) ⊎ In x (new .node ∷ []) → x < n
-      go (inl k) = b x k
-      go (inr k) = one x k
+  put-below new cells h b x m =
+      elim (cells-in far′ (λ (i : ℕ). new .hash) x cells (new .node ∷ []) m) [ inl k ↦ b x k | inr k ↦ let e = in-one k in omega arith ]
 
   cells-same : (hash hash′ : ℕ → ℕ) → ((i : ℕ) → i < n → hash i ≡ hash′ i) → (cells : List Cell) (xs : List ℕ) → Below n (nodesIn cells) → Below n xs
       → cellsFrom far hash cells xs ≡ cellsFrom far′ hash′ cells xs
@@ -137,7 +122,7 @@ module _ (f : ℕ → ℕ) where
 
   merged-ranked : (D : ℕ) (xs : List ℕ) → mergedPairs D (map ranked xs) ≡ take D (dedup (sortBy f xs))
   merged-ranked D xs =
-      ap (λ (l : List ℕ). take D (dedup l)) (ap (map idIn) (sort-ranked xs) ∙ map-twice idIn ranked (sortBy f xs) ∙ map-own (sortBy f xs))
+      ap (λ (l : List ℕ). take D (dedup l)) (ap (map idIn) (sort-ranked xs) ∙ map-map idIn ranked (sortBy f xs) ∙ map-id (sortBy f xs))
 
 -- ---- the turn
 
@@ -209,7 +194,7 @@ module _ (vectors : List Float) (dimension bits : ℕ) (planes : List Float) (p 
       let all : map node-at (firstPlaces n) ≡ candidates = places-all candidates n (omega arith) ∙ lib.Seq.take-length candidates in
       map-same (rankedPlace candidates far) (λ i. ranked (rank vs p) (node-at i)) n (nodesIn places)
       (cells-below (farAt far) (hashAt point vectors planes candidates) n) place-ranked
-      ∙ sym (map-twice (ranked (rank vs p)) node-at (nodesIn places))
+      ∙ sym (map-map (ranked (rank vs p)) node-at (nodesIn places))
       ∙ ap (map (ranked (rank vs p)))
       (ap (λ (l : List Cell). map node-at (nodesIn l)) by-node
       ∙ sym (nodes-map node-at (cellsFrom (λ i. between vs p (node-at i)) (λ i. hashOf bits dimension vs p (node-at i)) [] (firstPlaces n)))

@@ -16,9 +16,6 @@ Inv-loop ids₀ from₀ i₀ ids from i = Deduped ids₀ ids i from
 abbrev μ-loop : tie.MeasureT-loop
 μ-loop ids₀ from₀ i₀ ids from i = i
 
-loop-holds : tie.Need-loop-holds Inv-loop μ-loop
-loop-holds c = deduped-none (c .before .args .ids .now)
-
 loop-again : tie.Need-loop-again Inv-loop μ-loop
 loop-again c =
     let l = c .before .before .before .before .before .loop in
@@ -28,9 +25,6 @@ loop-again-2 : tie.Need-loop-again-2 Inv-loop μ-loop
 loop-again-2 c =
     let l = c .before .before .before .before .before .loop in
     deduped-same (c .before .before .before .before .before .before .before .args .ids .now) (l .ids) (l .i) (l .from) (c .before .before .before .before .loop-test .taken) (l .inv) (sym (c .before .stands-at .ensures) ∙ not-false _ (c .if1 .left))
-
-same-length : tie.Need-same-length Inv-loop μ-loop
-same-length c = c .before .loop .inv .long
 
 returns : tie.Need-returns Inv-loop μ-loop
 returns c =
@@ -43,9 +37,9 @@ pub dedup-spec : {M : Type 1} → statement M
 dedup-spec =
     tie.close
     (tie.spec
-    Inv-loop μ-loop loop-holds
+    Inv-loop μ-loop (λ c. deduped-none (c .before .args .ids .now))
     -- i, id, stands_at, from, ids, the loop measure
     (λ c. search needs) (λ c. search needs) (λ c. search needs) (λ c κs. search needs) (λ c. search needs) (λ c. search needs) (λ c. search needs)
     (λ c. search needs) loop-again
     -- the loop measure
-    (λ c. search needs) loop-again-2 same-length returns)
+    (λ c. search needs) loop-again-2 (λ c. c .before .loop .inv .long) returns)

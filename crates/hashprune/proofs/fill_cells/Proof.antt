@@ -21,17 +21,14 @@ Inv-loop vectors point planes candidates far hashes₀ places₀ p held₀ i₀ 
 abbrev μ-loop : tie.MeasureT-loop
 μ-loop vectors point planes candidates far hashes₀ places₀ p held₀ i₀ hashes places held i = length candidates - i
 
-loop-holds : tie.Need-loop-holds Inv-loop μ-loop
-loop-holds c =
-    let a = c .before .before .before .before .before .before .before .args in
-    (omega arith, refl, refl, came-none (farAt (a .far .now)) (hashAt (a .point) (a .vectors .now) (a .planes .now) (a .candidates .now)) (a .hashes .now) (a .places .now))
+abbrev start : tie.At-loop Inv-loop μ-loop → tie.Start Inv-loop μ-loop
+start c = c .before .before .before .before .before .before .before .before
 
 put-cell-requires : tie.Need-put-cell-requires Inv-loop μ-loop
 put-cell-requires c κs =
-    let s = c .before .before .before .before .before .before .before .before .before .before .before .before .before in
-    let a = s .args in
+    let s = start (c .before .before .before .before .before) in
     let l = c .before .before .before .before .before .loop in
-    let inside = came-below (farAt (a .far .now)) (hashAt (a .point) (a .vectors .now) (a .planes .now) (a .candidates .now)) (l .i) (l .held) (l .hashes) (l .places) (omega (arith, l .inv .1, l .inv .3 .few, s .pre .hashes-room)) (omega (arith, l .inv .2, l .inv .3 .few, s .pre .places-room)) (l .inv .3) in
+    let inside = came-below (omega (arith, l .inv .1, l .inv .3 .few, s .pre .hashes-room)) (omega (arith, l .inv .2, l .inv .3 .few, s .pre .places-room)) (l .inv .3) in
     record {
       hashes-room = omega (arith, l .inv .1, l .inv .3 .few, s .pre .hashes-room);
       places-room = omega (arith, l .inv .2, l .inv .3 .few, s .pre .places-room);
@@ -41,8 +38,7 @@ put-cell-requires c κs =
 
 loop-again : tie.Need-loop-again Inv-loop μ-loop
 loop-again c =
-    let s = c .before .before .before .before .before .before .before .before .before .before .before .before .before .before .before .before .before .before in
-    let a = s .args in
+    let a = start (c .before .before .before .before .before .before .before .before .before .before) .args in
     let l = c .before .before .before .before .before .before .before .before .before .before .loop in
     let put = c .before .before .before .before .put-cell in
     let hash = c .before .before .before .before .before .before .before .hash-of-node in
@@ -52,14 +48,8 @@ loop-again c =
       omega (arith, c .before .before .before .before .before .before .before .before .before .loop-test .taken),
       put .kept .0 ∙ l .inv .1,
       put .kept .1 .0 ∙ l .inv .2,
-      came-more (farAt (a .far .now)) (hashAt (a .point) (a .vectors .now) (a .planes .now) (a .candidates .now)) (l .i) (l .held) (put .result) (hash .result) (l .hashes) (l .places) _ _ (l .inv .3) (hash .ensures ∙ same) (put .ensures .0) (put .ensures .1),
+      came-more (l .inv .3) (hash .ensures ∙ same) (put .ensures .0) (put .ensures .1),
     )
-
-same-length : tie.Need-same-length Inv-loop μ-loop
-same-length c = c .before .loop .inv .1
-
-same-length-2 : tie.Need-same-length-2 Inv-loop μ-loop
-same-length-2 c = c .before .loop .inv .2
 
 returns : tie.Need-returns Inv-loop μ-loop
 returns c =
@@ -74,8 +64,8 @@ fill-cells-spec =
     (tie.spec
     Inv-loop μ-loop
     -- get_vector
-    (λ c κs. search needs) loop-holds
+    (λ c κs. search needs) (λ c. (omega arith, refl, refl, came-none))
     -- hash_of_node, put_cell
     (λ c. search needs) (λ c. search needs) (λ c κs. search needs) (λ c. search needs) put-cell-requires
     -- i, the loop measure
-    (λ c. search needs) (λ c. search needs) loop-again same-length same-length-2 returns)
+    (λ c. search needs) (λ c. search needs) loop-again (λ c. c .before .loop .inv .1) (λ c. c .before .loop .inv .2) returns)

@@ -14,9 +14,8 @@ returns-2 c = λ old t. let a = c .before .before .before .before .before .befor
 returns-5 : tie.Need-returns-5
 returns-5 c =
     let at-insert-fitting = c .before .before in
-    let start = at-insert-fitting .before .before .before .before .before .before .before .before .before .before .before in
     λ old t.
-    let a = start .args in
+    let a = at-insert-fitting .before .before .before .before .before .before .before .before .before .before .before .args in
     at-insert-fitting .insert-fitting .ensures
     ∙ turn-is (a .vectors .now) (a .point .dimension) (a .point .bits) (a .planes .now) (a .point .node .0) (a .candidates .now) (a .far .now) (a .row .now) old t
 

@@ -14,9 +14,6 @@ Inv-loop s₀ at v carried₀ j₀ s carried j = Carried s₀ at v s carried j
 abbrev μ-loop : tie.MeasureT-loop
 μ-loop s₀ at v carried₀ j₀ s carried j = length s₀ - j
 
-loop-holds : tie.Need-loop-holds Inv-loop μ-loop
-loop-holds c = let a = c .args in carried-first (a .s .now) (a .at) (a .v) (c .pre)
-
 loop-again : tie.Need-loop-again Inv-loop μ-loop
 loop-again c =
     let l = c .before .before .loop in
@@ -33,7 +30,7 @@ pub insert-at-spec : {M : Type 1} → statement M
 insert-at-spec =
     tie.close
     (tie.spec
-    Inv-loop μ-loop loop-holds
+    Inv-loop μ-loop (λ c. let a = c .args in carried-first (a .s .now) (a .at) (a .v) (c .pre))
     -- next, s, j, the loop measure
     (λ c. search needs) (λ c. search needs) (λ c. search needs) (λ c. search needs) (λ c. search needs) (λ c. search needs) loop-again
     -- lengths stay

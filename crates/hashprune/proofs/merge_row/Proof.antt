@@ -13,11 +13,18 @@ use borrow.Author.Needs.{needs}
 use Rattle.hashprune.proofs.merge_row.Statement.{statement}
 use Rattle.hashprune.proofs.merge_row.Tie as tie
 
+abbrev sorted : tie.After-dedup → tie.After-sort-pairs
+sorted c = c .before .before .before .before .before .before .before .before .before .before
+
+abbrev start : tie.After-sort-pairs → tie.Start
+start c = c .before .before .before .before .before .before .before .before .before .before
+
 returns : tie.Need-returns
 returns c =
-    let s = c .before .before .before .before .before .before .before .before .before .before .before .before .before .before .before .before .before .before .before .before .before .before .before .before .before .before .before .before in
+    let at-sort-pairs = sorted (c .before .before .before .before .before .before .before .before) in
+    let s = start at-sort-pairs in
     let a = s .args in
-    let t = c .before .before .before .before .before .before .before .before .before .before .before .before .before .before .before .before .before .before .sort-pairs in
+    let t = at-sort-pairs .sort-pairs in
     let d = c .before .before .before .before .before .before .before .before .dedup in
     let fit : fitting (a .keys .now) (a .ids .now) (a .spare-keys .now) (a .spare-ids .now) ≡ length (a .keys .now)
     = omega (arith, s .pre .same, s .pre .spare-keys-room, s .pre .spare-ids-room) in

@@ -14,9 +14,6 @@ Inv-loop hashes hash j₀ j = (j ≤ length hashes) × AllBelow hash (take j has
 abbrev μ-loop : tie.MeasureT-loop
 μ-loop hashes hash j₀ j = length hashes - j
 
-loop-holds : tie.Need-loop-holds Inv-loop μ-loop
-loop-holds c = (omega arith, tt)
-
 returns : tie.Need-returns Inv-loop μ-loop
 returns c =
     let l = c .before .before .before .loop in
@@ -37,7 +34,7 @@ pub place-of-spec : {M : Type 1} → statement M
 place-of-spec =
     tie.close
     (tie.spec
-    Inv-loop μ-loop loop-holds
+    Inv-loop μ-loop (λ c. (omega arith, tt))
     -- if1
     (λ c. search needs) (λ c. search needs) returns
     -- j, the loop measure

@@ -21,9 +21,6 @@ loop-holds c =
     let a = c .before .before .before .before .before .args in
     ranking-none (rankedPlace (a .candidates .now) (a .far .now)) (a .places .now) (a .keys .now) (a .ids .now)
 
-cast-place : tie.Need-cast-place Inv-loop μ-loop
-cast-place c = omega (arith, c .shared-slice-known4 .given (c .before .before .loop .i))
-
 mul-key : tie.Need-mul-key Inv-loop μ-loop
 mul-key c =
     let s = c .before .before .before .before .before .before .before .before in
@@ -65,12 +62,6 @@ loop-again c =
     ranking-more (rankedPlace (a .candidates .now) (a .far .now)) (a .places .now) (a .keys .now) (a .ids .now) (l .keys) (l .ids) (l .i) (k .result) _
     (omega arith) (omega (arith, s .pre .keys-room)) (omega (arith, s .pre .ids-room)) (l .inv) (k .ensures) refl
 
-same-length : tie.Need-same-length Inv-loop μ-loop
-same-length c = c .before .loop .inv .keys-long
-
-same-length-2 : tie.Need-same-length-2 Inv-loop μ-loop
-same-length-2 c = c .before .loop .inv .ids-long
-
 returns : tie.Need-returns Inv-loop μ-loop
 returns c =
     let a = c .before .before .before .before .before .before .before .args in
@@ -83,8 +74,9 @@ rank-places-spec =
     (tie.spec
     Inv-loop μ-loop loop-holds
     -- place
-    (λ c. search needs) (λ c. search needs) cast-place mul-key shared-slice-read-key
+    (λ c. search needs) (λ c. search needs) (λ c. omega (arith, c .shared-slice-known4 .given (c .before .before .loop .i))) mul-key shared-slice-read-key
     -- key, keys
     (λ c κs. search needs) (λ c. search needs) (λ c. search needs) mul-ids shared-slice-read-ids
     -- ids, i, the loop measure
-    (λ c. search needs) (λ c. search needs) (λ c. search needs) (λ c. search needs) loop-again same-length same-length-2 returns)
+    (λ c. search needs) (λ c. search needs) (λ c. search needs) (λ c. search needs) loop-again (λ c. c .before .loop .inv .keys-long)
+    (λ c. c .before .loop .inv .ids-long) returns)

@@ -41,12 +41,6 @@ loop-again c =
           (omega arith) (omega (arith, s .pre .keys-room)) (omega (arith, s .pre .ids-room)) (l .inv .1) (k .ensures) refl,
     )
 
-same-length : tie.Need-same-length Inv-loop μ-loop
-same-length c = c .before .loop .inv .1 .keys-long
-
-same-length-2 : tie.Need-same-length-2 Inv-loop μ-loop
-same-length-2 c = c .before .loop .inv .1 .ids-long
-
 returns : tie.Need-returns Inv-loop μ-loop
 returns c =
     let s = c .before .before .before .before .before .before .before .before in
@@ -70,4 +64,4 @@ rank-row-spec =
     (λ c. search needs) (λ c. search needs) (λ c κs. search needs) loop-holds
     -- node, node_key, keys, ids, i, the loop measure
     (λ c. search needs) (λ c. search needs) (λ c κs. search needs) (λ c. search needs) (λ c. search needs) (λ c. search needs) (λ c. search needs)
-    (λ c. search needs) (λ c. search needs) loop-again same-length same-length-2 returns)
+    (λ c. search needs) (λ c. search needs) loop-again (λ c. c .before .loop .inv .1 .keys-long) (λ c. c .before .loop .inv .1 .ids-long) returns)

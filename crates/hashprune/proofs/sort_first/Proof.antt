@@ -10,9 +10,10 @@ use Rattle.hashprune.proofs.sort_first.Tie as tie
 
 returns : tie.Need-returns
 returns c =
-    let s = c .before .before .before .before .before .before .before .before .before .before .before .before .before .before .before .before .before in
+    let at-sort-pairs = c .before .before .before .before .before .before .before .before in
+    let s = at-sort-pairs .before .before .before .before .before .before .before .before .before in
     let a = s .args in
-    let t = c .before .before .before .before .before .before .before .before .sort-pairs in
+    let t = at-sort-pairs .sort-pairs in
     let fit : fitting (take (a .n) (a .keys .now)) (take (a .n) (a .ids .now)) (a .spare-keys .now) (a .spare-ids .now) ≡ a .n
     = simp length-take (omega (arith, s .pre .keys-there, s .pre .ids-there, s .pre .spare-keys-room, s .pre .spare-ids-room)) in
     sorted-part (a .n) (a .keys .now) (a .ids .now) (s .pre .keys-there) (s .pre .ids-there) _ (t .last .0) (t .last .1 .0) fit (t .ensures)

@@ -24,21 +24,12 @@ loop-holds c =
     let s = c .before .before .before in
     written-count (s .args .nodes .now) (s .args .row .now) (c .lesser .result) (s .pre .0) (c .lesser .ensures)
 
-mul-row : tie.Need-mul-row Inv-loop μ-loop
-mul-row c = omega (arith, long (c .before .before), c .before .before .before .before .before .before .good)
-
-add-k : tie.Need-add-k Inv-loop μ-loop
-add-k c = omega (arith, long (c .before .before), c .before .before .before .before .before .before .good)
-
 loop-again : tie.Need-loop-again Inv-loop μ-loop
 loop-again c =
     let l = c .before .before .loop in
     let a = c .before .before .before .before .before .before .args in
     let n = c .before .before .before .lesser .result in
     written-more (a .nodes .now) (set (a .row .now) 0 n) (l .row) (l .k) (c .word-at .result) (omega arith) (l .inv) (c .word-at .ensures)
-
-same-length : tie.Need-same-length Inv-loop μ-loop
-same-length c = long (c .before)
 
 returns : tie.Need-returns Inv-loop μ-loop
 returns c =
@@ -52,5 +43,7 @@ pub write-row-spec : {M : Type 1} → statement M
 write-row-spec =
     tie.close
     (tie.spec
-    Inv-loop μ-loop (λ c. search needs) (λ c κs. search needs) (λ c. search needs) (λ c. search needs) loop-holds (λ c. search needs)
-    (λ c κs. search needs) mul-row (λ c. search needs) add-k (λ c. search needs) loop-again same-length returns)
+    Inv-loop μ-loop (λ c. search needs) (λ c κs. search needs) (λ c. search needs) (λ c. search needs) loop-holds (λ c. search needs) (λ c κs. search needs)
+    (λ c. omega (arith, long (c .before .before), c .before .before .before .before .before .before .good)) (λ c. search needs)
+    (λ c. omega (arith, long (c .before .before), c .before .before .before .before .before .before .good)) (λ c. search needs) loop-again
+    (λ c. long (c .before)) returns)
