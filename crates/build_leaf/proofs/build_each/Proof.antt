@@ -18,31 +18,21 @@ abbrev μ-loop : tie.MeasureT-loop
 loop-holds : tie.Need-loop-holds Inv-loop μ-loop
 loop-holds c = let x = c .before .before .before .before .before .before .args in (omega arith, omega arith, refl, refl, leaves-none (x .p) (x .vectors .now) (x .planes .now) (x .nodes .now) (x .sizes .now) (length (x .floats .now)) (x .rows .now))
 
-cast-end : tie.Need-cast-end Inv-loop μ-loop
-cast-end c = omega (arith, c .shared-slice-known5 .given (c .before .before .loop .k))
-
-add-end : tie.Need-add-end Inv-loop μ-loop
-add-end c = omega (arith, c .shared-slice-known5 .given (c .before .before .loop .k))
-
-same-length : tie.Need-same-length Inv-loop μ-loop
-same-length c = c .before .before .before .loop .inv .2
-
-same-length-2 : tie.Need-same-length-2 Inv-loop μ-loop
-same-length-2 c = c .before .before .before .loop .inv .3
-
 returns : tie.Need-returns Inv-loop μ-loop
 returns c =
     let at-loop-test = c .before .before in
     let at-loop = at-loop-test .before in
-    let start = at-loop .before .before .before .before .before .before .before in
     let l = at-loop .loop in
-    let x = start .args in
+    let x = at-loop .before .before .before .before .before .before .before .args in
     leaves-cut (x .p) (x .vectors .now) (x .planes .now) (x .nodes .now) (x .sizes .now) (length (x .floats .now)) (x .rows .now) (l .k) (l .at) _ (l .rows) (at-loop-test .loop-test .taken) refl (c .if1 .taken) (l .inv .4)
+
+abbrev start : tie.At-loop Inv-loop μ-loop → tie.Start Inv-loop μ-loop
+start c = c .before .before .before .before .before .before .before
 
 loop-again : tie.Need-loop-again Inv-loop μ-loop
 loop-again c =
     let l = c .before .before .before .before .before .before .before .before .before .before .before .loop in
-    let x = c .before .before .before .before .before .before .before .before .before .before .before .before .before .before .before .before .before .before .args in
+    let x = start (c .before .before .before .before .before .before .before .before .before .before .before) .args in
     let b = c .before .before .before .before .build-leaf in
     let size : ℕ = getD (x .sizes .now) (l .k) 0 in
     let m : ℕ = (l .at + size) - l .at in (
@@ -53,12 +43,6 @@ loop-again c =
       leaves-more (x .p) (x .vectors .now) (x .planes .now) (x .nodes .now) (x .sizes .now) (length (x .floats .now)) (x .rows .now) (l .k) (l .at) (l .at + size) m (l .rows) _ (c .before .before .before .before .before .before .before .before .before .before .loop-test .taken) refl (omega arith) (l .inv .4)
           (subst (λ (k : ℕ). LeafBuilt (x .p) (x .vectors .now) (x .planes .now) (take m (drop (l .at) (x .nodes .now))) k (l .rows) (b .last .1 .1 .1 .1 .0)) (l .inv .3) (b .ensures)),
     )
-
-same-length-3 : tie.Need-same-length-3 Inv-loop μ-loop
-same-length-3 c = c .before .loop .inv .2
-
-same-length-4 : tie.Need-same-length-4 Inv-loop μ-loop
-same-length-4 c = c .before .loop .inv .3
 
 returns-2 : tie.Need-returns-2 Inv-loop μ-loop
 returns-2 c =
@@ -72,7 +56,9 @@ build-each-spec =
     (tie.spec
     Inv-loop μ-loop loop-holds
     -- end
-    (λ c. search needs) (λ c. search needs) cast-end add-end same-length same-length-2 returns
+    (λ c. search needs) (λ c. search needs) (λ c. omega (arith, c .shared-slice-known5 .given (c .before .before .loop .k)))
+    (λ c. omega (arith, c .shared-slice-known5 .given (c .before .before .loop .k))) (λ c. c .before .before .before .loop .inv .2)
+    (λ c. c .before .before .before .loop .inv .3) returns
     -- build_leaf, part-build-leaf-start, part-build-leaf-end, k, the loop measure
     (λ c. search needs) (λ c. search needs) (λ c. search needs) (λ c. search needs) (λ c κs. search needs) (λ c. search needs) (λ c. search needs)
-    loop-again same-length-3 same-length-4 returns-2)
+    loop-again (λ c. c .before .loop .inv .2) (λ c. c .before .loop .inv .3) returns-2)

@@ -21,10 +21,13 @@ returns c = let x = c .before .before .before .before .before .before .args in l
 loop-holds : tie.Need-loop-holds Inv-loop μ-loop
 loop-holds c = let x = c .before .before .before .before .before .before .args in (omega arith, refl, refl, leaf-first (x .p) (x .vectors .now) (x .planes .now) (x .leaf .now) (length (x .floats .now)) (x .rows .now))
 
+abbrev start : tie.At-loop Inv-loop μ-loop → tie.Start Inv-loop μ-loop
+start c = c .before .before .before .before .before .before .before
+
 loop-again : tie.Need-loop-again Inv-loop μ-loop
 loop-again c =
     let l = c .before .before .before .before .before .before .before .before .before .before .before .loop in
-    let x = c .before .before .before .before .before .before .before .before .before .before .before .before .before .before .before .before .before .before .args in
+    let x = start (c .before .before .before .before .before .before .before .before .before .before .before) .args in
     let far = c .before .before .before .before .before .before .before .before .distances-into in
     let put = c .before .before .each-place in (
       omega arith,
@@ -33,12 +36,6 @@ loop-again c =
       leaf-more (x .p) (x .vectors .now) (x .planes .now) (x .leaf .now) (length (x .floats .now)) (x .rows .now) (l .first) _ (far .last .1 .1 .1 .1 .0) (l .rows) _ (c .before .before .before .before .before .before .before .before .before .before .loop-test .taken) (far .kept .1 .1 .1 .1 .0 ∙ l .inv .2) (l .inv .3)
           (subst (λ (k : ℕ). Distances (x .vectors .now) (x .p .dimension) (x .leaf .now) (l .first) k (far .last .1 .1 .1 .1 .0)) (l .inv .2) (far .ensures)) (put .ensures),
     )
-
-same-length : tie.Need-same-length Inv-loop μ-loop
-same-length c = c .before .loop .inv .1
-
-same-length-2 : tie.Need-same-length-2 Inv-loop μ-loop
-same-length-2 c = c .before .loop .inv .2
 
 returns-2 : tie.Need-returns-2 Inv-loop μ-loop
 returns-2 c =
@@ -52,5 +49,5 @@ build-leaf-spec =
     (tie.spec
     Inv-loop μ-loop returns loop-holds
     -- distances_into, lesser, each_place, the loop measure
-    (λ c κs. search needs) (λ c. search needs) (λ c κs. search needs) (λ c κs. search needs) (λ c. search needs) loop-again same-length same-length-2
-    returns-2)
+    (λ c κs. search needs) (λ c. search needs) (λ c κs. search needs) (λ c κs. search needs) (λ c. search needs) loop-again (λ c. c .before .loop .inv .1)
+    (λ c. c .before .loop .inv .2) returns-2)

@@ -28,9 +28,6 @@ loop-again c =
       places-more (x .p) (x .vectors .now) (x .planes .now) (x .leaf .now) (x .first) (x .floats .now) (x .rows .now) (l .i) (l .i - x .first) (l .rows) _ (l .inv .0) (omega arith) (omega arith) refl (l .inv .3) (c .before .before .one-place .ensures),
     )
 
-same-length : tie.Need-same-length Inv-loop μ-loop
-same-length c = c .before .loop .inv .2
-
 returns : tie.Need-returns Inv-loop μ-loop
 returns c =
     let l = c .before .loop in
@@ -44,4 +41,4 @@ each-place-spec =
     (tie.spec
     Inv-loop μ-loop loop-holds
     -- one_place, i, the loop measure
-    (λ c. search needs) (λ c κs. search needs) (λ c. search needs) (λ c. search needs) loop-again same-length returns)
+    (λ c. search needs) (λ c κs. search needs) (λ c. search needs) (λ c. search needs) loop-again (λ c. c .before .loop .inv .2) returns)

@@ -6,6 +6,9 @@ use borrow.Author.Needs.{needs}
 use Rattle.build_leaf.proofs.leaf_candidates.candidates_within.Statement.{statement}
 use Rattle.build_leaf.proofs.leaf_candidates.candidates_within.Tie as tie
 
+abbrev start : tie.After-nearest → tie.Start
+start c = c .before .before .before .before .before .before .before .before
+
 array-share-prefix-places : tie.Need-array-share-prefix-places
 array-share-prefix-places c =
     let n = c .before .before .nearest in
@@ -20,8 +23,8 @@ slice-aggregate-gather c =
 
 gather-requires : tie.Need-gather-requires
 gather-requires c κs =
-    let x = c .before .before .before .before .before .before .before .before .before .before .before .before .before .args in
-    let s = c .before .before .before .before .before .before .before .before .before .before .before .before .before .pre in
+    let x = start (c .before .before .before .before .before) .args in
+    let s = start (c .before .before .before .before .before) .pre in
     let n = c .before .before .before .before .before .nearest in
     let a = simp length-take at (n .kept .1 .1 .1 .1 .0) in
     let b = simp length-take at (n .kept .1 .1 .1 .1 .1 .0) in (
@@ -33,8 +36,8 @@ gather-requires c κs =
 
 returns : tie.Need-returns
 returns c =
-    let x = c .before .before .before .before .before .before .before .before .before .before .before .before .before .before .before .before .before .before .args in
-    let s = c .before .before .before .before .before .before .before .before .before .before .before .before .before .before .before .before .before .before .pre in
+    let x = start (c .before .before .before .before .before .before .before .before .before .before) .args in
+    let s = start (c .before .before .before .before .before .before .before .before .before .before) .pre in
     let n = c .before .before .before .before .before .before .before .before .before .before .nearest in
     let a = simp length-take at (n .kept .1 .1 .1 .1 .0) in
     let b = simp length-take at (n .kept .1 .1 .1 .1 .1 .0) in

@@ -31,27 +31,6 @@ loop-holds c =
       copied-none (farInLane (x .floats .now) (x .lane)) (x .places .now) (x .far .now) (c .pre .3),
     )
 
-cast-place : tie.Need-cast-place Inv-loop μ-loop
-cast-place c = omega (arith, c .shared-slice-known .given (c .before .before .loop .c))
-
-mul-candidates : tie.Need-mul-candidates Inv-loop μ-loop
-mul-candidates c = omega (arith, in-leaf (c .before))
-
-shared-slice-read-candidates : tie.Need-shared-slice-read-candidates Inv-loop μ-loop
-shared-slice-read-candidates c = omega (arith, in-leaf (c .before .before))
-
-mul-far : tie.Need-mul-far Inv-loop μ-loop
-mul-far c = omega (arith, in-leaf (c .before .before))
-
-add-far : tie.Need-add-far Inv-loop μ-loop
-add-far c = omega (arith, in-leaf (c .before .before))
-
-mul-far-2 : tie.Need-mul-far-2 Inv-loop μ-loop
-mul-far-2 c = omega (arith, in-leaf (c .before .before))
-
-shared-slice-read-far : tie.Need-shared-slice-read-far Inv-loop μ-loop
-shared-slice-read-far c = omega (arith, in-leaf (c .before .before .before))
-
 loop-again : tie.Need-loop-again Inv-loop μ-loop
 loop-again c =
     let l = c .before .before .before .before .loop in
@@ -63,12 +42,6 @@ loop-again c =
       copied-more (nodeIn (x .leaf .now)) (x .places .now) (x .candidates .now) (s .pre .2) (l .c) (l .candidates) _ (c .before .before .before .loop-test .taken) refl (l .inv .3),
       copied-more (farInLane (x .floats .now) (x .lane)) (x .places .now) (x .far .now) (s .pre .3) (l .c) (l .far) _ (c .before .before .before .loop-test .taken) refl (l .inv .4),
     )
-
-same-length : tie.Need-same-length Inv-loop μ-loop
-same-length c = c .before .loop .inv .1
-
-same-length-2 : tie.Need-same-length-2 Inv-loop μ-loop
-same-length-2 c = c .before .loop .inv .2
 
 returns : tie.Need-returns Inv-loop μ-loop
 returns c =
@@ -84,6 +57,8 @@ pub gather-spec : {M : Type 1} → statement M
 gather-spec =
     tie.close
     (tie.spec
-    Inv-loop μ-loop loop-holds (λ c. search needs) (λ c. search needs) cast-place mul-candidates shared-slice-read-candidates (λ c. search needs)
-    (λ c. search needs) mul-far add-far mul-far-2 shared-slice-read-far (λ c. search needs) (λ c. search needs) (λ c. search needs) (λ c. search needs)
-    loop-again same-length same-length-2 returns)
+    Inv-loop μ-loop loop-holds (λ c. search needs) (λ c. search needs) (λ c. omega (arith, c .shared-slice-known .given (c .before .before .loop .c)))
+    (λ c. omega (arith, in-leaf (c .before))) (λ c. omega (arith, in-leaf (c .before .before))) (λ c. search needs) (λ c. search needs)
+    (λ c. omega (arith, in-leaf (c .before .before))) (λ c. omega (arith, in-leaf (c .before .before))) (λ c. omega (arith, in-leaf (c .before .before)))
+    (λ c. omega (arith, in-leaf (c .before .before .before))) (λ c. search needs) (λ c. search needs) (λ c. search needs) (λ c. search needs) loop-again
+    (λ c. c .before .loop .inv .1) (λ c. c .before .loop .inv .2) returns)

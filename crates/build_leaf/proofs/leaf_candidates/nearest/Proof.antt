@@ -8,8 +8,7 @@ returns : tie.Need-returns
 returns c =
     let at-offer2 = c .before .before .before .before in
     let at-offer = at-offer2 .before .before .before .before .before .before .before in
-    let start = at-offer .before .before .before .before .before .before in
-    let x = start .args in
+    let x = at-offer .before .before .before .before .before .before .args in
     let a = at-offer .offer in
     let b = at-offer2 .offer2 in
     nearest-of (x .floats .now) (x .lane) (x .size) (x .i) (a .result) (b .result) (x .keys .now) (x .places .now) _ _ _ _

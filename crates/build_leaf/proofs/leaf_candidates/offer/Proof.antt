@@ -1,7 +1,7 @@
 -- The invariant: the places from `from` to j were offered. The measure is how many are left. Assumes nothing.
 use borrow.Author.Needs.{needs}
 use native.Mathlib.Omega.{arith}
-use mathlib.Core.Path.{_≡_, refl, subst, _∙_}
+use mathlib.Core.Path.{_≡_, refl, _∙_}
 use Prim.Native.Nat.{ℕ, _+_, _-_, _≤_}
 use lib.ListN.{length}
 use Rattle.build_leaf.specs.Inside.Candidates.{Offered}
@@ -20,25 +20,13 @@ loop-holds c =
     let x = c .before .before .before .args in
     (omega arith, omega arith, refl, refl, offered-none (x .floats .now) (x .lane) (x .from) (x .keys .now) (x .places .now) (x .held) _ (omega arith))
 
-mul-key : tie.Need-mul-key Inv-loop μ-loop
-mul-key c = let s = c .before .before .before .before .before .pre .0 in omega (arith, s .fits)
-
-add-key : tie.Need-add-key Inv-loop μ-loop
-add-key c = let s = c .before .before .before .before .before .pre .0 in omega (arith, s .fits, s .lane-is)
-
-mul-key-2 : tie.Need-mul-key-2 Inv-loop μ-loop
-mul-key-2 c = let s = c .before .before .before .before .before .pre .0 in omega (arith, s .fits, s .lane-is)
-
-shared-slice-read-key : tie.Need-shared-slice-read-key Inv-loop μ-loop
-shared-slice-read-key c = let s = c .before .before .before .before .before .before .pre .0 in omega (arith, s .fits, s .lane-is)
-
-cast-keep-first : tie.Need-cast-keep-first Inv-loop μ-loop
-cast-keep-first c = let s = c .before .before .before .before .before .before .before .before .before .pre .0 in omega (arith, s .few)
+abbrev start : tie.At-loop Inv-loop μ-loop → tie.Start Inv-loop μ-loop
+start c = c .before .before .before .before
 
 loop-again : tie.Need-loop-again Inv-loop μ-loop
 loop-again c =
     let l = c .before .before .before .before .before .before .before .before .before .before .loop in
-    let x = c .before .before .before .before .before .before .before .before .before .before .before .before .before .before .args in
+    let x = start (c .before .before .before .before .before .before .before .before .before .before) .args in
     let k = c .before .before .before .before .keep-first in (
       omega arith,
       omega arith,
@@ -48,25 +36,23 @@ loop-again c =
           (l .keys) (l .places) _ _ (l .kept) (omega arith) (omega arith) refl (c .before .before .before .before .before .before .before .key .ensures) (l .inv .2) (l .inv .3) (k .ensures) (l .inv .4),
     )
 
-same-length : tie.Need-same-length Inv-loop μ-loop
-same-length c = c .before .loop .inv .2
-
-same-length-2 : tie.Need-same-length-2 Inv-loop μ-loop
-same-length-2 c = c .before .loop .inv .3
-
 returns : tie.Need-returns Inv-loop μ-loop
 returns c =
     let l = c .before .loop in
     let x = c .before .before .before .before .before .args in
     let e : l .j ≡ x .to = omega arith in
-    subst (λ (j : ℕ). Offered (x .floats .now) (x .lane) (x .from) (j - x .from) (x .keys .now) (x .places .now) (x .held) (l .keys) (l .places) (l .kept)) e (l .inv .4)
+    rw e at (l .inv .4)
 
 pub offer-spec : {M : Type 1} → statement M
 offer-spec =
     tie.close
     (tie.spec
-    Inv-loop μ-loop loop-holds mul-key add-key mul-key-2 shared-slice-read-key
+    Inv-loop μ-loop loop-holds (λ c. let s = c .before .before .before .before .before .pre .0 in omega (arith, s .fits))
+    (λ c. let s = c .before .before .before .before .before .pre .0 in omega (arith, s .fits, s .lane-is))
+    (λ c. let s = c .before .before .before .before .before .pre .0 in omega (arith, s .fits, s .lane-is))
+    (λ c. let s = c .before .before .before .before .before .before .pre .0 in omega (arith, s .fits, s .lane-is))
     -- key
-    (λ c κs. search needs) cast-keep-first
+    (λ c κs. search needs)
+    (λ c. let s = c .before .before .before .before .before .before .before .before .before .pre .0 in omega (arith, s .few))
     -- keep_first, j, the loop measure
-    (λ c κs. search needs) (λ c. search needs) (λ c. search needs) loop-again same-length same-length-2 returns)
+    (λ c κs. search needs) (λ c. search needs) (λ c. search needs) loop-again (λ c. c .before .loop .inv .2) (λ c. c .before .loop .inv .3) returns)

@@ -23,20 +23,13 @@ abbrev μ-loop : tie.MeasureT-loop
 loop-holds : tie.Need-loop-holds Inv-loop μ-loop
 loop-holds c = let x = c .before .before .before .before .args in (omega arith, omega arith, refl, filled-none (vectorsIn (x .dimension) (x .vectors .now)) (x .leaf .now) (x .block .now) (x .floats .now))
 
-cosine-distance-normalized-block-requires :
-    tie.Need-cosine-distance-normalized-block-requires Inv-loop μ-loop
-cosine-distance-normalized-block-requires c κs = search needs
-
-put-eight-requires : tie.Need-put-eight-requires Inv-loop μ-loop
-put-eight-requires c κs = omega arith
-
-add-at : tie.Need-add-at Inv-loop μ-loop
-add-at c = omega arith
+abbrev start : tie.At-loop Inv-loop μ-loop → tie.Start Inv-loop μ-loop
+start c = c .before .before .before .before .before
 
 loop-again : tie.Need-loop-again Inv-loop μ-loop
 loop-again c =
     let l = c .before .before .before .before .before .before .before .before .loop in
-    let x = c .before .before .before .before .before .before .before .before .before .before .before .before .before .args in
+    let x = start (c .before .before .before .before .before .before .before .before) .args in
     let e = c .before .before .before .cosine-distance-normalized-block in (
       omega arith,
       omega arith,
@@ -44,9 +37,6 @@ loop-again c =
       filled-more (vectorsIn (x .dimension) (x .vectors .now)) (x .leaf .now) (x .block .now) (l .j) (l .at) (l .floats) _ (e .result) (c .before .before .before .before .before .before .before .loop-test .taken) (l .inv .1) (omega arith)
           (e .ensures ∙ ap (λ (q : List Float). blockDistancesOf q (x .block .now)) (c .before .before .before .before .before .get-vector .ensures)) (c .before .before .put-eight .ensures) (l .inv .3),
     )
-
-same-length : tie.Need-same-length Inv-loop μ-loop
-same-length c = c .before .loop .inv .2
 
 returns : tie.Need-returns Inv-loop μ-loop
 returns c =
@@ -60,6 +50,6 @@ distance-rows-spec =
     (tie.spec
     Inv-loop μ-loop loop-holds
     -- get_vector
-    (λ c. search needs) (λ c. search needs) (λ c κs. search needs) cosine-distance-normalized-block-requires put-eight-requires add-at
+    (λ c. search needs) (λ c. search needs) (λ c κs. search needs) (λ c κs. search needs) (λ c κs. search needs) (λ c. search needs)
     -- j, the loop measure
-    (λ c. search needs) (λ c. search needs) loop-again same-length returns)
+    (λ c. search needs) (λ c. search needs) loop-again (λ c. c .before .loop .inv .2) returns)

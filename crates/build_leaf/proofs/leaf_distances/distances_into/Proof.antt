@@ -22,9 +22,6 @@ joined vectors d leaf first turned rest room floats e t filled =
     distances-are vectors d leaf first turned room floats e t
     (subst (λ (block : List Float). LanesFilled (vectorsIn d vectors) leaf block (length leaf) floats) (take-at turned rest (8 * d) e) filled)
 
-returns : tie.Need-returns
-returns c = λ few inside fits below. absurd (omega arith)
-
 array-share-prefix-block : tie.Need-array-share-prefix-block
 array-share-prefix-block c =
     let k = simp length-take at (c .before .turn-block .kept .1 .1 .1 .1 .0) in
@@ -37,8 +34,9 @@ slice-aggregate-distance-rows c =
 
 returns-4 : tie.Need-returns-4
 returns-4 c =
-    let x = c .before .before .before .before .before .before .before .before .before .before .before .before .before .before .args in
-    let t = c .before .before .before .before .before .before .turn-block in
+    let at-turn-block = c .before .before .before .before .before .before in
+    let x = at-turn-block .before .before .before .before .before .before .before .before .args in
+    let t = at-turn-block .turn-block in
     let k = simp length-take at (t .kept .1 .1 .1 .1 .0) in
     joined (x .vectors .now) (x .dimension) (x .leaf .now) (x .first) (t .last .1 .1 .1 .1 .0) _ (length (x .floats .now)) _ (omega (arith, k)) (t .ensures) (c .before .before .distance-rows .ensures)
 
@@ -46,7 +44,7 @@ pub distances-into-spec : {M : Type 1} → statement M
 distances-into-spec =
     tie.close
     (tie.spec
-    returns (λ c. λ few inside fits below. absurd (omega arith)) (λ c. λ few inside fits below. absurd (omega arith))
+    (λ c few inside fits below. absurd (omega arith)) (λ c few inside fits below. absurd (omega arith)) (λ c few inside fits below. absurd (omega arith))
     -- width, array-borrow-prefix-block
     (λ c. search needs) (λ c. search needs) (λ c. simp length-take (omega arith)) (λ c κs. (omega arith, simp length-take (omega arith)))
     array-share-prefix-block slice-aggregate-distance-rows (λ c κs. omega arith)

@@ -18,24 +18,12 @@ abbrev μ-loop : tie.MeasureT-loop
 loop-holds : tie.Need-loop-holds Inv-loop μ-loop
 loop-holds c = let x = c .args in (omega arith, omega arith, putting-none (x .lane) (x .v .now) (x .block .now) (c .pre .0) (c .pre .1))
 
-mul-block-2 : tie.Need-mul-block-2 Inv-loop μ-loop
-mul-block-2 c = omega (arith, c .before .before .loop .inv .2 .size)
-
-slice-write-block : tie.Need-slice-write-block Inv-loop μ-loop
-slice-write-block c = omega (arith, c .before .before .loop .inv .2 .size)
-
-add-at : tie.Need-add-at Inv-loop μ-loop
-add-at c = omega (arith, c .before .before .loop .inv .2 .size)
-
 loop-again : tie.Need-loop-again Inv-loop μ-loop
 loop-again c =
     let l = c .before .before .loop in
     let s = c .before .before .before in
     let x = s .args in
     (omega arith, omega arith, putting-more (x .lane) (x .v .now) (x .block .now) (s .pre .0) (s .pre .1) (l .c) (l .at) (l .block) (c .before .loop-test .taken) (l .inv .1) (l .inv .2))
-
-same-length : tie.Need-same-length Inv-loop μ-loop
-same-length c = c .before .loop .inv .2 .size
 
 returns : tie.Need-returns Inv-loop μ-loop
 returns c =
@@ -50,6 +38,7 @@ put-lane-spec =
     (tie.spec
     Inv-loop μ-loop loop-holds
     -- block
-    (λ c. search needs) (λ c. search needs) mul-block-2 slice-write-block add-at
+    (λ c. search needs) (λ c. search needs) (λ c. omega (arith, c .before .before .loop .inv .2 .size))
+    (λ c. omega (arith, c .before .before .loop .inv .2 .size)) (λ c. omega (arith, c .before .before .loop .inv .2 .size))
     -- c, the loop measure
-    (λ c. search needs) (λ c. search needs) loop-again same-length returns)
+    (λ c. search needs) (λ c. search needs) loop-again (λ c. c .before .loop .inv .2 .size) returns)

@@ -35,9 +35,6 @@ loop-again c =
           (c .before .before .before .before .before .before .lesser .ensures) (c .before .before .before .before .get-vector .ensures) (l .inv .2) (c .before .before .put-lane .ensures),
     )
 
-same-length : tie.Need-same-length Inv-loop μ-loop
-same-length c = c .before .loop .inv .1
-
 returns : tie.Need-returns Inv-loop μ-loop
 returns c =
     let l = c .before .loop in
@@ -55,4 +52,4 @@ turn-block-spec =
     -- lesser, get_vector
     (λ c. search needs) (λ c κs. search needs) (λ c. search needs) (λ c. search needs) (λ c κs. search needs) put-lane-requires
     -- g, the loop measure
-    (λ c. search needs) (λ c. search needs) loop-again same-length returns)
+    (λ c. search needs) (λ c. search needs) loop-again (λ c. c .before .loop .inv .1) returns)
