@@ -2,8 +2,7 @@
 -- reached. A turn's bridge starts at a reached node, by the laws of repair, so that the chains take it. Assumes nothing.
 use mathlib.Core.Path.{_≡_, refl, sym, ap, ap₂, subst, _∙_}
 use mathlib.Core.Bool.{Bool, true, false, not}
-use mathlib.Core.List.{List, [], _∷_, _++_, map, flatten}
-use mathlib.Core.List.{List·Memᴰ as In}
+use mathlib.Core.List.{List, [], _∷_, _++_, map, flatten, List·Memᴰ as In}
 use Prim.Native.Nat.{ℕ, zero, suc, _+_, _*_, _≤_, _<_, min}
 use native.Mathlib.Omega.{arith}
 use lib.Dec.{eqb}

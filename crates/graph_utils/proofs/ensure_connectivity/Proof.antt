@@ -41,8 +41,7 @@ returns c =
 returns-2 : tie.Need-returns-2
 returns-2 c =
     let at-repair = c .before .before .before .before .before in
-    let start = at-repair .before .before .before .before .before .before .before .before .before in
-    let a = start .args in
+    let a = at-repair .before .before .before .before .before .before .before .before .before .args in
     let p = at-repair .repair in
     let n : ℕ = length (a .rows .now) / rowSize (a .degree) in
     λ g. all-repaired (a .degree) (a .dimension) (a .rows .now) (a .entry .0) (vectorsIn (a .dimension) (a .vectors .now)) (a .bridges .now) (a .words .now) g (replicate 2048 0)

@@ -2,7 +2,7 @@
 -- has room, since its nodes are reached, each once, and below n. Assumes nothing.
 use mathlib.Core.Path.{_≡_, refl, sym, ap, ap₂, subst, _∙_}
 use mathlib.Core.Logic.{_≢_}
-use mathlib.Core.Bool.{Bool, true, false, not, _&&_, _||_}
+use mathlib.Core.Bool.{Bool, true, false, not, _&&_, _||_, and-true}
 use mathlib.Core.List.{List, [], _∷_}
 use mathlib.Core.List.{List·Memᴰ as In, List·Memᴰ·head as here, List·Memᴰ·tail as there, List·Memᴰ·not-nil as in-nil}
 use Prim.Native.Nat.{ℕ, zero, suc, _+_, _*_, _≤_, _<_}
@@ -56,15 +56,13 @@ module _ (n v : ℕ) (v-below : v < n) (s : State) (m : Marks) (h : Held n s m) 
   fresh : has v (s .seen) ≡ false → (In v (s .seen) → ⊥)
   fresh e i = hasn't v (s .seen) (subst (λ (b : Bool). T (not b)) (sym e) tt) i
 
+  seen-below : Below n (v ∷ s .seen)
+  seen-below x (here q) = omega arith
+  seen-below x (there k) = h .seen-is .below x k
+
   -- one node more is still no more than n
   top-below : has v (s .seen) ≡ false → m .top < n
-  top-below e =
-      let all = at-most n (v ∷ s .seen) (fresh e, h .seen-is .once) below′ in
-      omega (arith, h .few)
-    where
-      below′ : Below n (v ∷ s .seen)
-      below′ x (here q) = omega arith
-      below′ x (there k) = h .seen-is .below x k
+  top-below e = let all = at-most n (v ∷ s .seen) (fresh e, h .seen-is .once) seen-below in omega (arith, h .few)
 
   length-next : length next ≡ length (m .words)
   unfolding next
@@ -95,19 +93,12 @@ module _ (n v : ℕ) (v-below : v < n) (s : State) (m : Marks) (h : Held n s m) 
   held-new : has v (s .seen) ≡ false → Held n (record { seen = v ∷ s .seen; front = v ∷ s .front }) (marks next (m .top + 1))
   unfolding stackOf
   held-new e = record {
-    seen-is = record { room = room′; told = told-new; once = (fresh e, h .seen-is .once); below = below′ };
+    seen-is = record { room = omega (arith, length-next, h .seen-is .room); told = told-new; once = (fresh e, h .seen-is .once); below = seen-below };
     front-is = front′;
     inside = inside′;
     few = omega (arith, h .few);
   }
     where
-      room′ : 2 * n ≤ length next
-      room′ = omega (arith, length-next, h .seen-is .room)
-
-      below′ : Below n (v ∷ s .seen)
-      below′ x (here q) = omega arith
-      below′ x (there k) = h .seen-is .below x k
-
       inside′ : Below n (v ∷ s .front)
       inside′ x (here q) = omega arith
       inside′ x (there k) = h .inside x k
@@ -125,10 +116,6 @@ module _ (n v : ℕ) (v-below : v < n) (s : State) (m : Marks) (h : Held n s m) 
       test : (b : Bool) → has v (s .seen) ≡ b → ltb (m .top) n ≡ true → ((ltb v n && eqb (getD (m .words) v 0) 0) && ltb (m .top) n) ≡ not b
       test b e t =
           ap₂ _&&_ (ap₂ _&&_ (lt-ltb v n v-below) (h .seen-is .told v v-below ∙ ap not e)) t ∙ and-true (not b)
-        where
-          and-true : (c : Bool) → (c && true) ≡ c
-          and-true true = refl
-          and-true false = refl
 
       old : (c : Bool) → has v (s .seen) ≡ true → ((ltb v n && eqb (getD (m .words) v 0) 0) && c) ≡ false
       old c e = ap (λ (x : Bool). x && c) (ap₂ _&&_ (lt-ltb v n v-below) (h .seen-is .told v v-below ∙ ap not e))

@@ -1,7 +1,9 @@
 -- The invariant: the work so far is that of the turns of the nodes below i. The measure is how many are left. Assumes nothing.
 use mathlib.Core.Path.{_≡_, refl, ap, _∙_}
-use Prim.Native.Nat.{ℕ, _-_, _≤_}
+use mathlib.Core.List.{List}
+use Prim.Native.Nat.{_-_, _≤_}
 use lib.ListN.{length}
+use lib.Ieee.{Float}
 use Rattle.distance.specs.Vectors.{vectorsIn}
 use Rattle.graph_utils.specs.Inside.Turns.{Work, work, turnedTo}
 use Rattle.graph_utils.proofs.Steps.{turned-count, no-turn, one-turn, begin-is}
@@ -18,15 +20,21 @@ Inv-loop rows vectors shape entry bridges₀ links₀ state₀ n count₀ i₀ b
 abbrev μ-loop : tie.MeasureT-loop
 μ-loop rows vectors shape entry bridges₀ links₀ state₀ n count₀ i₀ bridges links state count i = n - i
 
+abbrev start : tie.After-clear-links Inv-loop μ-loop → tie.Start Inv-loop μ-loop
+start c = c .before .before .before .before .before .before .before
+
+abbrev cleared : tie.At-loop Inv-loop μ-loop → tie.After-clear-links Inv-loop μ-loop
+cleared c = c .before .before .before .before .before .before .before .before .before
+
 loop-holds : tie.Need-loop-holds Inv-loop μ-loop
 loop-holds c =
-    let a = c .before .before .before .before .before .before .before .before .before .before .before .before .before .before .before .args in
+    let a = start (c .before .before .before .before .before .before .before .before) .args in
     (omega arith, omega arith, refl, refl, refl, no-turn (a .shape) (a .rows .now) (vectorsIn (a .shape .dimension) (a .vectors .now)) (a .entry .0) (work 0 _ _ _))
 
 loop-again : tie.Need-loop-again Inv-loop μ-loop
 loop-again c =
     let l = c .before .before .before .before .before .before .before .before .before .before .before .loop in
-    let a = c .before .before .before .before .before .before .before .before .before .before .before .before .before .before .before .before .before .before .before .before .before .before .before .before .before .before .before .args in
+    let a = start (cleared (c .before .before .before .before .before .before .before .before .before .before .before)) .args in
     let t = c .before .before .before .before .before .before .turn in (
       omega arith,
       omega (arith, ap (λ (w : Work). w .count) (t .ensures), turned-count (a .shape) (a .rows .now) (vectorsIn (a .shape .dimension) (a .vectors .now)) (a .entry .0) (l .i) (work (l .count) (l .bridges) (l .links) (l .state))),
@@ -36,26 +44,18 @@ loop-again c =
       one-turn (a .shape) (a .rows .now) (vectorsIn (a .shape .dimension) (a .vectors .now)) (a .entry .0) _ (work (l .count) (l .bridges) (l .links) (l .state)) _ (l .i) (l .inv .5) (t .ensures),
     )
 
-same-length : tie.Need-same-length Inv-loop μ-loop
-same-length c = c .before .loop .inv .2
-
-same-length-2 : tie.Need-same-length-2 Inv-loop μ-loop
-same-length-2 c =
-    let at-clear-links = c .before .before .before .before .before .before .before .before .before .before in
-    c .before .loop .inv .3 ∙ at-clear-links .clear-links .kept .0
-
-same-length-3 : tie.Need-same-length-3 Inv-loop μ-loop
-same-length-3 c = c .before .loop .inv .4 ∙ c .before .before .before .before .mark-reachable .kept .1 .1 .1 .0
-
 returns : tie.Need-returns Inv-loop μ-loop
 returns c =
     let l = c .before .loop in
-    let a = c .before .before .before .before .before .before .before .before .before .before .before .before .before .before .before .before .before .args in
+    let a = start (cleared (c .before)) .args in
     let e : l .i ≡ a .shape .n = omega arith in
-    let first = begin-is (a .shape) (a .rows .now) (vectorsIn (a .shape .dimension) (a .vectors .now)) (a .entry .0) (a .bridges .now) (a .links .now) (a .state .now) (c .before .before .before .before .before .before .before .before .before .before .clear-links .last .0) (c .before .before .before .before .mark-reachable .last .1 .1 .1 .0) (c .before .before .before .before .before .before .before .before .before .before .clear-links .ensures)
-    (c .before .before .before .before .mark-reachable .ensures) in
-    l .inv .5 ∙ ap (λ (k : ℕ). turnedTo (a .shape) (a .rows .now) (vectorsIn (a .shape .dimension) (a .vectors .now)) (a .entry .0) (work 0 (a .bridges .now) (c .before .before .before .before .before .before .before .before .before .before .clear-links .last .0) (c .before .before .before .before .mark-reachable .last .1 .1 .1 .0)) k) e
-    ∙ ap (λ (w : Work). turnedTo (a .shape) (a .rows .now) (vectorsIn (a .shape .dimension) (a .vectors .now)) (a .entry .0) w (a .shape .n)) first
+    let clear = cleared (c .before) .clear-links in
+    let mark = c .before .before .before .before .mark-reachable in
+    let vs : List (List Float) = vectorsIn (a .shape .dimension) (a .vectors .now) in
+    let first = begin-is (a .shape) (a .rows .now) vs (a .entry .0) (a .bridges .now) (a .links .now) (a .state .now) (clear .last .0) (mark .last .1 .1 .1 .0)
+    (clear .ensures) (mark .ensures) in
+    l .inv .5 ∙ ap (turnedTo (a .shape) (a .rows .now) vs (a .entry .0) (work 0 (a .bridges .now) (clear .last .0) (mark .last .1 .1 .1 .0))) e
+    ∙ ap (λ (w : Work). turnedTo (a .shape) (a .rows .now) vs (a .entry .0) w (a .shape .n)) first
 
 pub repair-spec : {M : Type 1} → statement M
 repair-spec =
@@ -65,4 +65,6 @@ repair-spec =
     -- clear_links, mark_reachable
     (λ c κs. search needs) (λ c κs. search needs) loop-holds
     -- turn, i, the loop measure
-    (λ c κs. search needs) (λ c. search needs) (λ c. search needs) loop-again same-length same-length-2 same-length-3 returns)
+    (λ c κs. search needs) (λ c. search needs) (λ c. search needs) loop-again (λ c. c .before .loop .inv .2)
+    (λ c. c .before .loop .inv .3 ∙ cleared (c .before) .clear-links .kept .0)
+    (λ c. c .before .loop .inv .4 ∙ c .before .before .before .before .mark-reachable .kept .1 .1 .1 .0) returns)

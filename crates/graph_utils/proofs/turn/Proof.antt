@@ -19,8 +19,7 @@ returns-2 c =
     let at-bridge-start = at-put-bridge .before .before in
     let at-if1 = at-bridge-start .before .before .before .before in
     let at-word-at = at-if1 .before in
-    let start = at-word-at .before .before .before .before .before .before .before in
-    let a = start .args in
+    let a = at-word-at .before .before .before .before .before .before .before .args in
     let w = at-word-at .word-at in
     let near = at-bridge-start .bridge-start in
     turn-bridged (a .shape) (a .rows .now) (vectorsIn (a .shape .dimension) (a .vectors .now)) (a .entry .0) (a .i) (a .count) (w .result) (a .bridges .now) (a .links .now) (a .state .now) (w .ensures) (near .result .0) (at-put-bridge .put-bridge .last .0) (at-chain-bridge .chain-bridge .last .0)

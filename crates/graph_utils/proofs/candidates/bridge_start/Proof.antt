@@ -15,8 +15,7 @@ returns c =
     let at-cosine-distance-normalized = at-around-list .before in
     let at-get-vector2 = at-cosine-distance-normalized .before in
     let at-get-vector = at-get-vector2 .before in
-    let start = at-get-vector .before .before .before .before .before .before in
-    let a = start .args in
+    let a = at-get-vector .before .before .before .before .before .before .args in
     let d = at-cosine-distance-normalized .cosine-distance-normalized in
     let query = at-get-vector .get-vector in
     start-is (a .state .now) (a .shape .n) (vectorsIn (a .shape .dimension) (a .vectors .now))

@@ -37,28 +37,13 @@ start : (list : ℕ → List ℕ) (n s : ℕ) (words words′ : List ℕ) (top :
 unfolding marked
 start list n s words words′ top e = ap (λ (r : Marks). markedFrom n list n (r .words) (r .top)) e
 
-loop-holds : tie.Need-loop-holds Inv-loop μ-loop
-loop-holds c = (refl, omega arith, refl)
-
-sub-top : tie.Need-sub-top Inv-loop μ-loop
-sub-top c = let t = inside c in omega arith
-
-sub-more : tie.Need-sub-more Inv-loop μ-loop
-sub-more c = let t = inside c in omega arith
-
-cast-word-at-2 : tie.Need-cast-word-at-2 Inv-loop μ-loop
-cast-word-at-2 c = let t = inside (c .before) in omega arith
-
-add-word-at : tie.Need-add-word-at Inv-loop μ-loop
-add-word-at c = let t = inside (c .before) in omega arith
-
-loop-less : tie.Need-loop-less Inv-loop μ-loop
-loop-less c = let t = inside (c .before .before .before .before .before .before) in omega arith
+abbrev begun : tie.At-loop Inv-loop μ-loop → tie.Start Inv-loop μ-loop
+begun c = c .before .before .before .before .before .before .before .before .before
 
 loop-again : tie.Need-loop-again Inv-loop μ-loop
 loop-again c =
     let l = c .before .before .before .before .before .before .before .loop in
-    let a = c .before .before .before .before .before .before .before .before .before .before .before .before .before .before .before .before .args in
+    let a = begun (c .before .before .before .before .before .before .before) .args in
     let t = inside (c .before .before .before .before .before .before) in
     let w = c .before .before .before .before .word-at in
     let v = c .before .before .visit-list in (
@@ -69,15 +54,11 @@ loop-again c =
           ∙ l .inv .2,
     )
 
-same-length : tie.Need-same-length Inv-loop μ-loop
-same-length c = c .before .loop .inv .0 ∙ c .before .before .before .before .visit .kept .0
-
 returns : tie.Need-returns Inv-loop μ-loop
 returns c =
     let at-visit = c .before .before .before .before in
-    let start-2 = at-visit .before .before .before .before .before .before in
     let l = c .before .loop in
-    let a = start-2 .args in
+    let a = begun (c .before) .args in
     let list : ℕ → List ℕ = listWords (a .shape) (a .rows .now) (a .bridges .now) (a .links .now) in
     ended list (a .shape .n) (l .more) (l .top) (l .state) (one-false (ltb 0 (l .top)) (ltb 0 (l .more)) (c .loop-test .left))
     ∙ l .inv .2
@@ -89,8 +70,9 @@ mark-reachable-spec =
     (tie.spec
     Inv-loop μ-loop
     -- visit
-    (λ c κs. search needs) loop-holds sub-top sub-more
+    (λ c κs. search needs) (λ c. (refl, omega arith, refl)) (λ c. let t = inside c in omega arith) (λ c. let t = inside c in omega arith)
     -- n
-    (λ c. search needs) cast-word-at-2 add-word-at
+    (λ c. search needs) (λ c. let t = inside (c .before) in omega arith) (λ c. let t = inside (c .before) in omega arith)
     -- word_at, visit_list
-    (λ c κs. search needs) (λ c κs. search needs) loop-less loop-again same-length returns)
+    (λ c κs. search needs) (λ c κs. search needs) (λ c. let t = inside (c .before .before .before .before .before .before) in omega arith) loop-again
+    (λ c. c .before .loop .inv .0 ∙ c .before .before .before .before .visit .kept .0) returns)

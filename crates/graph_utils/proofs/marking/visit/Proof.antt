@@ -22,8 +22,7 @@ returns c =
     let at-put = at-put2 .before .before .before .before in
     let at-if1 = at-put .before .before in
     let at-word-at = at-if1 .before in
-    let start = at-word-at .before .before .before in
-    let a = start .args in
+    let a = at-word-at .before .before .before .args in
     let w = at-word-at .word-at in
     visit-new (a .n) (a .v) (a .top) (w .result) (a .state .now) _ (w .ensures) (at-if1 .if1 .taken)
     (at-put2 .put-word2 .ensures ∙ ap (λ (l : List ℕ). set l (a .n + a .top) (a .v)) (at-put .put-word .ensures))

@@ -63,9 +63,6 @@ loop-again c =
           ∙ l .inv .2,
     )
 
-same-length : tie.Need-same-length Inv-loop μ-loop
-same-length c = c .before .before .loop .inv .1
-
 returns : tie.Need-returns Inv-loop μ-loop
 returns c =
     let l = c .before .before .loop in
@@ -87,4 +84,5 @@ visit-list-spec =
     -- row_of, list_start
     (λ c κs. search needs) (λ c κs. search needs) loop-holds
     -- has_entry, list_entry, visit, list_next
-    (λ c κs. search needs) (λ c κs. search needs) (λ c κs. search needs) (λ c κs. search needs) loop-less loop-again same-length returns)
+    (λ c κs. search needs) (λ c κs. search needs) (λ c κs. search needs) (λ c κs. search needs) loop-less loop-again (λ c. c .before .before .loop .inv .1)
+    returns)
