@@ -34,10 +34,8 @@ abbrev pub workedVectors : List (List Float)
 workedVectors = (+one ∷ +zero ∷ []) ∷ (+zero ∷ +one ∷ []) ∷ (-one ∷ +zero ∷ []) ∷ []
 
 abbrev pub workedSettings : Settings
-workedSettings = record {
-  dimension = 2; maxLeafSize = 256; minLeafSize = 0; leaderFraction = half;
-  maxDegree = 1; numHashBits = 0; finalPrune = true; alpha = alpha;
-}
+workedSettings =
+    record { dimension = 2; maxLeafSize = 256; minLeafSize = 0; leaderFraction = half; maxDegree = 1; numHashBits = 0; finalPrune = true; alpha = alpha }
 
 -- node 1's two neighbours are equally near and meet in the one cell: the first stays
 pub worked-rows : rowsOf workedSettings workedVectors ≡ (1 ∷ []) ∷ (0 ∷ []) ∷ (1 ∷ []) ∷ []
@@ -83,10 +81,8 @@ leafVectors : List (List Float)
 leafVectors = (+zero ∷ half ∷ []) ∷ (-one ∷ +one ∷ []) ∷ (half ∷ +one ∷ []) ∷ []
 
 leafSettings : Settings
-leafSettings = record {
-  dimension = 2; maxLeafSize = 256; minLeafSize = 2; leaderFraction = threeQuarters;
-  maxDegree = 2; numHashBits = 3; finalPrune = true; alpha = alpha;
-}
+leafSettings =
+    record { dimension = 2; maxLeafSize = 256; minLeafSize = 2; leaderFraction = threeQuarters; maxDegree = 2; numHashBits = 3; finalPrune = true; alpha = alpha }
 
 leaf-rows : leafRows leafSettings leafVectors ≡ (1 ∷ []) ∷ (0 ∷ []) ∷ (1 ∷ 0 ∷ []) ∷ []
 unfolding leafRows leafSettings leafVectors add sub mul lt le isNan toBits
@@ -115,10 +111,8 @@ twiceVectors =
     (+one ∷ -half ∷ []) ∷ (-half ∷ +zero ∷ []) ∷ (+zero ∷ +one ∷ []) ∷ (+one ∷ -half ∷ []) ∷ (+zero ∷ half ∷ []) ∷ (+one ∷ +one ∷ []) ∷ []
 
 twiceSettings : Settings
-twiceSettings = record {
-  dimension = 2; maxLeafSize = 3; minLeafSize = 2; leaderFraction = threeQuarters;
-  maxDegree = 3; numHashBits = 3; finalPrune = true; alpha = alpha;
-}
+twiceSettings =
+    record { dimension = 2; maxLeafSize = 3; minLeafSize = 2; leaderFraction = threeQuarters; maxDegree = 3; numHashBits = 3; finalPrune = true; alpha = alpha }
 
 twice-leaves : leavesOf 3 2 threeQuarters twiceVectors ≡ (0 ∷ 3 ∷ []) ∷ (2 ∷ 4 ∷ 5 ∷ []) ∷ (0 ∷ 3 ∷ []) ∷ (1 ∷ 1 ∷ []) ∷ (2 ∷ 4 ∷ 5 ∷ []) ∷ []
 unfolding leavesOf twiceVectors add sub mul isNan toBits ofInt toUnsigned
@@ -136,10 +130,8 @@ twice-entry = refl
 -- Two nodes, leaves of one: each goes to both leaders, the buckets gather, and after level 20 each node stands twice in one leaf. With no hash bits
 -- the earlier entry stays; with one, the residual of a node with itself, 0, sets its bit, so the other node has the lower hash.
 pairSettings : ℕ → Settings
-pairSettings bits = record {
-  dimension = 1; maxLeafSize = 1; minLeafSize = 3; leaderFraction = threeQuarters;
-  maxDegree = 1; numHashBits = bits; finalPrune = true; alpha = alpha;
-}
+pairSettings bits =
+    record { dimension = 1; maxLeafSize = 1; minLeafSize = 3; leaderFraction = threeQuarters; maxDegree = 1; numHashBits = bits; finalPrune = true; alpha = alpha }
 
 pair-equal : rowsOf (pairSettings 0) ((+one ∷ []) ∷ (+one ∷ []) ∷ []) ≡ (1 ∷ []) ∷ (0 ∷ []) ∷ []
 unfolding rowsOf pairSettings add sub mul lt le isNan toBits ofInt toUnsigned

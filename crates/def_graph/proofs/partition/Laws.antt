@@ -4,13 +4,13 @@
 use mathlib.Core.Path.{_≡_, refl, ap, _∙_}
 use mathlib.Core.Logic.{inl, inr}
 use mathlib.Core.Bool.{Bool, true, false, not}
-use mathlib.Core.List.{List, [], _∷_, List·Memᴰ as In, List·Memᴰ·not-nil as in-nil, List·Memᴰ·cases-cons as in-cons}
+use mathlib.Core.List.{List, [], _∷_, flatten, List·Memᴰ as In, List·Memᴰ·not-nil as in-nil, List·Memᴰ·cases-cons as in-cons}
 use Prim.Native.Nat.{ℕ, zero, suc, _+_, _*_, _≤_, _<_, min}
 use native.Mathlib.Omega.{arith}
 use native.Mathlib.Nat.{one-mul, mul-zero}
 use native.Mathlib.Decide.{decLt}
 use lib.Dec.{T, leb, ltb, eqb, leb→le, ltb→lt}
-use lib.ListN.{length, length-map}
+use lib.ListN.{length, length-map, length-append}
 use lib.Ieee.{Float}
 use mir.Facts.{or-no, or-yes, yes-eqb, no-eqb, leb-no, yes-ltb}
 use Rattle.basics.specs.Choice.{pick, pick-ind, pick-yes, pick-no}
@@ -157,6 +157,11 @@ pub weight-length : (l : List ℕ) → weigh (λ (y : ℕ). 1) l ≡ length l
 weight-length [] = refl
 weight-length (x ∷ l) = let r = weight-length l in omega arith
 
+pub entries-length : (ls : List (List ℕ)) → entries ls ≡ length (flatten ls)
+unfolding flatten
+entries-length [] = refl
+entries-length (l ∷ ls) = let r = entries-length ls in omega (arith, weight-length l, length-append l (flatten ls))
+
 module _ (maxLeaf minLeaf : ℕ) (fraction : Float) (vs : List (List Float)) where
   abbrev leaves : List (List ℕ)
   leaves = leavesOf maxLeaf minLeaf fraction vs
@@ -199,7 +204,7 @@ module _ (maxLeaf minLeaf : ℕ) (fraction : Float) (vs : List (List Float)) whe
   inside [] e x m = absurd (in-nil m)
   inside (y ∷ leaf) e x m =
       let first : outside y ≡ 0 → y < length vs =
-          pick-ind (λ (d : ℕ). d ≡ 0 → y < length vs) (ltb y (length vs)) (λ t _. ltb→lt y (length vs) t) (λ _ f. absurd (omega arith)) in
+      pick-ind (λ (d : ℕ). d ≡ 0 → y < length vs) (ltb y (length vs)) (λ t _. ltb→lt y (length vs) t) (λ _ f. absurd (omega arith)) in
       elim (in-cons m) [ inl q ↦ omega (arith, first (omega arith)) | inr i ↦ inside leaf (omega arith) x i ]
 
   pub leaves-below : (leaf : List ℕ) → In leaf leaves → Below (length vs) leaf
