@@ -15,7 +15,7 @@ use Rattle.random.specs.Leaders.{upTo}
 use Rattle.def_graph.specs.Partition.{Gathered, gatherOne, gatherAll, ontoLast, gathered}
 use Rattle.def_graph.specs.Inside.Occurrences.{entries}
 use Rattle.def_graph.proofs.partition.Gathering.{all-weight, weighAll-append}
-use Rattle.def_graph.proofs.partition.Laws.{weight-length}
+use Rattle.def_graph.proofs.partition.Laws.{weight-length, entries-length}
 use Rattle.dealing.specs.Inside.Marks.{run, marksOf}
 use Rattle.dealing.specs.Inside.Cards.{bucketAt, bucketsBy}
 use Rattle.dealing.specs.Inside.Steps.{Holds, Gathers, Roomy, noneYet}
@@ -132,11 +132,6 @@ all-snoc : (minLeaf : ℕ) (g : Gathered) (bs : List (List ℕ)) (b : List ℕ) 
 unfolding gatherAll
 all-snoc minLeaf g [] b = refl
 all-snoc minLeaf g (c ∷ bs) b = all-snoc minLeaf (gatherOne minLeaf g c) bs b
-
-pub entries-length : (bs : List (List ℕ)) → entries bs ≡ length (flatten bs)
-unfolding flatten
-entries-length [] = refl
-entries-length (b ∷ bs) = let r = entries-length bs in omega (arith, weight-length b, length-append b (flatten bs))
 
 module _ (ids cards : List ℕ) where
   by-more : (l : ℕ) → bucketsBy (l + 1) ids cards ≡ bucketsBy l ids cards ++ (bucketAt l ids cards ∷ [])

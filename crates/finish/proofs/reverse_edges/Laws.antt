@@ -40,23 +40,16 @@ place-fits a b h k = mul-le-mul h k
 module _ (D i : ℕ) where
   own-back : (nb : ℕ) (rows : List (List ℕ)) → In nb (getD rows i []) → getD (addBack D i nb rows) i [] ≡ getD rows i []
   unfolding addBack
-  own-back nb rows m = go (ℕ-discrete i nb)
-    where
-      row : List ℕ
-      row = getD rows nb []
-
-      other : (i ≡ nb → ⊥) → getD (pick (takes D i row) (set rows nb (row ++ (i ∷ []))) rows) i [] ≡ getD rows i []
-      other n =
-          pick-ind (λ (rs : List (List ℕ)). getD rs i [] ≡ getD rows i []) (takes D i row) (λ _. getD-set-other rows nb i (row ++ (i ∷ [])) [] n) (λ _. refl)
-
-      same : i ≡ nb → getD (pick (takes D i row) (set rows nb (row ++ (i ∷ []))) rows) i [] ≡ getD rows i []
-      same e =
-          let own : In i row = subst (λ (k : ℕ). In k row) (sym e) (subst (λ (k : ℕ). In nb (getD rows k [])) e m) in
-          ap (λ (rs : List (List ℕ)). getD rs i []) (pick-false (set rows nb (row ++ (i ∷ []))) rows (takes-had D i row (true-of (has i row) (in-has own))))
-
-      go : Dec (i ≡ nb) → getD (pick (takes D i row) (set rows nb (row ++ (i ∷ []))) rows) i [] ≡ getD rows i []
-      go (yes e) = same e
-      go (no n) = other n
+  own-back nb rows m =
+      let row : List ℕ = getD rows nb [] in
+      elim (ℕ-discrete i nb) [
+        | yes e ↦
+            let own : In i row = rw e (rw e at m) in
+            ap (λ (rs : List (List ℕ)). getD rs i []) (pick-false (set rows nb (row ++ (i ∷ []))) rows (takes-had D i row (true-of (has i row) (in-has own))))
+        | no n ↦
+            pick-ind (λ (rs : List (List ℕ)). getD rs i [] ≡ getD rows i []) (takes D i row)
+            (λ _. getD-set-other rows nb i (row ++ (i ∷ [])) [] n) (λ _. refl)
+      ]
 
   -- entries of a node's own row leave that row as it is
   pub own-row : (nbs : List ℕ) (rows : List (List ℕ)) → ((nb : ℕ) → In nb nbs → In nb (getD rows i [])) → getD (addBacks D i nbs rows) i [] ≡ getD rows i []

@@ -36,8 +36,8 @@ counted c = c .before .before .before .before .before .before
 few : (c : tie.After-rank-row) → c .rank-row .result ≤ 32
 few c =
     let a = start c .args in
-    omega (arith, c .rank-row .ensures .0, start c .pre .0 .short,
-    old-few (a .vectors .now) (a .point .dimension) (c .before .before .before .before .get-vector .result .now) (a .row .now))
+    let old = old-few (a .vectors .now) (a .point .dimension) (c .before .before .before .before .get-vector .result .now) (a .row .now) in
+    omega (arith, c .rank-row .ensures .0, start c .pre .0 .short, old)
 
 key-room : (c : tie.After-rank-row) → c .rank-row .result + 64 ≤ length (c .rank-row .last .1 .1 .1 .1 .0)
 key-room c = omega (arith, few c, c .rank-row .kept .1 .1 .1 .1 .0, start c .pre .1 .keys-room)
