@@ -161,37 +161,23 @@ module _ (ws fs : ℕ) (w : List ℕ) (f : List Float) (taken : BuildTaken ws fs
 
 -- ---- the same, where numbers and parts are known to be those
 
-pub rows-fit-at : (n n′ d d′ : ℕ) (p p′ : PipnnParams) (rows rows′ : List ℕ) (vectors vectors′ : List Float) (ws fs : ℕ) → n′ ≡ n → d′ ≡ d → p′ ≡ p → rows′ ≡ rows
-    → vectors′ ≡ vectors → RowsFit n d p rows vectors ws fs → RowsFit n′ d′ p′ rows′ vectors′ ws fs
-rows-fit-at n n′ d d′ p p′ rows rows′ vectors vectors′ ws fs a b c e g x =
-    subst (λ (k : ℕ). RowsFit k d′ p′ rows′ vectors′ ws fs) (sym a)
-    (subst (λ (k : ℕ). RowsFit n k p′ rows′ vectors′ ws fs) (sym b)
-    (subst (λ (q : PipnnParams). RowsFit n d q rows′ vectors′ ws fs) (sym c)
-    (subst (λ (l : List ℕ). RowsFit n d p l vectors′ ws fs) (sym e) (subst (λ (l : List Float). RowsFit n d p rows l ws fs) (sym g) x))))
+pub rows-fit-at : {n n′ d d′ : ℕ} {p p′ : PipnnParams} {rows rows′ : List ℕ} {vectors vectors′ : List Float} {ws fs : ℕ} → n′ ≡ n → d′ ≡ d → p′ ≡ p
+    → rows′ ≡ rows → vectors′ ≡ vectors → RowsFit n d p rows vectors ws fs → RowsFit n′ d′ p′ rows′ vectors′ ws fs
+rows-fit-at a b c e g x = rw (a, b, c, e, g) x
 
-pub repair-fits-at : (n n′ C C′ D D′ d d′ : ℕ) (w : List ℕ) (vectors vectors′ : List Float) (bridges ws fs : ℕ) → n′ ≡ n → C′ ≡ C → D′ ≡ D → d′ ≡ d → vectors′ ≡ vectors
-    → RepairFits (shapeOf n D d) C w vectors bridges ws fs → RepairFits (shapeOf n′ D′ d′) C′ w vectors′ bridges ws fs
-repair-fits-at n n′ C C′ D D′ d d′ w vectors vectors′ bridges ws fs a b c e g x =
-    subst (λ (k : ℕ). RepairFits (shapeOf k D′ d′) C′ w vectors′ bridges ws fs) (sym a)
-    (subst (λ (k : ℕ). RepairFits (shapeOf n D′ d′) k w vectors′ bridges ws fs) (sym b)
-    (subst (λ (k : ℕ). RepairFits (shapeOf n k d′) C w vectors′ bridges ws fs) (sym c)
-    (subst (λ (k : ℕ). RepairFits (shapeOf n D k) C w vectors′ bridges ws fs) (sym e) (subst (λ (l : List Float). RepairFits (shapeOf n D d) C w l bridges ws fs) (sym g) x))))
+pub repair-fits-at : {n n′ C C′ D D′ d d′ : ℕ} {w : List ℕ} {vectors vectors′ : List Float} {bridges ws fs : ℕ} → n′ ≡ n → C′ ≡ C → D′ ≡ D → d′ ≡ d
+    → vectors′ ≡ vectors → RepairFits (shapeOf n D d) C w vectors bridges ws fs → RepairFits (shapeOf n′ D′ d′) C′ w vectors′ bridges ws fs
+repair-fits-at a b c e g x = rw (a, b, c, e, g) x
 
-repair-put-at : (n n′ C C′ D D′ d d′ : ℕ) (vectors vectors′ : List Float) (w₁ w₂ : List ℕ) → n′ ≡ n → C′ ≡ C → D′ ≡ D → d′ ≡ d → vectors′ ≡ vectors
+repair-put-at : {n n′ C C′ D D′ d d′ : ℕ} {vectors vectors′ : List Float} (w₁ w₂ : List ℕ) → n′ ≡ n → C′ ≡ C → D′ ≡ D → d′ ≡ d → vectors′ ≡ vectors
     → RepairPut (shapeOf n′ D′ d′) C′ (vectorsIn d′ vectors′) w₁ w₂ → RepairPut (shapeOf n D d) C (vectorsIn d vectors) w₁ w₂
-repair-put-at n n′ C C′ D D′ d d′ vectors vectors′ w₁ w₂ a b c e g x =
-    subst (λ (l : List Float). RepairPut (shapeOf n D d) C (vectorsIn d l) w₁ w₂) g
-    (subst (λ (k : ℕ). RepairPut (shapeOf n D k) C (vectorsIn k vectors′) w₁ w₂) e
-    (subst (λ (k : ℕ). RepairPut (shapeOf n k d′) C (vectorsIn d′ vectors′) w₁ w₂) c
-    (subst (λ (k : ℕ). RepairPut (shapeOf n D′ d′) k (vectorsIn d′ vectors′) w₁ w₂) b (subst (λ (k : ℕ). RepairPut (shapeOf k D′ d′) C′ (vectorsIn d′ vectors′) w₁ w₂) a x))))
+repair-put-at w₁ w₂ a b c e g x = rw (← a, ← b, ← c, ← e, ← g) x
 
-pub graph-built-at : (ws fs : ℕ) (w : List ℕ) (f : List Float) (taken : BuildTaken ws fs w f) (n′ C′ D′ d′ : ℕ) (p : PipnnParams) (vectors : List Float) (from k : ℕ) (part w₂ : List ℕ)
-    → n′ ≡ word w nodesAt → C′ ≡ word w capacityAt → D′ ≡ word w degreeAt → d′ ≡ word w dimensionAt → p ≡ paramsOf w → vectors ≡ vectorPart w f (taken .stores .room)
-    → from ≡ rowsAt (word w capacityAt) → k ≡ length part → Blocks (p .«max_degree») (rowsOf (settingsOf d′ p) (vectorsIn d′ vectors)) part
+pub graph-built-at : {ws fs : ℕ} {w : List ℕ} {f : List Float} (taken : BuildTaken ws fs w f) {n′ C′ D′ d′ : ℕ} {p : PipnnParams} {vectors : List Float}
+    {from k : ℕ} {part w₂ : List ℕ} → n′ ≡ word w nodesAt → C′ ≡ word w capacityAt → D′ ≡ word w degreeAt → d′ ≡ word w dimensionAt → p ≡ paramsOf w
+    → vectors ≡ vectorPart w f (taken .stores .room) → from ≡ rowsAt (word w capacityAt) → k ≡ length part
+    → Blocks (p .«max_degree») (rowsOf (settingsOf d′ p) (vectorsIn d′ vectors)) part
     → RepairPut (shapeOf n′ D′ d′) C′ (vectorsIn d′ vectors) (putMid from k w part) w₂ → w₂ ≡ builtWords (graphFor (view w f)) w
-graph-built-at ws fs w f taken n′ C′ D′ d′ p vectors from k part w₂ n-is C-is D-is d-is p-is vectors-are from-is size blocks repair =
-    graph-built ws fs w f taken p p-is part (putMid from k w part) w₂
-    (subst (λ (l : List Float). Blocks (p .«max_degree») (rowsOf (settingsOf (word w dimensionAt) p) (vectorsIn (word w dimensionAt) l)) part) vectors-are
-    (subst (λ (d : ℕ). Blocks (p .«max_degree») (rowsOf (settingsOf d p) (vectorsIn d vectors)) part) d-is blocks))
-    (put-laid from k w part size ∙ ap (λ (at : ℕ). laid at part w) from-is)
-    (repair-put-at (word w nodesAt) n′ (word w capacityAt) C′ (word w degreeAt) D′ (word w dimensionAt) d′ (vectorPart w f (taken .stores .room)) vectors _ w₂ n-is C-is D-is d-is vectors-are repair)
+graph-built-at {ws} {fs} {w} {f} taken {p = p} {vectors = vectors} {from = from} {k = k} {part = part} {w₂ = w₂} n-is C-is D-is d-is p-is vectors-are from-is size blocks repair =
+    graph-built ws fs w f taken p p-is part (putMid from k w part) w₂ (rw (d-is, vectors-are) at blocks)
+    (put-laid from k w part size ∙ ap (λ (at : ℕ). laid at part w) from-is) (repair-put-at _ w₂ n-is C-is D-is d-is vectors-are repair)

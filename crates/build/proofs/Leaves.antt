@@ -1,9 +1,9 @@
 -- The leaves that carving leaves in words are those that the leaf lists are built from; and the steps of a build's rows, one after the other,
 -- make the rows of the definition. Assumes nothing.
 use mathlib.Core.Path.{_≡_, refl, sym, ap, subst, _∙_}
-use mathlib.Core.Logic.{_⊎_, inl, inr}
+use mathlib.Core.Logic.{inl, inr}
 use mathlib.Core.List.{List, [], _∷_, flatten, append-nil}
-use mathlib.Core.List.{List·Memᴰ as In, List·Memᴰ·not-nil as in-nil, List·Memᴰ·head as here, List·Memᴰ·tail as there}
+use mathlib.Core.List.{List·Memᴰ as In, List·Memᴰ·not-nil as in-nil, List·Memᴰ·head as here, List·Memᴰ·tail as there, List·Memᴰ·append-cases as in-cases}
 use Prim.Native.Nat.{ℕ, _*_, _≤_, _<_}
 use native.Mathlib.Decide.{decLe}
 use native.Mathlib.Omega.{arith}
@@ -14,12 +14,10 @@ use borrow.Author.Tests.{le-leb, lt-leb}
 use Rattle.basics.specs.Choice.{pick-ind, pick-true, pick-false}
 use Rattle.basics.specs.Nodes.{Below}
 use Rattle.basics.specs.Inside.Rows.{Rows}
-use mathlib.Core.List.{List·Memᴰ·append-cases as in-cases}
 use Rattle.params.specs.declared.PipnnParams.{PipnnParams}
 use Rattle.distance.specs.Vectors.{vectorsIn}
 use Rattle.def_graph.specs.Partition.{leavesOf}
-use Rattle.def_graph.specs.Inside.Occurrences.{weigh, entries}
-use Rattle.def_graph.proofs.partition.Laws.{entries-once, entries-twice, leaves-below}
+use Rattle.def_graph.proofs.partition.Laws.{entries-length, entries-once, entries-twice, leaves-below}
 use Rattle.def_graph.specs.Leaf.{buildLeaves}
 use Rattle.def_graph.specs.Refine.{addReverseEdges}
 use Rattle.carving.specs.Inside.Carving.{nonEmpty, Laid, Partitioned}
@@ -44,11 +42,7 @@ entries-most n maxLeaf = pick-ind (λ (k : ℕ). k ≤ 2 * n) (leb n maxLeaf) (�
 flatten-below : (n : ℕ) (ls : List (List ℕ)) → ((l : List ℕ) → In l ls → Below n l) → Below n (flatten ls)
 unfolding flatten
 flatten-below n [] h x m = absurd (in-nil m)
-flatten-below n (l ∷ ls) h x m = go (flatten-below n ls (λ k i. h k (there i)) x) (in-cases l m)
-  where
-    go : (In x (flatten ls) → x < n) → In x l ⊎ In x (flatten ls) → x < n
-    go rec (inl i) = h l (here refl) x i
-    go rec (inr i) = rec i
+flatten-below n (l ∷ ls) h x m = elim (in-cases l m) [ inl i ↦ h l (here refl) x i | inr i ↦ flatten-below n ls (λ k j. h k (there j)) x i ]
 
 leaf-within : (ls : List (List ℕ)) (l : List ℕ) → In l ls → length l ≤ length (flatten ls)
 unfolding flatten
@@ -56,25 +50,16 @@ leaf-within [] l m = absurd (in-nil m)
 leaf-within (k ∷ ls) l (here e) = let s = length-append k (flatten ls) in omega (arith, ap (length {A = ℕ}) e)
 leaf-within (k ∷ ls) l (there m) = omega (arith, leaf-within ls l m, length-append k (flatten ls))
 
-weigh-length : (l : List ℕ) → weigh (λ (y : ℕ). 1) l ≡ length l
-weigh-length [] = refl
-weigh-length (x ∷ l) = let r = weigh-length l in omega arith
-
-entries-length : (ls : List (List ℕ)) → length (flatten ls) ≡ entries ls
-unfolding flatten
-entries-length [] = refl
-entries-length (l ∷ ls) = omega (arith, length-append l (flatten ls), entries-length ls, weigh-length l)
-
 module _ (maxLeaf minLeaf : ℕ) (fraction : Float) (vs : List (List Float)) (some : 1 ≤ maxLeaf) where
   abbrev leaves : List (List ℕ)
   leaves = leavesOf maxLeaf minLeaf fraction vs
 
   leaves-total : length (flatten leaves) ≡ leafEntries (length vs) maxLeaf
   leaves-total = elim (decLe (length vs) maxLeaf) [
-    | yes h ↦ entries-length leaves ∙ entries-once maxLeaf minLeaf fraction vs h ∙ sym (pick-true _ _ (le-leb _ _ h))
+    | yes h ↦ sym (entries-length leaves) ∙ entries-once maxLeaf minLeaf fraction vs h ∙ sym (pick-true _ _ (le-leb _ _ h))
     | no h ↦
         let more : maxLeaf < length vs = omega arith in
-        entries-length leaves ∙ entries-twice maxLeaf minLeaf fraction vs some more ∙ sym (pick-false _ _ (lt-leb _ _ more))
+        sym (entries-length leaves) ∙ entries-twice maxLeaf minLeaf fraction vs some more ∙ sym (pick-false _ _ (lt-leb _ _ more))
   ]
 
   pub full-total : length (flatten (nonEmpty leaves)) ≡ leafEntries (length vs) maxLeaf
@@ -106,8 +91,7 @@ pub built-from : (n maxLeaf : ℕ) (leaf : LeafParams) (count room : ℕ) (vecto
     → sizes ≡ take count (drop (2 * n) carved) → Built leaf vectors nodes sizes room rows rows′ → LeavesPut n maxLeaf leaf vectors carved count room rows rows′
 built-from n maxLeaf leaf count room vectors carved nodes sizes rows rows′ nodes-are sizes-are built =
     λ leaves rs fit many total laid below fits blocks.
-    built rs leaves (subst (λ (k : ℕ). Sizes k leaf vectors) (sym many) fit)
-    (subst (λ (k : ℕ). LeavesIn k leaves nodes sizes room) (sym many) (leaves-in n maxLeaf count room leaves carved nodes sizes total laid below fits nodes-are sizes-are)) blocks
+    built rs leaves (rw many fit) (rw many (leaves-in n maxLeaf count room leaves carved nodes sizes total laid below fits nodes-are sizes-are)) blocks
 
 -- ---- the steps of the rows
 
@@ -164,8 +148,7 @@ module _ (n d : ℕ) (p : PipnnParams) (vectors : List Float) (rows₀ : List �
   unfolding reversedRows
   rows-made rows₁ rows₂ rows₃ cleared put reversed =
       let bounds : Rows (length vs) D (leafRows s vs) = leaf-bounds s vs in
-      let below : (u : ℕ) → Below (length (leafRows s vs)) (getD (leafRows s vs) u []) =
-      λ u. subst (λ (k : ℕ). Below k (getD (leafRows s vs) u [])) (sym (bounds .many)) (bounds .inside u) in
+      let below : (u : ℕ) → Below (length (leafRows s vs)) (getD (leafRows s vs) u []) = λ u. rw (bounds .many) (bounds .inside u) in
       let back : Blocks D (addReverseEdges D (leafRows s vs)) rows₃ =
       reversed (leafRows s vs) (leaf-lists rows₁ rows₂ cleared put) (omega (arith, bounds .many, many, fit .most)) below in
       subst (λ (rs : List (List ℕ)). Blocks D rs rows₃) (sym (prune-changes-nothing s vs)) back

@@ -32,10 +32,9 @@ returns-2 : tie.Need-returns-2
 unfolding buildSpec
 returns-2 c =
     let back = c .before .before .before in
-    let back-2 = back .before .before .before .before .before .before .before in
-    let s = back-2 in
+    let s = back .before .before .before .before .before .before .before in
     let same = pick-true (s .args .words .now) (words s) (eq-eqb _ _ (sym (c .before .word-at .ensures) ∙ c .if2 .taken)) in
-    _∙_ {A = Answer} (λ i. (0, sym same i, s .args .floats .now)) (changed (refusal s) _ _ _ _ (zero (back)))
+    _∙_ {A = Answer} (λ i. (0, sym same i, s .args .floats .now)) (changed (refusal s) _ _ _ _ (zero back))
 
 returns-3 : tie.Need-returns-3
 unfolding buildSpec
@@ -44,10 +43,9 @@ returns-3 c =
     let at-if2 = at-build-graph .before .before .before .before in
     let at-word-at = at-if2 .before in
     let back = at-word-at .before .before in
-    let back-2 = back .before .before .before .before .before .before .before in
-    let s = back-2 in
+    let s = back .before .before .before .before .before .before .before in
     let graph = pick-false (s .args .words .now) (words s) (ne-eqb _ _ (λ e. at-if2 .if2 .left (at-word-at .word-at .ensures ∙ e))) in
-    _∙_ {A = Answer} (λ i. (0, (at-build-graph .build-graph .ensures ∙ sym graph) i, s .args .floats .now)) (changed (refusal s) _ _ _ _ (zero (back)))
+    _∙_ {A = Answer} (λ i. (0, (at-build-graph .build-graph .ensures ∙ sym graph) i, s .args .floats .now)) (changed (refusal s) _ _ _ _ (zero back))
 
 pub build-spec : {M : Type 1} → statement M
 build-spec =

@@ -26,8 +26,11 @@ taken s = build-taken _ _ _ _ (s .pre)
 
 -- ---- what has been read once all of it is
 
+abbrev begun : tie.After-params-of → tie.Start
+begun c = c .before .before .before .before .before .before .before .before .before .before .before .before
+
 abbrev start : tie.After-row-at → tie.Start
-start c = c .before .before .before .before .before .before .before .before .before .before .before .before .before .before .before .before
+start c = begun (c .before .before .before .before)
 
 abbrev w : tie.After-row-at → List ℕ
 w c = start c .args .words .now
@@ -72,29 +75,26 @@ vectors-are c = ap (λ (k : ℕ). take k (f c)) (end-is c)
 part-within : (c : tie.After-row-at) → c .row-at .result - c .before .rows-at .result ≤ length (drop (c .before .rows-at .result) (w c))
 part-within c = omega (arith, to-is c, from-is c, row-end _ _ _ _ (taken (start c)), length-drop (c .before .rows-at .result) (w c))
 
-cast-degree : tie.Need-cast-degree
-cast-degree c =
-    let s = c .before .before .before .before .before .before .before .before .before .before .before .before .before in
-    omega (arith, ap (λ (q : PipnnParams). q .«max_degree») (c .before .params-of .ensures), degree-small _ _ _ _ (taken s))
+vectors-within : (c : tie.After-row-at) → c .before .before .floats-size .result ≤ length (f c)
+vectors-within c = omega (arith, end-is c, vectors-end _ _ _ _ (taken (start c)))
 
-slice-aggregate-put-rows : tie.Need-slice-aggregate-put-rows
-slice-aggregate-put-rows c = sym (length-take-le _ _ (omega (arith, end-is (c .before .before), vectors-end _ _ _ _ (taken (start (c .before .before))))))
+-- from where the rows are put
+abbrev read : tie.After-put-rows → tie.After-row-at
+read c = c .before .before .before .before .before
 
 put-rows-requires : tie.Need-put-rows-requires
 put-rows-requires c κs =
     let r = c .before .before .before .before in
     let t = taken (start r) in
-    rows-fit-at _ _ _ _ _ _ _ _ _ _ _ _ (n-is r) (d-is r) (p-is r) (rows-are r) (vectors-are r) (rows-fit _ _ _ _ t)
-
-slice-aggregate-repair : tie.Need-slice-aggregate-repair
-slice-aggregate-repair c = sym (length-take-le _ _ (omega (arith, end-is (c .before .before .before .before .before .before .before .before .before .before .before .before .before), vectors-end _ _ _ _ (taken (start (c .before .before .before .before .before .before .before .before .before .before .before .before .before))))))
+    rows-fit-at (n-is r) (d-is r) (p-is r) (rows-are r) (vectors-are r) (rows-fit _ _ _ _ t)
 
 repair-requires : tie.Need-repair-requires
 repair-requires c κs =
-    let r = c .before .before .before .before .before .before .before .before .before .before .before .before .before .before .before .before in
-    let put = c .before .before .before .before .before .before .before .before .before .before .before .put-rows in
+    let at-put-rows = c .before .before .before .before .before .before .before .before .before .before .before in
+    let r = read at-put-rows in
+    let put = at-put-rows .put-rows in
     let k : ℕ = r .row-at .result - r .before .rows-at .result in
-    repair-fits-at _ _ _ _ _ _ _ _ _ _ _ _ _ _ (n-is r) (C-is r) (D-is r) (d-is r) (vectors-are r)
+    repair-fits-at (n-is r) (C-is r) (D-is r) (d-is r) (vectors-are r)
     (repair-fits _ _ _ _ (taken (start r)) _ _ _ _ (same-len-mid (r .before .rows-at .result) k (w r) (put .last .0) (put .kept .0)) (omega (arith, length-replicate {A = ℕ} 2048 0))
     (put .kept .1 .1 .1 .1 .1 .0) (put .kept .1 .1 .1 .1 .1 .1 .0))
 
@@ -102,11 +102,10 @@ returns : tie.Need-returns
 returns c =
     let at-repair = c .before .before .before .before .before .before .before in
     let at-put-rows = at-repair .before .before .before .before .before .before .before .before .before .before .before .before in
-    let back = at-put-rows .before .before .before .before .before in
-    let r = back in
+    let r = read at-put-rows in
     let put = at-put-rows .put-rows in
     let full = put .kept .0 ∙ length-take-le _ _ (part-within r) in
-    graph-built-at _ _ (w r) (f r) (taken (start r)) _ _ _ _ _ _ _ _ (put .last .0) _ (n-is r) (C-is r) (D-is r) (d-is r) (p-is r) (vectors-are r) (from-is r) (sym full)
+    graph-built-at (taken (start r)) (n-is r) (C-is r) (D-is r) (d-is r) (p-is r) (vectors-are r) (from-is r) (sym full)
     (put .ensures) (at-repair .repair .ensures)
 
 pub build-graph-spec : {M : Type 1} → statement M
@@ -114,10 +113,13 @@ build-graph-spec =
     tie.close
     (tie.spec
     -- word_at, params_of
-    (λ c κs. search needs) (λ c κs. search needs) (λ c κs. search needs) (λ c κs. search needs) cast-degree
+    (λ c κs. search needs) (λ c κs. search needs) (λ c κs. search needs) (λ c κs. search needs)
+    (λ c. omega (arith, ap (λ (q : PipnnParams). q .«max_degree») (c .before .params-of .ensures), degree-small _ _ _ _ (taken (begun (c .before)))))
     -- floats_size, rows_at, row_at, put_rows, part-put-rows-start
     (λ c κs. search needs) (λ c κs. search needs) (λ c κs. search needs) (λ c. search needs) (λ c. search needs) (λ c. search needs)
-    (λ c. omega (arith, to-is c, row-end _ _ _ _ (taken (start c)))) slice-aggregate-put-rows put-rows-requires slice-aggregate-repair
+    (λ c. omega (arith, to-is c, row-end _ _ _ _ (taken (start c))))
+    (λ c. sym (length-take-le _ _ (vectors-within (c .before .before)))) put-rows-requires
+    (λ c. sym (length-take-le _ _ (vectors-within (read (c .before .before .before .before .before .before .before .before)))))
     -- repair
     (λ c. search needs) repair-requires
     -- lengths stay

@@ -15,15 +15,12 @@ slice-aggregate-build-leaves c =
     let few = entries-most (s .args .n) (s .args .max-leaf-size) in
     sym (length-take-le _ _ (omega (arith, c .before .leaf-entries .ensures, few, s .pre .words-room)))
 
-part-build-leaves-end : tie.Need-part-build-leaves-end
-part-build-leaves-end c = let s = c .before .before .before .before .before .before in omega (arith, s .pre .counted, s .pre .words-room)
-
 returns : tie.Need-returns
 returns c =
-    let s = c .before .before .before .before .before .before .before .before .before .before .before .before .before .before in
-    let a = s .args in
+    let at-leaf-entries = c .before .before .before .before .before .before .before .before .before in
+    let a = at-leaf-entries .before .before .before .before .before .args in
     let build = c .before .before .before .before .build-leaves in
-    let end = c .before .before .before .before .before .before .before .before .before .leaf-entries in
+    let end = at-leaf-entries .leaf-entries in
     let size : 2 * a .n + a .count - 2 * a .n ≡ a .count = omega arith in
     built-from (a .n) (a .max-leaf-size) (a .leaf) (a .count) _ (a .vectors .now) (a .carved .now) _ _ _ _
     (ap (λ (k : ℕ). take k (a .carved .now)) (end .ensures)) (ap (λ (k : ℕ). take k (drop (2 * a .n) (a .carved .now))) size) (build .ensures)
@@ -35,6 +32,7 @@ put-leaves-spec =
     -- leaf_entries, sizes_at
     (λ c κs. search needs) (λ c. search needs) (λ c. omega arith) slice-aggregate-build-leaves
     -- build_leaves, part-build-leaves-start
-    (λ c. search needs) (λ c. search needs) (λ c. search needs) part-build-leaves-end
+    (λ c. search needs) (λ c. search needs) (λ c. search needs)
+    (λ c. let s = c .before .before .before .before .before .before in omega (arith, s .pre .counted, s .pre .words-room))
     -- build_leaves, lengths stay
     (λ c κs. search needs) (λ c. search needs) (λ c. search needs) returns)

@@ -5,9 +5,12 @@ use borrow.Author.Needs.{needs}
 use Rattle.build.proofs.put_rows.Statement.{statement}
 use Rattle.build.proofs.put_rows.Tie as tie
 
+abbrev start : tie.After-partition → tie.Start
+start c = c .before .before .before .before .before .before .before .before .before .before .before
+
 put-leaves-requires : tie.Need-put-leaves-requires
 put-leaves-requires c κs =
-    let s = c .before .before .before .before .before .before .before .before .before .before .before .before .before .before .before .before in
+    let s = start (c .before .before .before .before .before) in
     let a = s .args in
     let carve = c .before .before .before .before .before .partition in
     record {
@@ -22,8 +25,7 @@ returns c =
     let at-put-leaves = at-add-reverse-edges .before .before .before .before .before .before in
     let at-partition = at-put-leaves .before .before .before .before .before .before in
     let at-clear-words = at-partition .before .before .before .before in
-    let back = at-clear-words .before .before .before .before .before .before .before in
-    let s = back in
+    let s = start at-partition in
     let a = s .args in
     let carve = at-partition .partition in
     rows-made (a .n) (a .dimension) (a .p) (a .vectors .now) (a .rows .now) (a .scratch-words .now) _ (carve .result) _ (s .pre) (carve .ensures)

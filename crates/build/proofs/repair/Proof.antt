@@ -1,6 +1,5 @@
 -- The entry node is the definition's, the bridges stand at the front of their slice, and both are written (proofs/Repairing). Assumes nothing.
 use mathlib.Core.Path.{_≡_, sym, ap, ap₂, subst, _∙_}
-use mathlib.Core.List.{List}
 use Prim.Native.Nat.{ℕ, _-_, _*_, _≤_}
 use lib.ListN.{length, take, drop}
 use lib.Seq.{length-take-le}
@@ -14,37 +13,46 @@ use borrow.Author.Needs.{needs}
 use Rattle.build.proofs.repair.Statement.{statement}
 use Rattle.build.proofs.repair.Tie as tie
 
+abbrev start : tie.After-row-at → tie.Start
+start c = c .before .before .before .before .before .before .before .before .before .before .before
+
+abbrev read : tie.After-ensure-connectivity → tie.After-row-at
+read c = c .before .before .before .before .before
+
+abbrev connected : tie.After-lesser-u32 → tie.After-ensure-connectivity
+connected c = c .before .before .before .before .before
+
+-- the bridges made have room
+fits : (c : tie.After-lesser-u32) → 2 * c .lesser-u32 .result ≤ length (connected c .ensure-connectivity .last .1 .1 .1 .1 .1 .0)
+fits c = omega (arith, c .lesser-u32 .ensures, connected c .ensure-connectivity .kept .1 .1 .1 .1 .1 .0, start (read (connected c)) .pre .bridges-room)
+
 part-ensure-connectivity-end : tie.Need-part-ensure-connectivity-end
 part-ensure-connectivity-end c =
-    let s = c .before .before .before .before .before .before .before .before .before .before .before .before in
+    let s = start (c .before) in
     let a = s .args in
     omega (arith, c .before .row-at .ensures, product-le (a .shape .n) (rowSize (a .shape .degree)) (a .capacity) (rowSize (a .shape .degree)) (s .pre .capacity) (omega arith), s .pre .store)
 
-slice-aggregate-put-bridges : tie.Need-slice-aggregate-put-bridges
-slice-aggregate-put-bridges c =
-    let s = c .before .before .before .before .before .before .before .before .before .before .before .before .before .before .before .before .before .before .before .before .before .before .before .before .before .before .before .before in
-    sym (length-take-le _ _ (omega (arith, c .before .before .before .before .before .before .before .lesser-u32 .ensures, c .before .before .before .before .before .before .before .before .before .before .before .before .ensure-connectivity .kept .1 .1 .1 .1 .1 .0, s .pre .bridges-room)))
-
 put-bridges-requires : tie.Need-put-bridges-requires
 put-bridges-requires c κs =
-    let s = c .before .before .before .before .before .before .before .before .before .before .before .before .before .before .before .before .before .before .before .before .before .before .before .before .before .before .before .before in
-    let count = c .before .before .before .before .before .before .before .lesser-u32 in
-    let repair = c .before .before .before .before .before .before .before .before .before .before .before .before .ensure-connectivity in
-    let list : List ℕ = repair .last .1 .1 .1 .1 .1 .0 in
-    let fits : 2 * count .result ≤ length list = omega (arith, count .ensures, repair .kept .1 .1 .1 .1 .1 .0, s .pre .bridges-room) in
-    let front : length (take (2 * count .result) list) ≡ 2 * count .result = length-take-le (2 * count .result) list fits in
-    omega (arith, front, count .ensures, c .before .before .before .before .before .before .bridges-at .ensures, c .before .before .before .before .put-header .kept .0, s .pre .store, s .pre .capacity)
+    let at = c .before .before .before .before .before .before .before in
+    let s = start (read (connected at)) in
+    let front = length-take-le (2 * at .lesser-u32 .result) (connected at .ensure-connectivity .last .1 .1 .1 .1 .1 .0) (fits at) in
+    let header = c .before .before .before .before .put-header .kept .0 in
+    omega (arith, front, at .lesser-u32 .ensures, c .before .before .before .before .before .before .bridges-at .ensures, header, s .pre .store, s .pre .capacity)
 
 returns : tie.Need-returns
 returns c =
-    let s = c .before .before .before .before .before .before .before .before .before .before .before .before .before .before .before .before .before .before .before .before .before .before .before .before .before .before .before .before .before .before .before in
+    let at-lesser-u32 = c .before .before .before .before .before .before .before .before .before .before in
+    let at-ensure-connectivity = connected at-lesser-u32 in
+    let at-row-at = read at-ensure-connectivity in
+    let s = start at-row-at in
     let a = s .args in
     let p = s .pre in
-    let medoid = c .before .before .before .before .before .before .before .before .before .before .before .before .before .before .before .before .before .before .before .before .before .before .before .before .compute-medoid in
-    let from = c .before .before .before .before .before .before .before .before .before .before .before .before .before .before .before .before .before .before .before .before .before .rows-at in
-    let to = c .before .before .before .before .before .before .before .before .before .before .before .before .before .before .before .before .before .before .before .before .row-at in
-    let repair = c .before .before .before .before .before .before .before .before .before .before .before .before .before .before .before .ensure-connectivity in
-    let count = c .before .before .before .before .before .before .before .before .before .before .lesser-u32 in
+    let medoid = at-row-at .before .before .before .before .compute-medoid in
+    let from = at-row-at .before .rows-at in
+    let to = at-row-at .row-at in
+    let repair = at-ensure-connectivity .ensure-connectivity in
+    let count = at-lesser-u32 .lesser-u32 in
     let at = c .before .before .before .before .before .before .before .before .before .bridges-at in
     let header = c .before .before .before .before .before .before .before .put-header in
     let put = c .before .before .put-bridges in
@@ -70,6 +78,6 @@ repair-spec =
     part-ensure-connectivity-end
     -- ensure_connectivity, lesser_u32, end, bridges_at, put_header, slice-reshare-prefix-put-bridges
     (λ c κs. search needs) (λ c κs. search needs) (λ c. search needs) (λ c. search needs) (λ c κs. search needs) (λ c κs. search needs)
-    (λ c. search needs) slice-aggregate-put-bridges put-bridges-requires
+    (λ c. search needs) (λ c. sym (length-take-le _ _ (fits (c .before .before .before .before .before .before .before)))) put-bridges-requires
     -- lengths stay
     (λ c. search needs) (λ c. search needs) (λ c. search needs) (λ c. search needs) returns)
