@@ -87,9 +87,7 @@ module _ (ws fs : ℕ) (w : List ℕ) (f : List Float) (taken : BuildTaken ws fs
 
     these : Blocks D rows part
     unfolding paramsOf
-    these =
-        subst (λ (l : List (List Float)). Blocks D (rowsOf s l) part) vectors-are
-        (subst (λ (q : PipnnParams). Blocks (q .«max_degree») (rowsOf (settingsOf d q) (vectorsIn d (vectorPart w f (taken .stores .room)))) part) p-is blocks)
+    these = rw (p-is, vectors-are) at blocks
 
     found : Blocks D rows (take (n * rowSize D) (drop (rowsAt C) w₁))
     found =
@@ -104,28 +102,18 @@ module _ (ws fs : ℕ) (w : List ℕ) (f : List Float) (taken : BuildTaken ws fs
     pub graph-built : w₂ ≡ builtWords (graphFor (view w f)) w
     graph-built =
         repaired-is w₁ w₂ (put ∙ ap (λ (l : List ℕ). laid (rowsAt C) l w) (these .words-are))
-        (subst (λ (l : List (List Float)). RepairPut (shapeOf n D d) C l w₁ w₂) vectors-are repair rows many below found)
+        ((rw vectors-are at repair) rows many below found)
 
 -- ---- what the steps ask, at the numbers that were read
 
 module _ (ws fs : ℕ) (w : List ℕ) (f : List Float) (taken : BuildTaken ws fs w f) where
-  scratch-words : 64 * word w capacityAt ≤ ws
-  scratch-words = let t = both-false (ltb ws (64 * word w capacityAt)) (ltb fs (16 * word w capacityAt + 256)) (taken .stores .scratch) in ltb-false _ _ (t .0)
-
-  scratch-floats : 16 * word w capacityAt + 256 ≤ fs
-  scratch-floats = let t = both-false (ltb ws (64 * word w capacityAt)) (ltb fs (16 * word w capacityAt + 256)) (taken .stores .scratch) in ltb-false _ _ (t .1)
+  scratch : (64 * word w capacityAt ≤ ws) × (16 * word w capacityAt + 256 ≤ fs)
+  scratch =
+      let t = both-false (ltb ws (64 * word w capacityAt)) (ltb fs (16 * word w capacityAt + 256)) (taken .stores .scratch) in
+      (ltb-false _ _ (t .0), ltb-false _ _ (t .1))
 
   few : word w nodesAt ≤ 1024
   few = omega (arith, taken .stores .header .nodes, taken .stores .header .capacity .most)
-
-  pub row-end : rowsAt (word w capacityAt) + word w nodesAt * rowSize (word w degreeAt) ≤ length w
-  row-end = taken .stores .room .rows
-
-  pub vectors-end : word w nodesAt * word w dimensionAt ≤ length f
-  vectors-end = taken .stores .room .vectors
-
-  pub degree-small : paramsOf w .«max_degree» ≤ 32
-  degree-small = taken .stores .header .params .degree-most
 
   pub rows-fit : RowsFit (word w nodesAt) (word w dimensionAt) (paramsOf w) (rowPart w f (taken .stores .room)) (vectorPart w f (taken .stores .room)) ws fs
   unfolding paramsOf
@@ -133,13 +121,13 @@ module _ (ws fs : ℕ) (w : List ℕ) (f : List Float) (taken : BuildTaken ws fs
     most = few;
     dimension-some = taken .stores .header .dimension .least;
     dimension-most = taken .stores .header .dimension .most;
-    degree-most = degree-small;
+    degree-most = taken .stores .header .params .degree-most;
     bits-most = taken .stores .header .params .hash-bits-most;
     leaf-some = taken .stores .header .params .leaf-least;
-    rows-are = length-take-le _ _ (omega (arith, row-end, length-drop (rowsAt (word w capacityAt)) w));
-    vectors-are = length-take-le _ _ vectors-end;
-    words-room = omega (arith, scratch-words, taken .stores .header .nodes);
-    floats-room = omega (arith, scratch-floats, taken .stores .header .nodes);
+    rows-are = length-take-le _ _ (omega (arith, taken .stores .room .rows, length-drop (rowsAt (word w capacityAt)) w));
+    vectors-are = length-take-le _ _ (taken .stores .room .vectors);
+    words-room = omega (arith, scratch, taken .stores .header .nodes);
+    floats-room = omega (arith, scratch, taken .stores .header .nodes);
   }
 
   pub repair-fits : (w₁ : List ℕ) (bridges ws₁ fs₁ : ℕ) → length w₁ ≡ length w → 2048 ≤ bridges → ws₁ ≡ ws → fs₁ ≡ fs
@@ -153,10 +141,10 @@ module _ (ws fs : ℕ) (w : List ℕ) (f : List Float) (taken : BuildTaken ws fs
     capacity-most = taken .stores .header .capacity .most;
     degree-most = taken .stores .header .degree;
     store = omega (arith, same, taken .stores .words);
-    vectors-are = length-take-le _ _ vectors-end;
-    words-room = omega (arith, words, scratch-words, taken .stores .header .nodes);
+    vectors-are = length-take-le _ _ (taken .stores .room .vectors);
+    words-room = omega (arith, words, scratch, taken .stores .header .nodes);
     bridges-room = omega (arith, room, few);
-    floats-room = omega (arith, floats, scratch-floats, taken .stores .header .dimension .most, taken .stores .header .nodes);
+    floats-room = omega (arith, floats, scratch, taken .stores .header .dimension .most, taken .stores .header .nodes);
   }
 
 -- ---- the same, where numbers and parts are known to be those

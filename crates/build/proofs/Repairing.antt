@@ -76,8 +76,7 @@ module _ (n C D d : ℕ) (w : List ℕ) (xs : List Float) (part bridges bridges�
         word-room = omega arith;
       } in
       let bs : List Bridge = ensureConnectivity rows entry vs in
-      let r : (built ≡ length bs) × (bridges′ ≡ withBridges bs bridges) =
-      subst (λ (rs : List (List ℕ)). Repairs rs entry vs bridges words built bridges′) back repairs able in
+      let r : (built ≡ length bs) × (bridges′ ≡ withBridges bs bridges) = (rw back at repairs) able in
       let few : length bs < length rows = repair-few rows entry vs (omega (arith, entry-below)) (λ u. inside u) in
       let all : count ≡ length bs = omega (arith, counted, r .0, few) in
       let front : take (2 * count) bridges′ ≡ flatten (map bridgeBlock bs) =

@@ -205,10 +205,7 @@ module _ (xs front : List ℕ) (size : ℕ) (f : Front xs front size) where
 pub positions-all : (n : ℕ) (to x : List ℕ) → length to ≡ n → x ≡ upTo (min n (length to)) ++ drop (min n (length to)) to → x ≡ upTo n
 positions-all n to x e p =
     let m : min n (length to) ≡ n = omega arith in
-    p
-    ∙ ap (λ (k : ℕ). upTo k ++ drop k to) m
-    ∙ ap (λ (r : List ℕ). upTo n ++ r) (drop-of-length-le to {i = n} (omega arith))
-    ∙ append-nil (upTo n)
+    p ∙ rw (m, drop-of-length-le to {i = n} (omega arith), append-nil)
 
 pub positions-front : (n : ℕ) (to x : List ℕ) → n ≤ length to → x ≡ upTo (min n (length to)) ++ drop (min n (length to)) to → take n x ≡ upTo n
 positions-front n to x h p =

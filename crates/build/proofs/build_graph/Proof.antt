@@ -12,7 +12,7 @@ use Rattle.store.specs.Layout.{word, nodesAt, dimensionAt, capacityAt, degreeAt
 use Rattle.store.specs.View.{paramsOf}
 use Rattle.lists.proofs.Parts.{rowPart, vectorPart}
 use Rattle.def_calls.proofs.Taken.{BuildTaken, build-taken}
-use Rattle.build.proofs.Graph.{row-end, vectors-end, degree-small, rows-fit, rows-fit-at, repair-fits, repair-fits-at, graph-built-at}
+use Rattle.build.proofs.Graph.{rows-fit, rows-fit-at, repair-fits, repair-fits-at, graph-built-at}
 use native.Mathlib.Omega.{arith}
 use borrow.Author.Needs.{needs}
 use Rattle.build.proofs.build_graph.Statement.{statement}
@@ -73,10 +73,10 @@ vectors-are : (c : tie.After-row-at) → take (c .before .before .floats-size .r
 vectors-are c = ap (λ (k : ℕ). take k (f c)) (end-is c)
 
 part-within : (c : tie.After-row-at) → c .row-at .result - c .before .rows-at .result ≤ length (drop (c .before .rows-at .result) (w c))
-part-within c = omega (arith, to-is c, from-is c, row-end _ _ _ _ (taken (start c)), length-drop (c .before .rows-at .result) (w c))
+part-within c = omega (arith, to-is c, from-is c, taken (start c) .stores .room .rows, length-drop (c .before .rows-at .result) (w c))
 
 vectors-within : (c : tie.After-row-at) → c .before .before .floats-size .result ≤ length (f c)
-vectors-within c = omega (arith, end-is c, vectors-end _ _ _ _ (taken (start c)))
+vectors-within c = omega (arith, end-is c, taken (start c) .stores .room .vectors)
 
 -- from where the rows are put
 abbrev read : tie.After-put-rows → tie.After-row-at
@@ -114,10 +114,10 @@ build-graph-spec =
     (tie.spec
     -- word_at, params_of
     (λ c κs. search needs) (λ c κs. search needs) (λ c κs. search needs) (λ c κs. search needs)
-    (λ c. omega (arith, ap (λ (q : PipnnParams). q .«max_degree») (c .before .params-of .ensures), degree-small _ _ _ _ (taken (begun (c .before)))))
+    (λ c. omega (arith, ap (λ (q : PipnnParams). q .«max_degree») (c .before .params-of .ensures), taken (begun (c .before)) .stores .header .params .degree-most))
     -- floats_size, rows_at, row_at, put_rows, part-put-rows-start
     (λ c κs. search needs) (λ c κs. search needs) (λ c κs. search needs) (λ c. search needs) (λ c. search needs) (λ c. search needs)
-    (λ c. omega (arith, to-is c, row-end _ _ _ _ (taken (start c))))
+    (λ c. omega (arith, to-is c, taken (start c) .stores .room .rows))
     (λ c. sym (length-take-le _ _ (vectors-within (c .before .before)))) put-rows-requires
     (λ c. sym (length-take-le _ _ (vectors-within (read (c .before .before .before .before .before .before .before .before)))))
     -- repair
