@@ -1,7 +1,7 @@
 -- Candidates on words are those of the definition: a node is reached where its mark says so, and the distance that is kept is the nearest node's.
 -- Assumes nothing.
 use mathlib.Core.Path.{_≡_, refl, ap, ap₂, _∙_}
-use mathlib.Core.Logic.{_⊎_, inl, inr}
+use mathlib.Core.Logic.{inl, inr}
 use mathlib.Core.Bool.{Bool, true, false, not, _&&_, _||_}
 use mathlib.Core.List.{List, [], _∷_, _++_}
 use mathlib.Core.List.{List·Memᴰ as In, List·Memᴰ·head as here, List·Memᴰ·tail as there, List·Memᴰ·not-nil as in-nil, List·Memᴰ·append-cases as in-cases, List·Memᴰ·cases-cons as in-cons}
@@ -61,11 +61,7 @@ module _ (list list′ : ℕ → List ℕ) (n : ℕ) (alike : (u : ℕ) → u < 
   around-with (u ∷ us) b = ap₂ (λ (x : List ℕ) (y : List ℕ). u ∷ (x ++ y)) (alike u (b u (here refl))) (around-with us (λ x m. b x (there m)))
 
   either : {a b : List ℕ} → Below n a → Below n b → Below n (a ++ b)
-  either {a} {b} p q x m = go (in-cases a m)
-    where
-      go : In x a ⊎ In x b → x < n
-      go (inl k) = p x k
-      go (inr k) = q x k
+  either {a} {b} p q x m = elim (in-cases a m) [ inl k ↦ p x k | inr k ↦ q x k ]
 
   lists-below : (us : List ℕ) → Below n (listsOf list us)
   unfolding listsOf
@@ -75,11 +71,7 @@ module _ (list list′ : ℕ → List ℕ) (n : ℕ) (alike : (u : ℕ) → u < 
   with-below : (us : List ℕ) → Below n us → Below n (withLists list us)
   unfolding withLists
   with-below [] b x m = absurd (in-nil m)
-  with-below (u ∷ us) b x m = go (with-below us (λ y k. b y (there k))) (in-cons m)
-    where
-      go : Below n (withLists list us) → (x ≡ u) ⊎ In x (list u ++ withLists list us) → x < n
-      go rest (inl e) = omega (arith, b u (here refl))
-      go rest (inr k) = either (within u) rest x k
+  with-below (u ∷ us) b x m = elim (in-cons m) [ inl e ↦ omega (arith, b u (here refl)) | inr k ↦ either (within u) (with-below us (λ y k. b y (there k))) x k ]
 
   -- the node that a bridge starts from, in words and in the definition
   pub start-refines : (words reached : List ℕ) → Marked n reached words → (vs : List (List Float)) (entry i : ℕ) → entry < n → i < n
