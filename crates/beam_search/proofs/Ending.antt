@@ -4,7 +4,7 @@ use mathlib.Core.Path.{_≡_, refl, sym, ap, ap₂, _∙_, subst}
 use mathlib.Core.Bool.{Bool, true, false, _||_}
 use mathlib.Core.List.{List, [], _∷_, _++_, map, map-append, reverse}
 use mathlib.Core.List.{List·Memᴰ as In, List·Memᴰ·head as here, List·Memᴰ·tail as there, List·Memᴰ·not-nil as in-nil}
-use Prim.Native.Nat.{ℕ, _+_, _-_, _*_, _/_, _≤_, _<_, min}
+use Prim.Native.Nat.{ℕ, _+_, _-_, _/_, _≤_, _<_, min}
 use native.Mathlib.Omega.{arith}
 use native.Mathlib.Numerals.{add-one}
 use lib.Dec.{T, ltb}
@@ -121,9 +121,11 @@ module _ (n b : ℕ) (words x y z : List ℕ) (long : wordsFor n ≤ length word
       prepared ty tz = record {
         marks = λ v h. same-mark n v w₁ w₃ h same ∙ List·getD-append x (drop n words) 0 v (omega (arith, lx)) ∙ ap (λ (l : List ℕ). getD l v 0) xi
             ∙ getD-replicate (length (take n words)) v 0 0 (omega (arith, length-take-le n words (omega arith)));
-        front = subst (Tournament (replicate n emptyRank)) (sym front-is) (subst (λ (k : ℕ). Tournament (replicate k emptyRank) y) four₁ ty);
-        held = subst (λ (i : ℕ). Tournament (replicate (min b n) emptyRank) (part (heldAt n) i w₃)) e-is
-            (subst (Tournament (replicate (min b n) emptyRank)) (sym (part-here (heldAt n) e z w₂ from upto (lz ∙ part₂))) (subst (λ (k : ℕ). Tournament (replicate k emptyRank) z) four₂ tz));
+        front = let four : length (frontierPart n w₁) / 4 ≡ n = omega (arith, part₁) in rw front-is (rw four at ty);
+        held =
+            let four : length (part (heldAt n) e w₂) / 4 ≡ min b n = omega (arith, part₂) in
+            subst (λ (i : ℕ). Tournament (replicate (min b n) emptyRank) (part (heldAt n) i w₃)) e-is
+            (rw (part-here (heldAt n) e z w₂ from upto (lz ∙ part₂)) (rw four at tz));
       }
         where
           same : take (frontierAt n) w₃ ≡ take (frontierAt n) w₁
@@ -135,12 +137,6 @@ module _ (n b : ℕ) (words x y z : List ℕ) (long : wordsFor n ≤ length word
           front-is =
               part-before (heldAt n) e z w₂ from upto (lz ∙ part₂) (frontierAt n) (heldAt n) (omega arith) (omega arith)
               ∙ part-here (frontierAt n) (heldAt n) y w₁ (omega arith) (omega (arith, l₁)) (ly ∙ part₁)
-
-          four₁ : length (frontierPart n w₁) / 4 ≡ n
-          four₁ = omega (arith, part₁)
-
-          four₂ : length (part (heldAt n) e w₂) / 4 ≡ min b n
-          four₂ = omega (arith, part₂)
 
 -- ---- begun
 
@@ -197,29 +193,22 @@ module _ (sizes : Sizes) (reads : Reads) (e : ℕ) (nodes : List ℕ) (m : Memor
   abbrev far : ℕ → Float
   far = farOf sizes reads
 
-  abbrev words : List ℕ
-  words = m .words
-
-  abbrev floats : List Float
-  floats = m .floats
-
-  abbrev nodes′ : List ℕ
-  nodes′ = m .nodes
-
   abbrev r : Walk
   r = m .walk
 
   abbrev seen : List ℕ
   seen = walkOn sizes reads n (e ∷ []) (e ∷ [])
 
-  a : AnswerHeld far nodes (keysPart n words) nodes′ (r .kept) seen
+  a : AnswerHeld far nodes (keysPart n (m .words)) (m .nodes) (r .kept) seen
   a = t .standing .answer
 
   seen-few : length seen ≤ n
   seen-few = at-most n seen (t .standing .once) (t .standing .inside)
 
-  keys-length : length (keysPart n words) ≡ n
-  keys-length = let s : wordsFor n - keysAt n ≡ n = omega arith in length-take-le (wordsFor n - keysAt n) (drop (keysAt n) words) (omega (arith, length-drop (keysAt n) words)) ∙ s
+  keys-length : length (keysPart n (m .words)) ≡ n
+  keys-length =
+      let s : wordsFor n - keysAt n ≡ n = omega arith in
+      length-take-le (wordsFor n - keysAt n) (drop (keysAt n) (m .words)) (omega (arith, length-drop (keysAt n) (m .words))) ∙ s
 
   abbrev sorted : List ℕ
   sorted = sortBy (keyAt far) (reverse seen)
@@ -228,7 +217,7 @@ module _ (sizes : Sizes) (reads : Reads) (e : ℕ) (nodes : List ℕ) (m : Memor
   sorted-length = length-sort (keyAt far) (reverse seen) ∙ length-reverse seen
 
   abbrev most : ℕ
-  most = both (keysPart n words) nodes′
+  most = both (keysPart n (m .words)) (m .nodes)
 
   take-min : (i j : ℕ) (l : List ℕ) → length l ≤ i → take (min i j) l ≡ take j l
   take-min i j l h = elim (native.Mathlib.Decide.decLt i j) [
@@ -249,28 +238,27 @@ module _ (sizes : Sizes) (reads : Reads) (e : ℕ) (nodes : List ℕ) (m : Memor
   kept-few : (r .kept ≤ n) × (r .kept ≤ length nodes)
   kept-few = (omega (arith, a .kept-is, seen-few), omega (arith, a .kept-is, a .long))
 
-  nodes-is : nodes′ ≡ found ++ drop (r .kept) nodes
+  nodes-is : m .nodes ≡ found ++ drop (r .kept) nodes
   nodes-is = a .nodes-are ∙ ap (λ (l : List ℕ). l ++ drop (r .kept) nodes) first-is
 
-  front-is : take (r .kept) nodes′ ≡ found
+  front-is : take (r .kept) (m .nodes) ≡ found
   front-is = ap (take (r .kept)) nodes-is ∙ take-at found (drop (r .kept) nodes) (r .kept) found-length
 
   found-in : (x : ℕ) → In x found → In x seen
   unfolding answerOf
   found-in x i = in-reverse seen (first-in (keyAt far) (length nodes) (reverse seen) i)
 
-  pub searched : Searched far (answerOf far (length nodes) (scoredBy sizes e reads)) (scoredBy sizes e reads) nodes nodes′ distances distances′ (record { count = count; scored = r .scored })
+  pub searched : Searched far (answerOf far (length nodes) (scoredBy sizes e reads)) (scoredBy sizes e reads) nodes (m .nodes) distances distances′
+      (record { count = count; scored = r .scored })
   unfolding beamSearch walked
   searched = record {
-    count-is = count-is ∙ whole ∙ sym found-length;
+    count-is = omega (arith, kept-few .0, found-length);
     scored-is = t .standing .scored-is ∙ sym (length-reverse seen);
     nodes-are = nodes-is ∙ ap (λ (k : ℕ). found ++ drop k nodes) (sym found-length);
     distances-are =
         put (omega (arith, kept-few .1, a .long)) (omega (arith, kept-few .1))
         ∙ ap₂ (λ (l : List Float) (k : ℕ). l ++ drop k distances)
-        (ap (map (λ v. getD floats v (inf false))) front-is ∙ map-same (λ v. getD floats v (inf false)) far found (λ x i. t .known .there x (found-in x i)))
+        (ap (map (λ v. getD (m .floats) v (inf false))) front-is
+        ∙ map-same (λ v. getD (m .floats) v (inf false)) far found (λ x i. t .known .there x (found-in x i)))
         (sym found-length);
   }
-    where
-      whole : min (r .kept) 4294967295 ≡ r .kept
-      whole = omega (arith, kept-few .0)

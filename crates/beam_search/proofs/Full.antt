@@ -1,16 +1,15 @@
 -- A walk that has seen every node sees no more, whatever is left in its frontier. Assumes nothing.
-use mathlib.Core.Path.{_≡_, refl, sym, ap, _∙_, subst}
-use mathlib.Core.Logic.{_⊎_, inl, inr}
+use mathlib.Core.Path.{_≡_, refl, ap, _∙_}
+use mathlib.Core.Logic.{inl, inr}
 use mathlib.Core.Bool.{Bool}
 use mathlib.Core.List.{List, [], _∷_}
 use mathlib.Core.List.{List·Memᴰ as In, List·Memᴰ·head as here, List·Memᴰ·tail as there, List·Memᴰ·not-nil as in-nil, List·Memᴰ·cases-cons as in-cons}
-use Prim.Native.Nat.{ℕ, zero, suc, _≤_, _<_}
+use Prim.Native.Nat.{ℕ, zero, suc, _<_}
 use native.Mathlib.Omega.{arith}
-use lib.Dec.{T, ltb, ltb→lt}
-use lib.ListN.{length}
+use lib.Dec.{ltb, ltb→lt}
 use Rattle.basics.specs.Choice.{pick, pick-ind, pick-yes}
-use Rattle.basics.specs.Nodes.{has, NoDup, Below}
-use Rattle.basics.proofs.Counting.{in-has, in-or-not, at-most}
+use Rattle.basics.specs.Nodes.{has, Below}
+use Rattle.basics.proofs.Counting.{in-has}
 use Rattle.def_walk.specs.Walk.{State, visit, expand, walk}
 use Rattle.beam_search.specs.Inside.Search.{within}
 
@@ -18,26 +17,9 @@ use Rattle.beam_search.specs.Inside.Search.{within}
 pub within-below : (n : ℕ) (l : List ℕ) → Below n (within n l)
 unfolding within
 within-below n [] x m = absurd (in-nil m)
-within-below n (v ∷ l) x m = pick-ind (λ (k : List ℕ). In x k → x < n) (ltb v n) (λ t i. go (within-below n l x) t (in-cons i)) (λ _ i. within-below n l x i) m
-  where
-    go : (In x (within n l) → x < n) → T (ltb v n) → (x ≡ v) ⊎ In x (within n l) → x < n
-    go rec t (inl e) = subst (λ (k : ℕ). k < n) (sym e) (ltb→lt v n t)
-    go rec t (inr i) = rec i
-
--- n different nodes below n are all of them
-pub all-seen : (n : ℕ) (seen : List ℕ) → NoDup seen → Below n seen → n ≤ length seen → (v : ℕ) → v < n → In v seen
-all-seen n seen once inside h v low = go (in-or-not v seen)
-  where
-    both : Below n (v ∷ seen)
-    both x m = case (in-cons m)
-      where
-        case : (x ≡ v) ⊎ In x seen → x < n
-        case (inl e) = omega arith
-        case (inr i) = inside x i
-
-    go : In v seen ⊎ (In v seen → ⊥) → In v seen
-    go (inl m) = m
-    go (inr out) = absurd (omega (arith, at-most n (v ∷ seen) (out, once) both))
+within-below n (v ∷ l) x m =
+    pick-ind (λ (k : List ℕ). In x k → x < n) (ltb v n)
+    (λ t i. elim (in-cons {b = v} {l = within n l} i) [ inl e ↦ omega (arith, ltb→lt v n t) | inr j ↦ within-below n l x j ]) (λ _ i. within-below n l x i) m
 
 -- a list of nodes seen adds nothing
 expand-seen : (push : ℕ → List ℕ → List ℕ) (s : State) (l : List ℕ) → ((v : ℕ) → In v l → In v (s .seen)) → expand push s l ≡ s

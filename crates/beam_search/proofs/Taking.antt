@@ -4,17 +4,19 @@ use mathlib.Core.Logic.{_⊎_, inl, inr}
 use mathlib.Core.Bool.{Bool, true, false}
 use mathlib.Core.List.{List, [], _∷_, _++_}
 use mathlib.Core.List.{List·Memᴰ as In, List·Memᴰ·head as here, List·Memᴰ·tail as there, List·Memᴰ·cases-cons as in-cons}
-use Prim.Native.Nat.{ℕ, _+_, _-_, _*_, _≤_, _<_, min}
+use Prim.Native.Nat.{ℕ, _+_, _-_, _≤_, _<_, min}
 use native.Mathlib.Omega.{arith}
 use lib.Dec.{ltb}
 use lib.ListN.{length, getD, take, drop}
 use lib.Seq.{getD-take}
 use lib.Ieee.{Float, inf}
-use Rattle.basics.specs.Choice.{pick, pick-true, pick-false}
+use lib.Ieee.Bits.{is-true}
+use Rattle.basics.specs.Choice.{pick, pick-ind, pick-no}
 use Rattle.basics.specs.Graph.{listOf}
 use Rattle.basics.specs.Nodes.{has, NoDup, Below}
 use Rattle.basics.proofs.Counting.{at-most}
 use Rattle.def_walk.specs.Walk.{State, visit, expand}
+use Rattle.def_walk.specs.KeepClosest.{heldOf}
 use Rattle.def_walk.specs.Beam.{toFrontier}
 use Rattle.beam_state.specs.Inside.Queues.{frontRank, Queue, Held, Known}
 use Rattle.neighbours.specs.Inside.Scoring.{scoredAt}
@@ -29,21 +31,25 @@ use Rattle.beam_search.specs.declared.Sizes.{Sizes}
 use Rattle.beam_search.specs.Inside.Search.{within, Reads, farOf, listsOf}
 use Rattle.beam_search.specs.Inside.Steps.{Between, TakenIn, TakingIn}
 
--- what stands does not depend on the floats
-standing-in : {far : ℕ → Float} {n b : ℕ} {nodes₀ words nodes : List ℕ} {w : Walk} {seen front : List ℕ} (floats floats′ : List Float)
+-- the same state in words that are the same behind marks and fresh nodes, whatever the floats
+standing-behind : {far : ℕ → Float} {n b : ℕ} {nodes₀ nodes : List ℕ} {w : Walk} {seen front : List ℕ} (words words′ : List ℕ) (floats floats′ : List Float)
+    → drop (freshEnd n) words′ ≡ drop (freshEnd n) words
     → Standing far n b nodes₀ (record { words = words; floats = floats; nodes = nodes; walk = w }) seen front
-    → Standing far n b nodes₀ (record { words = words; floats = floats′; nodes = nodes; walk = w }) seen front
-standing-in floats floats′ t = record {
-  frontier = t .frontier;
-  held = t .held;
+    → Standing far n b nodes₀ (record { words = words′; floats = floats′; nodes = nodes; walk = w }) seen front
+standing-behind {far} {n} {b} {nodes₀} {nodes} {w} {seen} {front} words words′ floats floats′ same t = record {
+  frontier = subst (Queue (frontRank far) n front) (moved (frontierAt n) (heldAt n) (omega arith)) (t .frontier);
+  held = subst (Held far (min b n) (heldOf far b seen)) (moved (heldAt n) (heldEnd n b) (omega arith)) (t .held);
   held-count = t .held-count;
   cutoff-is = t .cutoff-is;
-  answer = t .answer;
+  answer = subst (λ (k : List ℕ). AnswerHeld far nodes₀ k nodes (w .kept) seen) (moved (keysAt n) (wordsFor n) (omega arith)) (t .answer);
   scored-is = t .scored-is;
   once = t .once;
   inside = t .inside;
   sub = t .sub;
 }
+  where
+    moved : (a e : ℕ) → freshEnd n ≤ a → part a e words ≡ part a e words′
+    moved a e h = sym (part-behind (freshEnd n) a e words′ words h same)
 
 -- ---- scored and pushed
 
@@ -51,22 +57,18 @@ standing-in floats floats′ t = record {
 pushed-in : (far : ℕ → Float) (vs : List ℕ) (s : State) (x : ℕ) → In x (pushed far vs s .seen) → In x (s .seen) ⊎ In x vs
 unfolding pushed
 pushed-in far [] s x m = inl m
-pushed-in far (v ∷ vs) s x m = go (pushed-in far vs (record { seen = v ∷ s .seen; front = toFrontier far v (s .front) }) x m)
-  where
-    first : (x ≡ v) ⊎ In x (s .seen) → In x (s .seen) ⊎ In x (v ∷ vs)
-    first (inl e) = inr (here e)
-    first (inr i) = inl i
-
-    go : In x (v ∷ s .seen) ⊎ In x vs → In x (s .seen) ⊎ In x (v ∷ vs)
-    go (inl i) = first (in-cons i)
-    go (inr i) = inr (there i)
+pushed-in far (v ∷ vs) s x m = elim (pushed-in far vs (record { seen = v ∷ s .seen; front = toFrontier far v (s .front) }) x m) [
+  | inl i ↦ elim (in-cons i) [ inl e ↦ inr (here e) | inr j ↦ inl j ]
+  | inr i ↦ inr (there i)
+]
 
 pub taking-in : (sizes : Sizes) (far : ℕ → Float) (count many : ℕ) (m m′ : Memory) → many ≡ min count (sizes .n)
     → wordsFor (sizes .n) ≤ length (m .words) → m′ .floats ≡ scoredAt far (take (sizes .n + many - sizes .n) (drop (sizes .n) (m .words))) (m .floats)
     → length (m′ .floats) ≡ length (m .floats)
     → PushingAll (sizes .n) (sizes .places) many (record { words = m .words; floats = m′ .floats; nodes = m .nodes; walk = m .walk }) m′ → TakingIn sizes far count m m′
 taking-in sizes far count many m m′ mi long score lf push nodes₀ fresh s fi ci cn d below room known t = record {
-  standing = push long far nodes₀ fresh s (fi ∙ ap (λ (k : ℕ). take k (drop (sizes .n) (m .words))) (sym all)) (all ∙ ci) (omega arith) d below known′ (standing-in (m .floats) (m′ .floats) t);
+  standing = push long far nodes₀ fresh s (fi ∙ ap (λ (k : ℕ). take k (drop (sizes .n) (m .words))) (sym all)) (all ∙ ci) (omega arith) d below known′
+      (standing-behind (m .words) (m .words) (m .floats) (m′ .floats) refl t);
   known = known′;
   room = omega arith;
 }
@@ -80,12 +82,15 @@ taking-in sizes far count many m m′ mi long score lf push nodes₀ fresh s fi 
     scored : m′ .floats ≡ scoredAt far fresh (m .floats)
     scored = score ∙ ap (λ (l : List ℕ). scoredAt far l (m .floats)) ids
 
-    there′ : (x : ℕ) → In x (pushed far fresh s .seen) → In x (s .seen) ⊎ In x fresh → getD (m′ .floats) x (inf false) ≡ far x
-    there′ x i (inl j) = ap (λ (l : List Float). getD l x (inf false)) scored ∙ scored-keeps far (inf false) x fresh (m .floats) (omega (arith, below x i)) (known .there x j)
-    there′ x i (inr j) = ap (λ (l : List Float). getD l x (inf false)) scored ∙ scored-known far (inf false) x fresh (m .floats) j (omega (arith, below x i))
-
     known′ : Known far (sizes .n) (pushed far fresh s .seen) (m′ .floats)
-    known′ = record { few = known .few; f32s = known .f32s; there = λ x i. there′ x i (pushed-in far fresh s x i) }
+    known′ = record {
+      few = known .few;
+      f32s = known .f32s;
+      there = λ x i. rw scored (elim (pushed-in far fresh s x i) [
+        | inl j ↦ scored-keeps far (inf false) x fresh (m .floats) (omega (arith, below x i)) (known .there x j)
+        | inr j ↦ scored-known far (inf false) x fresh (m .floats) j (omega (arith, below x i))
+      ]);
+    }
 
 -- ---- gathered and pushed is expanded
 
@@ -95,63 +100,26 @@ record Alike (far : ℕ → Float) (s s₀ : State) (g : Fresh) : Type 0 where
 
 module _ (far : ℕ → Float) (n : ℕ) (s₀ : State) where
   visit-alike : (v : ℕ) (s : State) (g : Fresh) → ltb v n ≡ true → Alike far s s₀ g → Alike far (visit (toFrontier far) v s) s₀ (visitOne n v g)
-  unfolding visit visitOne pushed
-  visit-alike v s g l a = either (has v (s .seen)) refl
+  unfolding visit visitOne pushed pick
+  visit-alike v s g l a = let same : has v (g .seen) ≡ has v (s .seen) = ap (has v) (sym (a .seen-is)) in rw (visitOne, l, same) (either (has v (s .seen)))
     where
-      new-s : State
-      new-s = record { seen = v ∷ s .seen; front = toFrontier far v (s .front) }
-
-      new-g : Fresh
-      new-g = record { seen = v ∷ g .seen; fresh = g .fresh ++ (v ∷ []) }
-
-      either : (t : Bool) → has v (s .seen) ≡ t → Alike far (visit (toFrontier far) v s) s₀ (visitOne n v g)
-      either true e =
-          let x : visit (toFrontier far) v s ≡ s = pick-true s new-s e in
-          let y : visitOne n v g ≡ g = pick-true (pick (has v (g .seen)) g new-g) g l ∙ pick-true g new-g (ap (has v) (sym (a .seen-is)) ∙ e) in
-          subst (λ (z : State). Alike far z s₀ (visitOne n v g)) (sym x) (subst (Alike far s s₀) (sym y) a)
-      either false e =
-          let x : visit (toFrontier far) v s ≡ new-s = pick-false s new-s e in
-          let y : visitOne n v g ≡ new-g = pick-true (pick (has v (g .seen)) g new-g) g l ∙ pick-false g new-g (ap (has v) (sym (a .seen-is)) ∙ e) in
-          subst (λ (z : State). Alike far z s₀ (visitOne n v g)) (sym x) (subst (Alike far new-s s₀) (sym y) record {
-            made = pushed-append far (g .fresh) (v ∷ []) s₀ ∙ ap (λ (z : State). pushed far (v ∷ []) z) (a .made);
-            seen-is = ap (λ (z : List ℕ). v ∷ z) (a .seen-is);
-          })
+      either : (old : Bool) → Alike far (pick old s (record { seen = v ∷ s .seen; front = toFrontier far v (s .front) })) s₀
+          (pick old g (record { seen = v ∷ g .seen; fresh = g .fresh ++ (v ∷ []) }))
+      either true = a
+      either false = record {
+        made = pushed-append far (g .fresh) (v ∷ []) s₀ ∙ ap (λ (z : State). pushed far (v ∷ []) z) (a .made);
+        seen-is = ap (λ (z : List ℕ). v ∷ z) (a .seen-is);
+      }
 
   expand-alike : (list : List ℕ) (s : State) (g : Fresh) → Alike far s s₀ g → Alike far (expand (toFrontier far) s (within n list)) s₀ (gatherFresh n list g)
-  unfolding expand gatherFresh within
+  unfolding expand gatherFresh within visitOne
   expand-alike [] s g a = a
-  expand-alike (v ∷ list) s g a = either (expand-alike list (visit (toFrontier far) v s) (visitOne n v g)) (expand-alike list s g a) (ltb v n) refl
-    where
-      either : (Alike far (visit (toFrontier far) v s) s₀ (visitOne n v g) → Alike far (expand (toFrontier far) (visit (toFrontier far) v s) (within n list)) s₀ (gatherFresh n list (visitOne n v g)))
-          → Alike far (expand (toFrontier far) s (within n list)) s₀ (gatherFresh n list g)
-          → (t : Bool) → ltb v n ≡ t → Alike far (expand (toFrontier far) s (within n (v ∷ list))) s₀ (gatherFresh n (v ∷ list) g)
-      either rec skip true e =
-          subst (λ (l : List ℕ). Alike far (expand (toFrontier far) s l) s₀ (gatherFresh n list (visitOne n v g))) (sym (pick-true (v ∷ within n list) (within n list) e)) (rec (visit-alike v s g e a))
-      either rec skip false e =
-          subst (λ (l : List ℕ). Alike far (expand (toFrontier far) s l) s₀ (gatherFresh n list (visitOne n v g))) (sym (pick-false (v ∷ within n list) (within n list) e))
-          (subst (λ (h : Fresh). Alike far (expand (toFrontier far) s (within n list)) s₀ (gatherFresh n list h)) (sym (past v g e)) skip)
-        where
-          past : (v : ℕ) (g : Fresh) → ltb v n ≡ false → visitOne n v g ≡ g
-          past v g e = pick-false (pick (has v (g .seen)) g (record { seen = v ∷ g .seen; fresh = g .fresh ++ (v ∷ []) })) g e
-
--- the same state in words that are the same behind marks and fresh nodes
-pub standing-behind : {far : ℕ → Float} {n b : ℕ} {nodes₀ nodes : List ℕ} {floats : List Float} {w : Walk} {seen front : List ℕ} (words words′ : List ℕ)
-    → drop (freshEnd n) words′ ≡ drop (freshEnd n) words → Standing far n b nodes₀ (record { words = words; floats = floats; nodes = nodes; walk = w }) seen front
-    → Standing far n b nodes₀ (record { words = words′; floats = floats; nodes = nodes; walk = w }) seen front
-standing-behind {far} {n} {b} {nodes₀} {nodes} {floats} {w} {seen} {front} words words′ same t = record {
-  frontier = subst (Queue (frontRank far) n front) (moved (frontierAt n) (heldAt n) (omega arith)) (t .frontier);
-  held = subst (Held far (min b n) (Rattle.def_walk.specs.KeepClosest.heldOf far b seen)) (moved (heldAt n) (heldEnd n b) (omega arith)) (t .held);
-  held-count = t .held-count;
-  cutoff-is = t .cutoff-is;
-  answer = subst (λ (k : List ℕ). AnswerHeld far nodes₀ k nodes (w .kept) seen) (moved (keysAt n) (wordsFor n) (omega arith)) (t .answer);
-  scored-is = t .scored-is;
-  once = t .once;
-  inside = t .inside;
-  sub = t .sub;
-}
-  where
-    moved : (a e : ℕ) → freshEnd n ≤ a → part a e words ≡ part a e words′
-    moved a e h = sym (part-behind (freshEnd n) a e words′ words h same)
+  expand-alike (v ∷ list) s g a =
+      pick-ind (λ (l : List ℕ). Alike far (expand (toFrontier far) s l) s₀ (gatherFresh n list (visitOne n v g))) (ltb v n)
+      (λ t. expand-alike list (visit (toFrontier far) v s) (visitOne n v g) (visit-alike v s g (is-true _ t) a))
+      (λ t.
+      let past : visitOne n v g ≡ g = pick-no (ltb v n) _ g t in
+      subst (λ (h : Fresh). Alike far (expand (toFrontier far) s (within n list)) s₀ (gatherFresh n list h)) (sym past) (expand-alike list s g a))
 
 -- the marks of words that are the same up to the fresh nodes
 pub same-mark : (n v : ℕ) (words words′ : List ℕ) → v < n → take (frontierAt n) words′ ≡ take (frontierAt n) words → getD words′ v 0 ≡ getD words v 0
@@ -197,7 +165,8 @@ module _ (sizes : Sizes) (far : ℕ → Float) (count : ℕ) (list between : Lis
 
       taken : TakenIn sizes far nodes₀ m′ (pushed far (all .fresh) s)
       taken = taking nodes₀ (all .fresh) s (sym (got .buffer)) (got .count-is) (omega (arith, at-most n (all .seen) (got .once) (got .inside), got .fewer, got .count-is))
-          (subst NoDup final (got .once)) (subst (Below n) final (got .inside)) room known (standing-behind (m .words) between (got .behind) t)
+          (subst NoDup final (got .once)) (subst (Below n) final (got .inside)) room known
+          (standing-behind (m .words) between (m .floats) (m .floats) (got .behind) t)
 
 -- a node's list looked at, of linked bridges
 abbrev pub Expanding : Sizes → Reads → List ℕ → ℕ → Memory → Memory → Type 0

@@ -1,7 +1,7 @@
 -- Steps of the walk: where the frontier is empty, where it ends before an expansion, and where a node is expanded; and all steps one after the other.
 -- Assumes nothing.
 use mathlib.Core.Path.{_≡_, refl, sym, ap, ap₂, _∙_, subst}
-use mathlib.Core.Logic.{_⊎_, inl, inr}
+use mathlib.Core.Logic.{inl, inr}
 use mathlib.Core.Bool.{Bool, true, false, _&&_, _||_}
 use mathlib.Core.List.{List, [], _∷_}
 use mathlib.Core.List.{List·Memᴰ as In, List·Memᴰ·head as here, List·Memᴰ·tail as there}
@@ -12,6 +12,7 @@ use lib.ListN.{length, drop, length-drop}
 use lib.Seq.{length-take-le}
 use lib.Ieee.{Float, binary32, mul, lt}
 use Rattle.basics.specs.Choice.{pick, pick-true, pick-false}
+use Rattle.basics.proofs.Counting.{all-of}
 use Rattle.basics.proofs.Tests.{one-true, both-false}
 use Rattle.def_walk.specs.Walk.{State, expand, walk}
 use Rattle.def_walk.specs.KeepClosest.{heldOf}
@@ -28,7 +29,7 @@ use Rattle.beam_search.specs.declared.Sizes.{Sizes}
 use Rattle.beam_search.specs.Inside.Search.{Reads, farOf, listsOf}
 use Rattle.beam_search.specs.Inside.Steps.{Between, walkOn, Stepping, Walking}
 use Rattle.beam_search.proofs.Taking.{same-mark, Expanding}
-use Rattle.beam_search.proofs.Full.{all-seen, same, walk-full, within-below}
+use Rattle.beam_search.proofs.Full.{same, walk-full, within-below}
 
 module _ (sizes : Sizes) (reads : Reads) (links : List ℕ) (m : Memory) (x : List ℕ) (long : wordsFor (sizes .n) ≤ length (m .words))
     (lx : length x ≡ length (frontierPart (sizes .n) (m .words))) where
@@ -128,7 +129,14 @@ module _ (sizes : Sizes) (reads : Reads) (links : List ℕ) (m : Memory) (x : Li
         seen′ = next .seen;
         front′ = next .front;
         stands = there′;
-        ends = λ f more. on more ∙ ended f more (one-true _ _ (sym di ∙ f));
+        ends = λ f more. on more ∙ elim (one-true (ltb (stopMultiplier * b) (m′ .walk .scored)) (leb n (m′ .walk .scored)) (sym di ∙ f)) [
+          | inl e ↦ pick-true (next .seen) (walkOn sizes reads more (next .seen) (next .front)) (many ∙ e)
+          | inr e ↦
+              let all : n ≤ length (next .seen) = omega (arith, leb→le n (m′ .walk .scored) (subst T (sym e) tt), there′ .standing .scored-is) in
+              same (tooMany b (next .seen)) (next .seen) _ (next .seen) refl
+              (walk-full (listsOf sizes reads) (toFrontier far) (tooFar far b) (tooMany b) (next .seen)
+              (λ a y i. all-of n (next .seen) (there′ .standing .once) (there′ .standing .inside) all y (within-below n _ y i)) more (next .front))
+        ];
         goes = λ f more. on more ∙ pick-false (next .seen) (walkOn sizes reads more (next .seen) (next .front)) (many ∙ both-false _ _ (sym di ∙ f) .0);
       }
         where
@@ -154,16 +162,6 @@ module _ (sizes : Sizes) (reads : Reads) (links : List ℕ) (m : Memory) (x : Li
 
           on : (more : ℕ) → walkOn sizes reads (suc more) seen (u ∷ rest) ≡ pick (tooMany b (next .seen)) (next .seen) (walkOn sizes reads more (next .seen) (next .front))
           on more = pick-false _ _ (too-far-is nodes₀ seen rest u t ∙ s)
-
-          -- too many are scored, or all
-          ended : done ≡ true → (more : ℕ) → (ltb (stopMultiplier * b) (m′ .walk .scored) ≡ true) ⊎ (leb n (m′ .walk .scored) ≡ true)
-              → pick (tooMany b (next .seen)) (next .seen) (walkOn sizes reads more (next .seen) (next .front)) ≡ next .seen
-          ended f more (inl e) = pick-true (next .seen) (walkOn sizes reads more (next .seen) (next .front)) (many ∙ e)
-          ended f more (inr e) =
-              let all : n ≤ length (next .seen) = omega (arith, leb→le n (m′ .walk .scored) (subst T (sym e) tt), there′ .standing .scored-is) in
-              same (tooMany b (next .seen)) (next .seen) _ (next .seen) refl
-              (walk-full (listsOf sizes reads) (toFrontier far) (tooFar far b) (tooMany b) (next .seen)
-              (λ a y i. all-seen n (next .seen) (there′ .standing .once) (there′ .standing .inside) all y (within-below n _ y i)) more (next .front))
 
 -- ---- all steps
 

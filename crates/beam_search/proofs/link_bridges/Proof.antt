@@ -13,9 +13,6 @@ Inv-loop links₀ n bridges many j₀ links j = Chaining n bridges links₀ j li
 abbrev μ-loop : tie.MeasureT-loop
 μ-loop links₀ n bridges many j₀ links j = many - j
 
-loop-holds : tie.Need-loop-holds Inv-loop μ-loop
-loop-holds c = let a = (c .before .before) .args in chaining-none (a .n) (a .bridges .now) (a .links .now)
-
 loop-again : tie.Need-loop-again Inv-loop μ-loop
 loop-again c =
     let at = c .before .before .before .before .before .before .before in
@@ -28,9 +25,6 @@ loop-again c =
     (c .before .before .before .before .before .before .loop-test .taken) (b .kept .0)
     (b .ensures ∙ ap₂ (λ (x : ℕ) (y : ℕ). chainBridge (a .n) (l .j) x y (l .links)) (near .ensures) (far .ensures))
 
-same-length : tie.Need-same-length Inv-loop μ-loop
-same-length c = c .before .loop .inv .kept
-
 returns : tie.Need-returns Inv-loop μ-loop
 returns c =
     let l = c .before .loop in
@@ -41,7 +35,7 @@ pub link-bridges-spec : {M : Type 1} → statement M
 link-bridges-spec =
     tie.close
     (tie.spec
-    Inv-loop μ-loop loop-holds
+    Inv-loop μ-loop (λ c. let a = (c .before .before) .args in chaining-none (a .n) (a .bridges .now) (a .links .now))
     -- bridge, end_of, chain_bridge, j, the loop measure
     (λ c. search needs) (λ c κs. search needs) (λ c κs. search needs) (λ c κs. search needs) (λ c. search needs) (λ c. search needs) loop-again
-    same-length returns)
+    (λ c. c .before .loop .inv .kept) returns)

@@ -27,17 +27,8 @@ kept c =
     let m = room (c .before) in
     ap length (c .loop .inv .1) ∙ put-length (λ v. getD (a .floats .now) v (inf false)) (a .nodes .now) (a .distances .now) (c .loop .i) (omega (arith, c .loop .inv .0)) (omega (arith, c .loop .inv .0))
 
-loop-holds : tie.Need-loop-holds Inv-loop μ-loop
-loop-holds c = (omega arith, refl)
-
 slice-write-distances : tie.Need-slice-write-distances Inv-loop μ-loop
 slice-write-distances c = let k = kept (c .before .before .before) in let m = room (c .before .before .before .before) in omega arith
-
-add-i : tie.Need-add-i Inv-loop μ-loop
-add-i c = omega arith
-
-loop-less : tie.Need-loop-less Inv-loop μ-loop
-loop-less c = omega arith
 
 loop-again : tie.Need-loop-again Inv-loop μ-loop
 loop-again c =
@@ -46,9 +37,6 @@ loop-again c =
     let m = room (c .before .before .before .before) in
     let t = c .before .before .loop-test .taken in
     (omega arith, ap₂ (λ (x : List Float) (y : Float). set x (l .i) y) (l .inv .1) (c .distance-of .ensures) ∙ put-more (λ v. getD (a .floats .now) v (inf false)) (a .nodes .now) (a .distances .now) (l .i) (omega arith) (omega arith))
-
-same-length : tie.Need-same-length Inv-loop μ-loop
-same-length c = kept (c .before)
 
 returns : tie.Need-returns Inv-loop μ-loop
 returns c =
@@ -66,7 +54,7 @@ put-distances-spec =
     (tie.spec
     Inv-loop μ-loop
     -- lesser
-    (λ c κs. search needs) (λ c κs. search needs) loop-holds
+    (λ c κs. search needs) (λ c κs. search needs) (λ c. (omega arith, refl))
     -- distance_of, distances
-    (λ c. search needs) (λ c. search needs) (λ c κs. search needs) (λ c. search needs) slice-write-distances add-i loop-less loop-again same-length
-    returns)
+    (λ c. search needs) (λ c. search needs) (λ c κs. search needs) (λ c. search needs) slice-write-distances (λ c. omega arith) (λ c. omega arith)
+    loop-again (λ c. kept (c .before)) returns)

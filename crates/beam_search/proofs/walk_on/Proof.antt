@@ -30,21 +30,18 @@ after c = let s = c .step in record { words = s .last .0; floats = s .last .1 .0
 
 same-length : tie.Need-same-length Inv-loop μ-loop
 same-length c =
-    let at-step = c .before .before .before .before .before .before .before .before in
-    let at-loop = at-step .before .before .before .before .before in
-    at-step .step .kept .0 ∙ at-loop .loop .inv .words-kept
+    let s = c .before .before .before .before .before .before .before .before in
+    s .step .kept .0 ∙ s .before .before .before .before .before .loop .inv .words-kept
 
 same-length-2 : tie.Need-same-length-2 Inv-loop μ-loop
 same-length-2 c =
-    let at-step = c .before .before .before .before .before .before .before .before in
-    let at-loop = at-step .before .before .before .before .before in
-    at-step .step .kept .1 .0 ∙ at-loop .loop .inv .floats-kept
+    let s = c .before .before .before .before .before .before .before .before in
+    s .step .kept .1 .0 ∙ s .before .before .before .before .before .loop .inv .floats-kept
 
 same-length-3 : tie.Need-same-length-3 Inv-loop μ-loop
 same-length-3 c =
-    let at-step = c .before .before .before .before .before .before .before .before in
-    let at-loop = at-step .before .before .before .before .before in
-    at-step .step .kept .1 .1 .0 ∙ at-loop .loop .inv .nodes-kept
+    let s = c .before .before .before .before .before .before .before .before in
+    s .step .kept .1 .1 .0 ∙ s .before .before .before .before .before .loop .inv .nodes-kept
 
 returns : tie.Need-returns Inv-loop μ-loop
 returns c =
@@ -62,18 +59,6 @@ loop-again c =
     let s = at-step .step in
     onward-more (l .inv) (after at-step) (s .result .done) (at-loop-test .loop-test .taken) (s .ensures) (c .if1 .left) (s .kept .0) (s .kept .1 .0) (s .kept .1 .1 .0)
 
-same-length-4 : tie.Need-same-length-4 Inv-loop μ-loop
-same-length-4 c = c .before .loop .inv .words-kept
-
-same-length-5 : tie.Need-same-length-5 Inv-loop μ-loop
-same-length-5 c = c .before .loop .inv .floats-kept
-
-same-length-6 : tie.Need-same-length-6 Inv-loop μ-loop
-same-length-6 c = c .before .loop .inv .nodes-kept
-
-returns-2 : tie.Need-returns-2 Inv-loop μ-loop
-returns-2 c = onward-all (c .before .loop .inv) (c .loop-test .left)
-
 pub walk-on-spec : {M : Type 1} → statement M
 walk-on-spec =
     tie.close
@@ -82,4 +67,5 @@ walk-on-spec =
     -- left
     (λ c. search needs) step-requires same-length same-length-2 same-length-3 returns
     -- the loop measure
-    (λ c. search needs) loop-again same-length-4 same-length-5 same-length-6 returns-2)
+    (λ c. search needs) loop-again (λ c. c .before .loop .inv .words-kept) (λ c. c .before .loop .inv .floats-kept)
+    (λ c. c .before .loop .inv .nodes-kept) (λ c. onward-all (c .before .loop .inv) (c .loop-test .left)))
