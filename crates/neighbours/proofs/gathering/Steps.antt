@@ -1,6 +1,6 @@
 -- One node looked at, a list piece by piece, and the other ends of bridges by their chain. Assumes nothing.
 use mathlib.Core.Path.{_≡_, refl, sym, ap, ap₂, _∙_, subst}
-use mathlib.Core.Logic.{_⊎_, inl, inr}
+use mathlib.Core.Logic.{inl, inr}
 use mathlib.Core.Bool.{Bool, true, false, _||_}
 use mathlib.Core.List.{List, [], _∷_, _++_}
 use mathlib.Core.List.{List·Memᴰ as In, List·Memᴰ·cases-cons as in-cons}
@@ -63,39 +63,31 @@ module _ (n count v : ℕ) (words : List ℕ) where
   unfolding visitOne
   visit-past l = same (λ g tail h. pick-false _ _ (le-ltb v n l))
 
-  no-mark : (t : Bool) → (pick {X = ℕ} t 1 0 ≡ 0 → ⊥) → t ≡ true
+  -- what a mark says of the test that it stands for
+  no-mark : (t : Bool) → pick {X = ℕ} t 1 0 ≡ 0 → t ≡ false
   unfolding pick
-  no-mark true e = refl
-  no-mark false e = absurd (e refl)
+  no-mark true e = absurd (omega arith)
+  no-mark false e = refl
 
-  no-mark′ : (t : Bool) → pick {X = ℕ} t 1 0 ≡ 0 → t ≡ false
+  marked : (t : Bool) (m : ℕ) → (m ≡ 0 → ⊥) → m ≡ pick {X = ℕ} t 1 0 → (m ≡ 1) × (t ≡ true)
   unfolding pick
-  no-mark′ true e = absurd (omega arith)
-  no-mark′ false e = refl
-
-  marked : (t : Bool) (m : ℕ) → (m ≡ 0 → ⊥) → m ≡ pick {X = ℕ} t 1 0 → m ≡ 1
-  unfolding pick
-  marked true m ne e = e
+  marked true m ne e = (e, refl)
   marked false m ne e = absurd (ne e)
 
   pub visit-again : v < n → (getD words v 0 ≡ 0 → ⊥) → Gathering n count (v ∷ []) words words count
   unfolding visitOne
   visit-again l ne =
       same (λ g tail h. pick-true (pick (has v (g .seen)) g (record { seen = v ∷ g .seen; fresh = g .fresh ++ (v ∷ []) })) g (lt-ltb v n l)
-      ∙ pick-true g (record { seen = v ∷ g .seen; fresh = g .fresh ++ (v ∷ []) }) (no-mark (has v (g .seen)) (λ e. ne (h .marks v l ∙ e))))
+      ∙ pick-true g (record { seen = v ∷ g .seen; fresh = g .fresh ++ (v ∷ []) }) (marked (has v (g .seen)) (getD words v 0) ne (h .marks v l) .1))
 
   unseen : (g : Fresh) (tail : List ℕ) → v < n → getD words v 0 ≡ 0 → FreshIn n tail words count g → has v (g .seen) ≡ false
-  unseen g tail l z h = no-mark′ (has v (g .seen)) (sym (h .marks v l) ∙ z)
+  unseen g tail l z h = no-mark (has v (g .seen)) (sym (h .marks v l) ∙ z)
 
   out : (g : Fresh) (tail : List ℕ) → v < n → getD words v 0 ≡ 0 → FreshIn n tail words count g → In v (g .seen) → ⊥
   out g tail l z h m = subst T (unseen g tail l z h) (in-has m)
 
   below : (g : Fresh) (tail : List ℕ) → v < n → FreshIn n tail words count g → Below n (v ∷ g .seen)
-  below g tail l h x m = go (in-cons m)
-    where
-      go : (x ≡ v) ⊎ In x (g .seen) → x < n
-      go (inl e) = omega arith
-      go (inr i) = h .inside x i
+  below g tail l h x m = elim (in-cons m) [ inl e ↦ omega arith | inr i ↦ h .inside x i ]
 
   -- there is room: one more is seen at most n
   room : (g : Fresh) (tail : List ℕ) → v < n → getD words v 0 ≡ 0 → FreshIn n tail words count g → count < n
@@ -129,7 +121,7 @@ module _ (n count v : ℕ) (words : List ℕ) where
 
       mark : (w : ℕ) → w < n → getD (set words v 1) w 0 ≡ getD words w 0
       mark w k = elim (ℕ-discrete w v) [
-        | yes e ↦ ap (λ (y : ℕ). getD (set words v 1) y 0) e ∙ getD-set-same words v 1 0 (omega arith) ∙ sym (ap (λ (y : ℕ). getD words y 0) e ∙ marked (has v (g .seen)) (getD words v 0) ne (h .marks v l))
+        | yes e ↦ rw e (getD-set-same words v 1 0 (omega arith) ∙ sym (marked (has v (g .seen)) (getD words v 0) ne (h .marks v l) .0))
         | no e ↦ getD-set-other words v w 1 0 e
       ]
 
@@ -156,15 +148,9 @@ module _ (n count v : ℕ) (words : List ℕ) where
 
       marks′ : (w : ℕ) → w < n → getD (set (set words v 1) (n + count) v) w 0 ≡ pick (has w (v ∷ g .seen)) 1 0
       marks′ w k = getD-set-other (set words v 1) (n + count) w v 0 (λ e. omega arith) ∙ elim (ℕ-discrete w v) [
-        | yes e ↦ ap (λ (x : ℕ). getD (set words v 1) x 0) e ∙ getD-set-same words v 1 0 (omega arith) ∙ sym (pick-true 1 0 (known w e))
-        | no e ↦ getD-set-other words v w 1 0 e ∙ h .marks w k ∙ ap (λ (t : Bool). pick {X = ℕ} t 1 0) (sym (other w e))
+        | yes e ↦ ap (λ (x : ℕ). getD (set words v 1) x 0) e ∙ getD-set-same words v 1 0 (omega arith) ∙ sym (pick-true 1 0 (first-has w v (g .seen) e))
+        | no e ↦ getD-set-other words v w 1 0 e ∙ h .marks w k ∙ ap (λ (t : Bool). pick {X = ℕ} t 1 0) (sym (other-has w v (g .seen) e))
       ]
-        where
-          known : (w : ℕ) → w ≡ v → has w (v ∷ g .seen) ≡ true
-          known w e = first-has w v (g .seen) e
-
-          other : (w : ℕ) → (w ≡ v → ⊥) → has w (v ∷ g .seen) ≡ has w (g .seen)
-          other w e = other-has w v (g .seen) e
 
       buffer′ : take (count + 1) (drop n (set (set words v 1) (n + count) v)) ≡ g .fresh ++ (v ∷ [])
       buffer′ =
@@ -176,12 +162,11 @@ module _ (n count v : ℕ) (words : List ℕ) where
   -- marked and put behind the fresh ones, and one of them if the mark was 0
   pub visit-here : freshEnd n ≤ length words → v < n → count < n → Gathering n count (v ∷ []) words (set (set words v 1) (n + count) v) (count + boolByte (eqb (getD words v 0) 0))
   visit-here long l few = elim (ℕ-discrete (getD words v 0) 0) [
-    | yes z ↦ subst (λ (b : Bool). Gathering n count (v ∷ []) words (set (set words v 1) (n + count) v) (count + boolByte b)) (sym (eq-eqb (getD words v 0) 0 z)) (visit-new long l z)
-    | no z ↦ subst (λ (b : Bool). Gathering n count (v ∷ []) words (set (set words v 1) (n + count) v) (count + boolByte b)) (sym (ne-eqb (getD words v 0) 0 z)) (subst (Gathering n count (v ∷ []) words (set (set words v 1) (n + count) v)) none (visit-old long l few z))
+    | yes z ↦ rw (eq-eqb (getD words v 0) 0 z) (visit-new long l z)
+    | no z ↦
+        let none : count ≡ count + boolByte false = omega arith in
+        rw (ne-eqb (getD words v 0) 0 z) (subst (Gathering n count (v ∷ []) words (set (set words v 1) (n + count) v)) none (visit-old long l few z))
   ]
-    where
-      none : count ≡ count + boolByte false
-      none = omega arith
 
 -- ---- loops
 

@@ -22,12 +22,6 @@ visit-requires c κs = let l = c .before .before .before .loop in omega (arith, 
 loop-again : tie.Need-loop-again Inv-loop μ-loop
 loop-again c = let l = c .before .before .before .before .before .before .loop in let v = c .before .before .visit in passed-more (l .inv) (c .before .before .before .before .before .loop-test .taken) (v .kept .0) (v .ensures)
 
-same-length : tie.Need-same-length Inv-loop μ-loop
-same-length c = c .before .loop .inv .kept
-
-returns : tie.Need-returns Inv-loop μ-loop
-returns c = let l = c .before .loop in passed-all (l .inv) (c .loop-test .left)
-
 pub visit-all-spec : {M : Type 1} → statement M
 visit-all-spec =
     tie.close
@@ -36,4 +30,5 @@ visit-all-spec =
     -- visit
     (λ c. search needs) (λ c. search needs) visit-requires
     -- i, the loop measure
-    (λ c. search needs) (λ c. search needs) loop-again same-length returns)
+    (λ c. search needs) (λ c. search needs) loop-again (λ c. c .before .loop .inv .kept)
+    (λ c. let l = c .before .loop in passed-all (l .inv) (c .loop-test .left)))

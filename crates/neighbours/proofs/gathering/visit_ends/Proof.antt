@@ -42,9 +42,6 @@ loop-again c =
     followed-more (a .n) (a .bridges .now) (a .links .now) (l .inv) (c .next-link .result) (at-other-end .other-end .result .0) (v .result) (v .last .0) (at-loop-test .loop-test .taken) (c .next-link .ensures)
     (at-other-end .other-end .ensures) (v .kept .0) (v .ensures)
 
-same-length : tie.Need-same-length Inv-loop μ-loop
-same-length c = c .before .loop .inv .kept
-
 returns : tie.Need-returns Inv-loop μ-loop
 returns c =
     let l = c .before .loop in
@@ -61,4 +58,4 @@ visit-ends-spec =
     -- other_end
     (λ c κs. search needs) visit-requires
     -- next_link
-    (λ c κs. search needs) loop-less loop-again same-length returns)
+    (λ c κs. search needs) loop-less loop-again (λ c. c .before .loop .inv .kept) returns)

@@ -10,7 +10,11 @@ use Rattle.neighbours.proofs.scoring.place_eight.Statement.{statement}
 use Rattle.neighbours.proofs.scoring.place_eight.Tie as tie
 
 abbrev start : tie.After-place-arg8 → tie.Start
-start c = c .before .before .before .before .before .before .before .before .before .before .before .before .before .before .before .before .before .before .before .before .before .before .before .before .before .before .before .before .before .before .before .before .before .before .before .before .before .before
+start c =
+    let sixth = c .before .before .before .before .before .before .before .before in
+    let fourth = sixth .before .before .before .before .before .before .before .before .before .before in
+    let second = fourth .before .before .before .before .before .before .before .before .before .before in
+    second .before .before .before .before .before .before .before .before .before .before
 
 last-fits : (c : tie.After-place-arg8) → (start c .args .at + 7) * 4 < 18446744073709551616
 last-fits c = omega (arith, start c .pre, start c .good .1 .0 .1)
@@ -26,7 +30,7 @@ returns c =
     let at-place3 = at-place4 .before .before .before .before .before in
     let at-place2 = at-place3 .before .before .before .before .before in
     let at-place = at-place2 .before .before .before .before .before in
-    let a = start (back) .args in
+    let a = start back .args in
     at-place8 .place8 .ensures
     ∙ ap (λ (l : List Float). set l (getD (a .nodes .now) (a .at + 7) 0) (a .distances .h)) (at-place7 .place7 .ensures
     ∙ ap (λ (l : List Float). set l (getD (a .nodes .now) (a .at + 6) 0) (a .distances .g)) (at-place6 .place6 .ensures

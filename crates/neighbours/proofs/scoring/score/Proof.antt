@@ -17,9 +17,6 @@ Inv-loop floats₀ query vectors dimension nodes i₀ floats i = (i ≤ length n
 abbrev μ-loop : tie.MeasureT-loop
 μ-loop floats₀ query vectors dimension nodes i₀ floats i = length nodes - i
 
-loop-holds : tie.Need-loop-holds Inv-loop μ-loop
-loop-holds c = (omega arith, refl, refl)
-
 loop-again : tie.Need-loop-again Inv-loop μ-loop
 loop-again c =
     let a = (c .before .before .before .before .before .before .before .before .before .before) .args in
@@ -27,18 +24,13 @@ loop-again c =
     let s = c .before .before .score-eight in
     (omega (arith, c .before .before .before .before .loop-test .taken), s .kept .0 ∙ l .inv .1, eight-step (farFrom (a .query .now) (vectorsIn (a .dimension) (a .vectors .now))) (a .nodes .now) (l .i) (l .floats) (s .last .0) (s .ensures) ∙ l .inv .2)
 
-same-length : tie.Need-same-length Inv-loop μ-loop
-same-length c = c .before .before .score-rest .kept .0 ∙ c .before .before .before .before .before .loop .inv .1
-
-returns : tie.Need-returns Inv-loop μ-loop
-returns c = c .before .before .score-rest .ensures ∙ c .before .before .before .before .before .loop .inv .2
-
 pub score-spec : {M : Type 1} → statement M
 score-spec =
     tie.close
     (tie.spec
-    Inv-loop μ-loop loop-holds
+    Inv-loop μ-loop (λ c. (omega arith, refl, refl))
     -- loop, score_eight, i, the loop measure
     (λ c. search needs) (λ c κs. search needs) (λ c. search needs) (λ c. search needs) loop-again
     -- score_rest
-    (λ c κs. search needs) same-length returns)
+    (λ c κs. search needs) (λ c. c .before .before .score-rest .kept .0 ∙ c .before .before .before .before .before .loop .inv .1)
+    (λ c. c .before .before .score-rest .ensures ∙ c .before .before .before .before .before .loop .inv .2))

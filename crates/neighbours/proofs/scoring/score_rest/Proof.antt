@@ -16,9 +16,6 @@ Inv-loop floats₀ query vectors dimension nodes from i₀ floats i = (length fl
 abbrev μ-loop : tie.MeasureT-loop
 μ-loop floats₀ query vectors dimension nodes from i₀ floats i = length nodes - i
 
-loop-holds : tie.Need-loop-holds Inv-loop μ-loop
-loop-holds c = (refl, refl)
-
 loop-again : tie.Need-loop-again Inv-loop μ-loop
 loop-again c =
     let at-score-one = c .before .before in
@@ -32,9 +29,6 @@ loop-again c =
       ap (scoredAt (farFrom (a .query .now) (vectorsIn (a .dimension) (a .vectors .now))) (drop (l .i + 1) (a .nodes .now))) (s .ensures) ∙ scored-step (farFrom (a .query .now) (vectorsIn (a .dimension) (a .vectors .now))) (a .nodes .now) (l .i) (l .floats) (at-loop-test .loop-test .taken) ∙ l .inv .1,
     )
 
-same-length : tie.Need-same-length Inv-loop μ-loop
-same-length c = c .before .loop .inv .0
-
 returns : tie.Need-returns Inv-loop μ-loop
 returns c =
     let a = (c .before .before .before .before .before .before) .args in
@@ -45,6 +39,7 @@ pub score-rest-spec : {M : Type 1} → statement M
 score-rest-spec =
     tie.close
     (tie.spec
-    Inv-loop μ-loop loop-holds
+    Inv-loop μ-loop (λ c. (refl, refl))
     -- score_one, i, the loop measure
-    (λ c. search needs) (λ c. search needs) (λ c κs. search needs) (λ c. search needs) (λ c. search needs) loop-again same-length returns)
+    (λ c. search needs) (λ c. search needs) (λ c κs. search needs) (λ c. search needs) (λ c. search needs) loop-again (λ c. c .before .loop .inv .0)
+    returns)
