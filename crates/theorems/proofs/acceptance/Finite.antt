@@ -88,18 +88,17 @@ Unsigned nan = ⊥
 Unsigned (inf s) = s ≡ false
 Unsigned (fin s m e) = s ≡ false
 
+odd-unsigned : (d q k l : ℕ) → Unsigned (odd d false q k l)
+unfolding odd
+odd-unsigned d zero k l = refl
+odd-unsigned d (suc q) k l = refl
+
 units-unsigned : (f : Format) (q k : ℕ) → Unsigned (units f false q k)
-unfolding units odd
-units-unsigned f zero k = go (ltb (0 * 2 ^ k) (2 ^ (low f + suc (emax f))))
-  where
-    go : (b : Bool) → Unsigned (cond b (odd (suc (prec f)) false 0 k (low f)) (inf false))
-    go true = refl
-    go false = refl
-units-unsigned f (suc q) k = go (ltb (suc q * 2 ^ k) (2 ^ (low f + suc (emax f))))
-  where
-    go : (b : Bool) → Unsigned (cond b (odd (suc (prec f)) false (suc q) k (low f)) (inf false))
-    go true = refl
-    go false = refl
+unfolding units
+units-unsigned f q k = elim (ltb (q * 2 ^ k) (2 ^ (low f + suc (emax f)))) as (λ b. Unsigned (cond b (odd (suc (prec f)) false q k (low f)) (inf false))) [
+  | true ↦ odd-unsigned (suc (prec f)) q k (low f)
+  | false ↦ refl
+]
 
 round-unsigned : (f : Format) (a c : ℕ) → Unsigned (round f false a c)
 round-unsigned f a c = subst Unsigned (sym (round-is f false a c)) (units-unsigned f _ _)
@@ -168,11 +167,10 @@ unbounded-square s m e h =
 bounded-or : (x : Float) → finite x ≡ true → Bounded x ⊎ (mul binary32 x x ≡ inf false)
 bounded-or nan h = absurd (subst T (sym h) tt)
 bounded-or (inf s) h = absurd (subst T (sym h) tt)
-bounded-or (fin s m e) h = either (decLe (m * up e) (2 ^ 64 * down e))
-  where
-    either : Dec (m * up e ≤ 2 ^ 64 * down e) → Bounded (fin s m e) ⊎ (mul binary32 (fin s m e) (fin s m e) ≡ inf false)
-    either (yes l) = inl l
-    either (no l) = inr (unbounded-square s m e (le-of-lt (lt-of-not-le l)))
+bounded-or (fin s m e) h = elim (decLe (m * up e) (2 ^ 64 * down e)) [
+  | yes l ↦ inl l
+  | no l ↦ inr (unbounded-square s m e (le-of-lt (lt-of-not-le l)))
+]
 
 all-bounded : (v : List Float) → every finite v ≡ true → (a : Float) → Unsigned a → (sumFrom binary32 a (products binary32 v v) ≡ inf false → ⊥) → AllBounded v
 unfolding every sumFrom products
@@ -258,10 +256,7 @@ quotients : (v : List Float) (q : Float) → every finite v ≡ true → Unsigne
     → every finite (map (λ (x : Float). div binary32 x (rootOf binary32 q)) v) ≡ true
 quotients v (inf true) h u b k = absurd (subst T u tt)
 quotients v (inf false) h u b k = subst (λ (l : Float). every finite (map (λ (x : Float). div binary32 x l) v) ≡ true) (sym root-infinite) (all-by-infinity v false h)
-quotients v (fin s m e) h u b k = all-divided v (rootOf binary32 (fin s m e)) h (b (λ p. number p)) k
-  where
-    number : fin s m e ≡ inf false → ⊥
-    number p = subst (λ (x : Float). T (finite x)) p tt
+quotients v (fin s m e) h u b k = all-divided v (rootOf binary32 (fin s m e)) h (b (λ p. subst (λ (x : Float). T (finite x)) p tt)) k
 
 pub scaled-finite : (v : List Float) → every finite v ≡ true → every finite (scaledOf binary32 v) ≡ true
 unfolding scaledOf lengthOf squaresOf

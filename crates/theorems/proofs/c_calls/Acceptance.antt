@@ -1,13 +1,13 @@
 -- C calls are accepted exactly if they are valid, over every list of them on stores of any first content. Each is judged as the call behind it;
 -- `pipnn_new` and recognising have one check more. Assumes nothing.
-use mathlib.Core.Path.{_≡_, refl, ap, ap₂, _∙_, subst}
-use mathlib.Core.Bool.{Bool, true, false, not, _&&_}
+use mathlib.Core.Path.{_≡_, ap, ap₂, _∙_, subst}
+use mathlib.Core.Bool.{Bool, false, not, _&&_}
 use mathlib.Core.List.{List, [], _∷_}
-use Prim.Native.Nat.{ℕ, _≤_}
+use Prim.Native.Nat.{ℕ}
 use native.Mathlib.Omega.{arith}
-use lib.Dec.{T, ltb}
+use lib.Dec.{T, ltb, nltb→le}
 use lib.Ieee.{Float}
-use borrow.Author.Tests.{le-ltb, ltb-false}
+use borrow.Author.Tests.{le-ltb}
 use Rattle.basics.specs.Choice.{pick-ind, pick-false}
 use Rattle.basics.specs.Sum.{+zero}
 use Rattle.params.specs.Limits.{dimensionWithin}
@@ -46,11 +46,7 @@ module _ (d : ℕ) (g : CParams) (t : Typed (paramsGiven g)) (c : ℕ) (past : P
   new-earned =
       pick-ind (λ (a : Answer). a .0 ≡ 0 → COpens d g c w f) (dimensionWithin d && ltb 1 (g .finalPrune)) (λ _ e. absurd (omega arith)) (λ passes e.
       let o : Opens d (paramsGiven g) c w f = judged .earned e in
-      record { opens = o; flag = few (ltb 1 (g .finalPrune)) refl (subst (λ (b : Bool). T (not (b && ltb 1 (g .finalPrune)))) (o .dimension-within) passes) })
-    where
-      few : (b : Bool) → ltb 1 (g .finalPrune) ≡ b → T (not b) → g .finalPrune ≤ 1
-      few false h n = ltb-false 1 (g .finalPrune) h
-      few true h n = absurd n
+      record { opens = o; flag = nltb→le 1 (g .finalPrune) (subst (λ (b : Bool). T (not (b && ltb 1 (g .finalPrune)))) (o .dimension-within) passes) })
 
 -- ---- recognising
 

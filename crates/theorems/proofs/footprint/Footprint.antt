@@ -178,6 +178,10 @@ module _ (w w′ : List ℕ) (f f′ : List Float) (a : Agree w w′ f f′) whe
 
 -- ---- `new`, on stores of any content
 
+-- a list whose front is written anew
+fronted : {A : Type 0} (n : ℕ) (p u : List A) → length p ≡ n → (n ≤ length (p ++ drop n u)) × (take n (p ++ drop n u) ≡ p)
+fronted n p u e = (omega (arith, length-append p (drop n u)), take-at p (drop n u) n e)
+
 module _ (w w′ : List ℕ) (f f′ : List Float) (dimension : ℕ) (p : PipnnParams) (capacity : ℕ) where
   abbrev Wₙ : ℕ
   Wₙ = wordsSize capacity (p .«max_degree»)
@@ -201,23 +205,17 @@ module _ (w w′ : List ℕ) (f f′ : List Float) (dimension : ℕ) (p : PipnnP
     written : Alike Wₙ Fₙ (newWords dimension p capacity w f) (newWords dimension p capacity w′ f′) (newFloats dimension p capacity w f) (newFloats dimension p capacity w′ f′)
     unfolding newFloats
     written = record {
-      words-reach = (long w f, long w′ f′);
-      floats-reach = (floats-long f, floats-long f′);
-      words = up-to w f ∙ sym (up-to w′ f′);
-      floats = floats-up-to f ∙ sym (floats-up-to f′);
+      words-reach = (word-front w f .0, word-front w′ f′ .0);
+      floats-reach = (float-front f .0, float-front f′ .0);
+      words = word-front w f .1 ∙ sym (word-front w′ f′ .1);
+      floats = float-front f .1 ∙ sym (float-front f′ .1);
     }
       where
-        long : (u : List ℕ) (g : List Float) → Wₙ ≤ length (newWords dimension p capacity u g)
-        long u g = omega (arith, front-length, length-append front (drop Wₙ u), ap length (words-are u g))
+        word-front : (u : List ℕ) (g : List Float) → (Wₙ ≤ length (newWords dimension p capacity u g)) × (take Wₙ (newWords dimension p capacity u g) ≡ front)
+        word-front u g = rw (words-are u g) (fronted Wₙ front u front-length)
 
-        up-to : (u : List ℕ) (g : List Float) → take Wₙ (newWords dimension p capacity u g) ≡ front
-        up-to u g = ap (take Wₙ) (words-are u g) ∙ take-at front (drop Wₙ u) Wₙ front-length
-
-        floats-long : (g : List Float) → Fₙ ≤ length (replicate Fₙ +zero ++ drop Fₙ g)
-        floats-long g = omega (arith, length-replicate Fₙ +zero, length-append (replicate Fₙ +zero) (drop Fₙ g))
-
-        floats-up-to : (g : List Float) → take Fₙ (replicate Fₙ +zero ++ drop Fₙ g) ≡ replicate Fₙ +zero
-        floats-up-to g = take-at (replicate Fₙ +zero) (drop Fₙ g) Fₙ (length-replicate Fₙ +zero)
+        float-front : (g : List Float) → (Fₙ ≤ length (replicate Fₙ +zero ++ drop Fₙ g)) × (take Fₙ (replicate Fₙ +zero ++ drop Fₙ g) ≡ replicate Fₙ +zero)
+        float-front g = fronted Fₙ (replicate Fₙ +zero) g (length-replicate Fₙ +zero)
 
     checks-same : newChecks dimension p capacity w f ≡ newChecks dimension p capacity w′ f′
     unfolding newChecks
@@ -225,32 +223,22 @@ module _ (w w′ : List ℕ) (f f′ : List Float) (dimension : ℕ) (p : PipnnP
 
     on-new : SameNew Wₙ Fₙ (newSpec dimension p capacity w f) (newSpec dimension p capacity w′ f′)
     unfolding newSpec unlessRefused
-    on-new = record {
-      number = number-is r w f x g ∙ ap firstRefusal checks-same ∙ sym (number-is r′ w′ f′ x′ g′);
-      stores = λ z.
-          let zero : r ≡ 0 = sym (number-is r w f x g) ∙ z in
-          let zero′ : r′ ≡ 0 = ap firstRefusal (sym checks-same) ∙ zero in
-          subst (λ (b : Answer). Alike Wₙ Fₙ (b .1) (newSpec dimension p capacity w′ f′ .1) (b .2) (newSpec dimension p capacity w′ f′ .2)) (changed r w f x g zero)
-          (subst (λ (b : Answer). Alike Wₙ Fₙ x (b .1) g (b .2)) (changed r′ w′ f′ x′ g′ zero′) written);
-    }
-      where
-        r : ℕ
-        r = firstRefusal (newChecks dimension p capacity w f)
-
-        r′ : ℕ
-        r′ = firstRefusal (newChecks dimension p capacity w′ f′)
-
-        x : List ℕ
-        x = newWords dimension p capacity w f
-
-        x′ : List ℕ
-        x′ = newWords dimension p capacity w′ f′
-
-        g : List Float
-        g = newFloats dimension p capacity w f
-
-        g′ : List Float
-        g′ = newFloats dimension p capacity w′ f′
+    on-new =
+        let r = firstRefusal (newChecks dimension p capacity w f) in
+        let r′ = firstRefusal (newChecks dimension p capacity w′ f′) in
+        let x = newWords dimension p capacity w f in
+        let x′ = newWords dimension p capacity w′ f′ in
+        let g = newFloats dimension p capacity w f in
+        let g′ = newFloats dimension p capacity w′ f′ in
+        record {
+          number = number-is r w f x g ∙ ap firstRefusal checks-same ∙ sym (number-is r′ w′ f′ x′ g′);
+          stores = λ z.
+              let zero : r ≡ 0 = sym (number-is r w f x g) ∙ z in
+              let zero′ : r′ ≡ 0 = ap firstRefusal (sym checks-same) ∙ zero in
+              subst (λ (b : Answer). Alike Wₙ Fₙ (b .1) (newSpec dimension p capacity w′ f′ .1) (b .2) (newSpec dimension p capacity w′ f′ .2))
+              (changed r w f x g zero)
+              (subst (λ (b : Answer). Alike Wₙ Fₙ x (b .1) g (b .2)) (changed r′ w′ f′ x′ g′ zero′) written);
+        }
 
     -- behind C: 2 for a final_prune that is neither 0 nor 1, and the stores are as they were
     on-new-from : (finalPrune : ℕ) → SameNew Wₙ Fₙ (newFrom dimension finalPrune p capacity w f) (newFrom dimension finalPrune p capacity w′ f′)

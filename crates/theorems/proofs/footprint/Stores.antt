@@ -76,51 +76,45 @@ module _ {w w′ : List ℕ} (h : Words w w′) where
 -- ---- what lies within the sizes, for a header that is well formed
 
 module _ {w w′ : List ℕ} {f f′ : List Float} (h : Words w w′) (ok : headerOk w ≡ true) (a : AlikeIn w w w′ f f′) where
-  C : ℕ
+  abbrev C : ℕ
   C = word w capacityAt
 
-  D : ℕ
+  abbrev D : ℕ
   D = word w degreeAt
 
-  d : ℕ
+  abbrev d : ℕ
   d = word w dimensionAt
 
-  n : ℕ
+  abbrev n : ℕ
   n = word w nodesAt
 
   head : Header w
   head = header w ok
 
   rows-within : rowsAt C + n * rowSize D ≤ wordsIn w
-  unfolding C D n
   rows-within = omega (arith, head .nodes, product-le n D C D (head .nodes) (omega arith))
 
   bridges-within : bridgesAt C D + word w bridgeCountAt * bridgeSize ≤ wordsIn w
-  unfolding C D n
   bridges-within = omega (arith, head .nodes, head .bridges)
 
   vectors-within : n * d ≤ floatsIn w
-  unfolding C d n
   vectors-within = omega (arith, product-le n d C d (head .nodes) (omega arith))
 
   pub docs-same : take (word w nodesAt) (drop docsAt w) ≡ take (word w′ nodesAt) (drop docsAt w′)
-  unfolding C D n
   docs-same = same-part w w′ (wordsIn w) (a .words) docsAt n (omega (arith, head .nodes)) ∙ ap (λ (k : ℕ). take k (drop docsAt w′)) (h .w2)
 
   pub rows-same : rowWords w ≡ rowWords w′
-  unfolding rowWords C D n
+  unfolding rowWords
   rows-same = same-pieces w w′ (wordsIn w) (a .words) (rowSize D) n (rowsAt C) rows-within ∙ cc
 
   pub bridges-same : bridgeWords w ≡ bridgeWords w′
-  unfolding bridgeWords C D
+  unfolding bridgeWords
   bridges-same = same-pieces w w′ (wordsIn w) (a .words) bridgeSize (word w bridgeCountAt) (bridgesAt C D) bridges-within ∙ cc
 
   pub vectors-same : pieces (word w dimensionAt) (word w nodesAt) f ≡ pieces (word w′ dimensionAt) (word w′ nodesAt) f′
-  unfolding C d n
   vectors-same = same-pieces f f′ (floatsIn w) (a .floats) d n 0 (omega (arith, vectors-within)) ∙ cc
 
   floats-same : take (word w nodesAt * word w dimensionAt) f ≡ take (word w′ nodesAt * word w′ dimensionAt) f′
-  unfolding C d n
   floats-same = same-front f f′ (floatsIn w) (a .floats) (n * d) vectors-within ∙ cc
 
   pub view-same : view w f ≡ view w′ f′

@@ -1,7 +1,7 @@
 -- What a call writes over two stores that agree up to a size agrees up to that size: elements laid over others, and an element set. Assumes nothing.
 use mathlib.Core.Path.{_≡_, sym, ap, ap₂, _∙_}
 use mathlib.Core.List.{List, _++_}
-use Prim.Native.Nat.{ℕ, _+_, _-_, _≤_, _<_}
+use Prim.Native.Nat.{ℕ, _+_, _-_, _≤_}
 use native.Mathlib.Nat.{lt-of-not-le, le-of-lt}
 use native.Mathlib.Decide.{decLe}
 use native.Mathlib.Omega.{arith}
@@ -47,14 +47,12 @@ module _ {A : Type 0} (at : ℕ) (xs : List A) where
       behind : Dec (B - at ≤ length xs) → take (B - at) (xs ++ drop (at + length xs) u) ≡ take (B - at) (xs ++ drop (at + length xs) v)
       behind (yes g) = take-append-le (B - at) xs (drop (at + length xs) u) g ∙ sym (take-append-le (B - at) xs (drop (at + length xs) v) g)
       behind (no g) =
-          ap (λ (j : ℕ). take j (xs ++ drop (at + length xs) u)) (parted (lt-of-not-le g))
+          let parted : B - at ≡ length xs + (B - at - length xs) = omega (arith, lt-of-not-le g) in
+          ap (λ (j : ℕ). take j (xs ++ drop (at + length xs) u)) parted
           ∙ take-append-add xs (drop (at + length xs) u) (B - at - length xs)
           ∙ ap (λ (y : List A). xs ++ y) (same-part u v B e (at + length xs) (B - at - length xs) (omega arith))
           ∙ sym (take-append-add xs (drop (at + length xs) v) (B - at - length xs))
-          ∙ ap (λ (j : ℕ). take j (xs ++ drop (at + length xs) v)) (sym (parted (lt-of-not-le g)))
-        where
-          parted : length xs < B - at → B - at ≡ length xs + (B - at - length xs)
-          parted l = omega arith
+          ∙ ap (λ (j : ℕ). take j (xs ++ drop (at + length xs) v)) (sym parted)
 
 set-same : {A : Type 0} (B i : ℕ) (a : A) (u v : List A) → take B u ≡ take B v → take B (set u i a) ≡ take B (set v i a)
 set-same B i a u v e = elim (decLe B i) [

@@ -116,9 +116,7 @@ add-made doc v (opened x) w f m e =
     let docs : docsOf (withNode doc v x) ≡ docsOf x ++ (doc ∷ []) = map-append (λ (b : Added). b .doc) (x .nodes) (a ∷ []) in
     let vectors : vectorsOf (withNode doc v x) ≡ vectorsOf x ++ (scaledOf binary32 v ∷ []) =
     map-append (λ (b : Added). scaledOf binary32 (b .vector)) (x .nodes) (a ∷ []) in
-    subst (λ (l : List ℕ). OpenStore (x .dimension) (x .params) (x .capacity) l (vectorsOf (withNode doc v x)) (addedWords w doc) (addedFloats w f v)) (sym docs)
-    (subst (λ (l : List (List Float)). OpenStore (x .dimension) (x .params) (x .capacity) (docsOf x ++ (doc ∷ [])) l (addedWords w doc) (addedFloats w f v)) (sym vectors)
-    (add-open (x .dimension) (x .params) (x .capacity) (docsOf x) (vectorsOf x) w f doc v (add-taken w f v e) m))
+    rw (docs, vectors) (add-open (x .dimension) (x .params) (x .capacity) (docsOf x) (vectorsOf x) w f doc v (add-taken w f v e) m)
 add-made doc v (built x) w f m e = absurd (add-taken w f v e .state (built-state x w f m))
 
 -- ---- build
@@ -135,18 +133,7 @@ open-state x w f o = ap (λ (v : View). v .state) (o .is)
 build-open : (ws fs : ℕ) (x : Index) (w : List ℕ) (f : List Float) → Made (opened x) w f → BuildTaken ws fs w f
     → BuiltStore x (builtWords (graphFor (view w f)) w) f
 build-open ws fs x w f o t = record {
-  is = build-view ws fs w f t ∙ ap (λ (v : View). viewWith (graphFor v) v) (o .is) ∙ (λ i. record {
-    params = x .params;
-    dimension = x .dimension;
-    capacity = x .capacity;
-    state = builtState;
-    n = many-docs x i;
-    entry = graphOf (settings x) (vectorsOf x) .entry;
-    docs = docsOf x;
-    rows = graphOf (settings x) (vectorsOf x) .rows;
-    bridges = graphOf (settings x) (vectorsOf x) .bridges;
-    vectors = vectorsOf x;
-  });
+  is = build-view ws fs w f t ∙ ap (λ (v : View). viewWith (graphFor v) v) (o .is) ∙ rw (many-docs x);
   some = omega (arith, t .some, open-nodes x w f o);
 }
 
