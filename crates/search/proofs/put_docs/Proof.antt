@@ -28,9 +28,6 @@ Inv-loop words nodes docs₀ count i₀ docs i = (i ≤ count) × (length docs �
 abbrev μ-loop : tie.MeasureT-loop
 μ-loop words nodes docs₀ count i₀ docs i = count - i
 
-loop-holds : tie.Need-loop-holds Inv-loop μ-loop
-loop-holds c = (omega arith, refl, refl)
-
 loop-again : tie.Need-loop-again Inv-loop μ-loop
 loop-again c =
     let l = c .before .before .before .loop in
@@ -54,7 +51,7 @@ pub put-docs-spec : {M : Type 1} → statement M
 put-docs-spec =
     tie.close
     (tie.spec
-    Inv-loop μ-loop loop-holds
+    Inv-loop μ-loop (λ c. (omega arith, refl, refl))
     -- doc_of, docs, i, the loop measure
     (λ c. search needs) (λ c. search needs) (λ c κs. search needs) (λ c. search needs) (λ c. search needs) (λ c. search needs) (λ c. search needs)
     loop-again
