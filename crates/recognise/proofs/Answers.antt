@@ -3,7 +3,8 @@
 use mathlib.Core.Path.{_≡_, refl, sym, ap, ap₂, _∙_}
 use mathlib.Core.Bool.{Bool, false, true, not, _||_}
 use mathlib.Core.List.{List, [], _∷_, _++_, map, append-assoc}
-use Prim.Native.Nat.{ℕ, zero, suc, min}
+use Prim.Native.Nat.{ℕ, min}
+use native.Mathlib.Decide.{ℕ-discrete}
 use native.Mathlib.Omega.{arith}
 use lib.Dec.{eqb, ltb, eqb→eq}
 use lib.ListN.{length, getD, drop}
@@ -83,11 +84,7 @@ module _ (ws fs : ℕ) (w : List ℕ) (f query : List Float) (ef : ℕ) (limit :
 
   -- a call that is accepted was asked for nothing wrong, with a limit that is finite
   asked-accepted : refusal ≡ 0 → firstRefusal asked ≡ 0
-  asked-accepted e = go (firstRefusal asked) refl
-    where
-      go : (n : ℕ) → firstRefusal asked ≡ n → firstRefusal asked ≡ 0
-      go zero h = h
-      go (suc n) h = absurd (omega (arith, asked-first (λ z. omega arith)))
+  asked-accepted e = elim (ℕ-discrete (firstRefusal asked) 0) [ yes h ↦ h | no h ↦ absurd (h (sym (asked-first h) ∙ e)) ]
 
   pub limit-accepted : refusal ≡ 0 → finite limit ≡ true
   limit-accepted e = go (finite limit) refl

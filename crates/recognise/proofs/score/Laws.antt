@@ -21,10 +21,7 @@ min-under a b h = omega arith
 
 -- (100 w − a) / w is at most 100
 capped : (a w : ℕ) → 0 < w → (100 * w - a) / w ≤ 100
-capped a w p = div-le-of-le-mul w (under a w)
-  where
-    under : (a w : ℕ) → 100 * w - a ≤ w * 100
-    under a w = omega arith
+capped a w p = div-le-of-le-mul w (omega arith)
 
 cross : (D M w u : ℕ) → M * w ≡ u * D → (100 * D - 100 * M) * w ≡ (100 * w - 100 * u) * D
 cross D M w u e =
@@ -83,17 +80,11 @@ score-inside x u w h l v = score-at x u w (omega arith) v ∙ ceil (100 * u) w (
 
 -- below a hundredth
 pub score-near : (x : Float) (u w : ℕ) → 0 < u → 100 * u ≤ w → HasValue x false u w → scoreOf x ≡ 99
-score-near x u w h l v = score-inside x u w h (omega arith) v ∙ ap (λ (n : ℕ). 99 - n) (div-eq-of-lt (less u w h l))
-  where
-    less : (u w : ℕ) → 0 < u → 100 * u ≤ w → 100 * u - 1 < w
-    less u w h l = omega arith
+score-near x u w h l v = score-inside x u w h (omega arith) v ∙ ap (λ (n : ℕ). 99 - n) (div-eq-of-lt (omega arith))
 
 -- from 1 up
 pub score-far : (x : Float) (u w : ℕ) → 0 < w → w ≤ u → HasValue x false u w → scoreOf x ≡ 0
-score-far x u w p l v = score-at x u w p v ∙ ap (λ (n : ℕ). n / w) (gone w u l) ∙ zero-div w
-  where
-    gone : (w u : ℕ) → w ≤ u → 100 * w - 100 * u ≡ 0
-    gone w u l = omega arith
+score-far x u w p l v = let gone : 100 * w - 100 * u ≡ 0 = omega arith in score-at x u w p v ∙ ap (λ (n : ℕ). n / w) gone ∙ zero-div w
 
 -- not above zero, and a number
 pub score-whole : (x : Float) → lt (fin false 0 (pos 0)) x ≡ false → ne x x ≡ false → scoreOf x ≡ 100

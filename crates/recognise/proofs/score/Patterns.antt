@@ -1,7 +1,7 @@
 -- What `score_bits` computes is the score, at binary32: how many units a pattern is, against the 2^149 of 1. Assumes nothing.
 use mathlib.Core.Path.{_≡_, sym, ap, _∙_, subst}
 use mathlib.Core.Bool.{true, false}
-use mathlib.Core.Logic.{_⊎_, inl, inr}
+use mathlib.Core.Logic.{inl, inr}
 use Prim.Native.Nat.{ℕ, _+_, _-_, _*_, _/_, _%_, _^_, _≤_, _<_}
 use native.Mathlib.Nat.{le-of-lt, le-trans, lt-of-not-le, mul-le-mul, mul-le-mul-left, mul-pos, mod-lt, eq-zero-or-pos}
 use native.Mathlib.Decide.{decLe}
@@ -23,44 +23,28 @@ some-field : (b : ℕ) → 0 < b / 2 ^ 23 → b / 2 ^ 23 ≡ 0 → ⊥
 some-field b h e = omega arith
 
 units-pos : (b : ℕ) → 0 < b → 0 < patternUnits b
-units-pos b p = either (eq-zero-or-pos (b / 2 ^ 23))
-  where
-    low : (b : ℕ) → 0 < b → b / 2 ^ 23 ≡ 0 → 0 < b % 2 ^ 23
-    low b p e = omega arith
-
-    more : (t : ℕ) → 0 < 2 ^ 23 + t
-    more t = omega arith
-
-    either : (b / 2 ^ 23 ≡ 0) ⊎ (0 < b / 2 ^ 23) → 0 < patternUnits b
-    either (inl e) = rw (units-low b e) (low b p e)
-    either (inr l) = rw (units-normal b (some-field b l)) (mul-pos (more (b % 2 ^ 23)) (pow-pos (b / 2 ^ 23 - 1)))
+units-pos b p = elim (eq-zero-or-pos (b / 2 ^ 23)) [
+  | inl e ↦ (let low : 0 < b % 2 ^ 23 = omega arith in rw (units-low b e) low)
+  | inr l ↦ (let more : 0 < 2 ^ 23 + b % 2 ^ 23 = omega arith in rw (units-normal b (some-field b l)) (mul-pos more (pow-pos (b / 2 ^ 23 - 1))))
+]
 
 -- below the pattern of 1/128
 units-small : (b : ℕ) → b < 0x3c00_0000 → patternUnits b ≤ 2 ^ 142
-units-small b h = either (eq-zero-or-pos (b / 2 ^ 23))
-  where
-    up-to : (b : ℕ) → b < 0x3c00_0000 → b / 2 ^ 23 - 1 ≤ 118
-    up-to b h = omega arith
-
-    digits : (b : ℕ) → 2 ^ 23 + b % 2 ^ 23 ≤ 2 ^ 24
-    digits b = omega arith
-
-    either : (b / 2 ^ 23 ≡ 0) ⊎ (0 < b / 2 ^ 23) → patternUnits b ≤ 2 ^ 142
-    either (inl e) = rw (units-low b e) (le-trans (le-of-lt (mod-lt b (pow-pos 23))) (pow-mono {i = 23} {j = 142} (lit≤ tt)))
-    either (inr l) = rw (units-normal b (some-field b l)) (le-trans (mul-le-mul {n₁ = 2 ^ 23 + b % 2 ^ 23} (digits b) (pow-mono (up-to b h))) (lit≤ tt))
+units-small b h = elim (eq-zero-or-pos (b / 2 ^ 23)) [
+  | inl e ↦ rw (units-low b e) (le-trans (le-of-lt (mod-lt b (pow-pos 23))) (pow-mono {i = 23} {j = 142} (lit≤ tt)))
+  | inr l ↦
+      let up-to : b / 2 ^ 23 - 1 ≤ 118 = omega arith in
+      let digits : 2 ^ 23 + b % 2 ^ 23 ≤ 2 ^ 24 = omega arith in
+      rw (units-normal b (some-field b l)) (le-trans (mul-le-mul {n₁ = 2 ^ 23 + b % 2 ^ 23} digits (pow-mono up-to)) (lit≤ tt))
+]
 
 -- from the pattern of 1 on
 units-large : (b : ℕ) → 0x3f80_0000 ≤ b → 2 ^ 149 ≤ patternUnits b
-units-large b h = rw (units-normal b (some-field b (field b h))) (mul-le-mul {n₁ = 2 ^ 23} (more b) (pow-mono {i = 126} (far b h)))
-  where
-    field : (b : ℕ) → 0x3f80_0000 ≤ b → 0 < b / 2 ^ 23
-    field b h = omega arith
-
-    more : (b : ℕ) → 2 ^ 23 ≤ 2 ^ 23 + b % 2 ^ 23
-    more b = omega arith
-
-    far : (b : ℕ) → 0x3f80_0000 ≤ b → 126 ≤ b / 2 ^ 23 - 1
-    far b h = omega arith
+units-large b h =
+    let field : 0 < b / 2 ^ 23 = omega arith in
+    let more : 2 ^ 23 ≤ 2 ^ 23 + b % 2 ^ 23 = omega arith in
+    let far : 126 ≤ b / 2 ^ 23 - 1 = omega arith in
+    rw (units-normal b (some-field b field)) (mul-le-mul {n₁ = 2 ^ 23} more (pow-mono {i = 126} far))
 
 -- ---- the score of a pattern
 
@@ -71,47 +55,29 @@ near-pattern b p h =
 -- from 1/128 up to 1: q / 2^s
 pub inside-pattern : (b : ℕ) → 0x3c00_0000 ≤ b → b < 0x3f80_0000
     → scoreOf (ofBits binary32 b) ≡ 99 - (100 * (2 ^ 23 + b % 2 ^ 23) - 1) / 2 ^ (150 - b / 2 ^ 23)
-inside-pattern b l h = score-inside (ofBits binary32 b) q (2 ^ s) (some b) (le-trans (digits b) (pow-mono {i = 24} {j = s} (far b h))) (shortened (ofBits binary32 b) q (2 ^ s) (2 ^ k) (pow-pos k) value)
-  where
-    q : ℕ
-    q = 2 ^ 23 + b % 2 ^ 23
-
-    s : ℕ
-    s = 150 - b / 2 ^ 23
-
-    k : ℕ
-    k = b / 2 ^ 23 - 1
-
-    some : (b : ℕ) → 0 < 2 ^ 23 + b % 2 ^ 23
-    some b = omega arith
-
-    digits : (b : ℕ) → 2 ^ 23 + b % 2 ^ 23 ≤ 2 ^ 24
-    digits b = omega arith
-
-    far : (b : ℕ) → b < 0x3f80_0000 → 24 ≤ 150 - b / 2 ^ 23
-    far b h = omega arith
-
-    field : (b : ℕ) → 0x3c00_0000 ≤ b → 0 < b / 2 ^ 23
-    field b l = omega arith
-
-    together : (b : ℕ) → 0x3c00_0000 ≤ b → b < 0x3f80_0000 → 149 ≡ (150 - b / 2 ^ 23) + (b / 2 ^ 23 - 1)
-    together b l h = omega arith
-
-    value : HasValue (ofBits binary32 b) false (q * 2 ^ k) (2 ^ s * 2 ^ k)
-    value =
-        subst (λ (w : ℕ). HasValue (ofBits binary32 b) false (q * 2 ^ k) w) (ap (λ (n : ℕ). 2 ^ n) (together b l h) ∙ pow-add 2 s k)
-        (subst (λ (u : ℕ). HasValue (ofBits binary32 b) false u (2 ^ 149)) (units-normal b (some-field b (field b l))) (pattern-value b (omega arith)))
+inside-pattern b l h =
+    let field : 0 < b / 2 ^ 23 = omega arith in
+    let some : 0 < 2 ^ 23 + b % 2 ^ 23 = omega arith in
+    let digits : 2 ^ 23 + b % 2 ^ 23 ≤ 2 ^ 24 = omega arith in
+    let far : 24 ≤ 150 - b / 2 ^ 23 = omega arith in
+    let together : 149 ≡ (150 - b / 2 ^ 23) + (b / 2 ^ 23 - 1) = omega arith in
+    let of-pattern = pattern-value b (omega arith) in
+    let q : ℕ = 2 ^ 23 + b % 2 ^ 23 in
+    let s : ℕ = 150 - b / 2 ^ 23 in
+    let k : ℕ = b / 2 ^ 23 - 1 in
+    let value : HasValue (ofBits binary32 b) false (q * 2 ^ k) (2 ^ s * 2 ^ k) =
+    subst (λ (w : ℕ). HasValue (ofBits binary32 b) false (q * 2 ^ k) w) (ap (λ (n : ℕ). 2 ^ n) together ∙ pow-add 2 s k)
+    (subst (λ (u : ℕ). HasValue (ofBits binary32 b) false u (2 ^ 149)) (units-normal b (some-field b field)) of-pattern) in
+    score-inside (ofBits binary32 b) q (2 ^ s) some (le-trans digits (pow-mono {i = 24} {j = s} far))
+    (shortened (ofBits binary32 b) q (2 ^ s) (2 ^ k) (pow-pos k) value)
 
 -- a value above zero whose pattern is that of 1 or further on
 pub far-pattern : (x : Float) → T (fits binary32 x) → lt zero+ x ≡ true → 0x3f80_0000 ≤ toBits binary32 x → scoreOf x ≡ 0
-far-pattern x h p l = either (decLe 0x7f80_0000 b)
-  where
-    b : ℕ
-    b = toBits binary32 x
-
-    back : ofBits binary32 b ≡ x
-    back = ofBits-toBits binary32 x h
-
-    either : Dec (0x7f80_0000 ≤ b) → scoreOf x ≡ 0
-    either (yes t) = score-infinite x (sym back ∙ top-is b t (ap (lt zero+) back ∙ p))
-    either (no f) = ap scoreOf (sym back) ∙ score-far (ofBits binary32 b) (patternUnits b) (2 ^ 149) (pow-pos 149) (units-large b l) (pattern-value b (lt-of-not-le f))
+far-pattern x h p l =
+    let b : ℕ = toBits binary32 x in
+    let back : ofBits binary32 b ≡ x = ofBits-toBits binary32 x h in
+    elim (decLe 0x7f80_0000 b) [
+      | yes t ↦ score-infinite x (sym back ∙ top-is b t (ap (lt zero+) back ∙ p))
+      | no f ↦ ap scoreOf (sym back) ∙ score-far (ofBits binary32 b) (patternUnits b) (2 ^ 149) (pow-pos 149) (units-large b l)
+          (pattern-value b (lt-of-not-le f))
+    ]
