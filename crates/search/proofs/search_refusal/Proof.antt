@@ -79,7 +79,8 @@ returns-3 : tie.Need-returns-3
 unfolding ownSearchChecks
 returns-3 c =
     let first = c .before .before .before .before in
-    turned-at 1 (Own (start first)) (passed-1 (c .before .before)) (ap not (ne-eqb _ _ (λ e. c .if3 .taken (e ∙ sym (c .before .word-at2 .ensures))))) ∙ own first
+    turned-at 1 (Own (start first)) (passed-1 (c .before .before))
+    (ap not (ne-eqb _ _ (λ e. c .if3 .taken (e ∙ sym (c .before .word-at2 .ensures))))) ∙ own first
 
 returns-4 : tie.Need-returns-4
 unfolding ownSearchChecks
