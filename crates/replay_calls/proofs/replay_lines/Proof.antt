@@ -17,7 +17,8 @@ abbrev μ-loop : tie.MeasureT-loop
 
 loop-less : tie.Need-loop-less Inv-loop μ-loop
 loop-less c =
-    let read = c .before .before .before .before .before .before .before .before .before .before .before .before .before .before .before .before .before .before in
+    let replayed = c .before .before .before .before .before .before .before .before .before in
+    let read = replayed .before .before .before .before .before .before .before .before .before in
     let on = read .read-line .ensures .on (read .before .before .before .loop-test .taken) in
     omega arith
 

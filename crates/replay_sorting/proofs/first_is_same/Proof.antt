@@ -16,9 +16,6 @@ abbrev μ-loop : tie.MeasureT-loop
 μ-loop tokens asked keys₀ places₀ most n held₀ i₀ keys places held i =
     n - i
 
-slice-aggregate-keep-first : tie.Need-slice-aggregate-keep-first Inv-loop μ-loop
-slice-aggregate-keep-first c = sym (length-take-le _ _ (omega arith))
-
 pub first-is-same-spec : {M : Type 1} → statement M
 first-is-same-spec =
     tie.close
@@ -26,7 +23,7 @@ first-is-same-spec =
     Inv-loop μ-loop
     -- size, lesser, the return, the loop begins, float, key, slice-relend-prefix-keep-first
     (λ c κs. search needs) (λ c κs. search needs) (λ c κs. search needs) (λ c. search needs) (λ c. search needs) (λ c κs. search needs)
-    (λ c κs. search needs) (λ c. search needs) slice-aggregate-keep-first
+    (λ c κs. search needs) (λ c. search needs) (λ c. sym (length-take-le _ _ (omega arith)))
     -- keep_first, i, the loop measure, the loop goes on, front_words, same_words, lengths stay
     (λ c. search needs) (λ c κs. search needs) (λ c. search needs) (λ c. search needs) (λ c. search needs) (λ c κs. search needs) (λ c κs. search needs)
     (λ c. search needs) (λ c. search needs)

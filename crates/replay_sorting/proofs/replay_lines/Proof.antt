@@ -17,7 +17,9 @@ abbrev μ-loop : tie.MeasureT-loop
 
 loop-less : tie.Need-loop-less Inv-loop μ-loop
 loop-less c =
-    let on = c .before .before .before .before .before .before .before .before .before .before .before .before .before .before .before .before .before .before .before .before .before .before .read-line .ensures .on (c .before .before .before .before .before .before .before .before .before .before .before .before .before .before .before .before .before .before .before .before .before .before .before .before .before .loop-test .taken) in
+    let same = c .before .before .before .before .before .before .before .before .before .before .before in
+    let read = same .before .before .before .before .before .before .before .before .before .before .before in
+    let on = read .read-line .ensures .on (read .before .before .before .loop-test .taken) in
     omega arith
 
 pub replay-lines-spec : {M : Type 1} → statement M
