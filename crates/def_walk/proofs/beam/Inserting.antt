@@ -24,25 +24,17 @@ module _ (precedes : ℕ → ℕ → Bool) where
   insert-old : (x v : ℕ) (l : List ℕ) → In x l → In x (insertIn precedes v l)
   unfolding insertIn
   insert-old x v [] m = absurd (in-nil m)
-  insert-old x v (w ∷ l) m = pick-ind (In x) (precedes v w) (λ _. there m) (λ _. go (insert-old x v l) (in-cons m))
-    where
-      go : (In x l → In x (insertIn precedes v l)) → (x ≡ w) ⊎ In x l → In x (w ∷ insertIn precedes v l)
-      go rec (inl q) = here q
-      go rec (inr k) = there (rec k)
+  insert-old x v (w ∷ l) m = pick-ind (In x) (precedes v w) (λ _. there m) (λ _. elim (in-cons m) [ inl q ↦ here q | inr k ↦ there (insert-old x v l k) ])
 
   insert-only : (x v : ℕ) (l : List ℕ) → In x (insertIn precedes v l) → (x ≡ v) ⊎ In x l
   unfolding insertIn
   insert-only x v [] = λ m. in-cons m
   insert-only x v (w ∷ l) =
-      pick-ind (λ (r : List ℕ). In x r → (x ≡ v) ⊎ In x (w ∷ l)) (precedes v w) (λ _ m. in-cons m) (λ _ m. go (insert-only x v l) (in-cons m))
-    where
-      wider : (x ≡ v) ⊎ In x l → (x ≡ v) ⊎ In x (w ∷ l)
-      wider (inl q) = inl q
-      wider (inr k) = inr (there k)
-
-      go : (In x (insertIn precedes v l) → (x ≡ v) ⊎ In x l) → (x ≡ w) ⊎ In x (insertIn precedes v l) → (x ≡ v) ⊎ In x (w ∷ l)
-      go rec (inl q) = inr (here q)
-      go rec (inr k) = wider (rec k)
+      pick-ind (λ (r : List ℕ). In x r → (x ≡ v) ⊎ In x (w ∷ l)) (precedes v w) (λ _ m. in-cons m)
+      (λ _ m. elim (in-cons {b = w} {l = insertIn precedes v l} m) [
+        | inl q ↦ inr (here q)
+        | inr k ↦ elim (insert-only x v l k) [ inl q ↦ inl q | inr j ↦ inr (there j) ]
+      ])
 
   insert-one : (v : ℕ) (l : List ℕ) → length (insertIn precedes v l) ≡ suc (length l)
   unfolding insertIn

@@ -109,55 +109,36 @@ module _ (list : ℕ → List ℕ) (n e : ℕ) (e-below : e < n) (inside : (u v 
 
   module _ (reached : (x : ℕ) → x < n → Reach list e x) where
     seen-enough : min n b ≤ length seen
-    seen-enough = go (ended .why)
-      where
-        go : ((u : ℕ) → In u seen → Closed list seen u) ⊎ (b ≤ length seen) → min n b ≤ length seen
-        go (inl c) =
-            let all : n ≤ length seen = holds-all n seen (λ x h. reach-in seen (ended .keeps e (here refl)) c (reached x h)) in
-            omega arith
-        go (inr h) = omega arith
+    seen-enough = elim (ended .why) [
+      | inl c ↦ omega (arith, holds-all n seen (λ x h. reach-in seen (ended .keeps e (here refl)) c (reached x h)))
+      | inr h ↦ omega arith
+    ]
 
     -- with a place for every node, every node is scored
     seen-whole : n ≤ b → (y : ℕ) → y < n → In y seen
     seen-whole h y l = all-of n seen (ended .nodup) (ended .below) (omega (arith, seen-enough)) y l
 
--- ---- the search
+    -- ---- the search
+
+    found : (L : ℕ) → ((u : ℕ) → u < n → length (list u) ≤ L) → (k : ℕ) → k ≤ b
+        → Found n L k b far (beamSearch list n e far b) (answerOf far k (beamSearch list n e far b))
+    unfolding beamSearch answerOf
+    found L longest k few =
+        let scored : List ℕ = beamSearch list n e far b in
+        let sorted : List ℕ = sortBy (keyAt far) scored in record {
+          once = scored-once;
+          nodes = scored-nodes;
+          low = omega (arith, seen-enough, length-reverse seen);
+          high = omega (arith, seen-short L longest, seen-few, length-reverse seen);
+          many = omega (arith, length-take k sorted, length-sort (keyAt far) scored, length-reverse seen, seen-few, seen-enough);
+          distinct = nodup-take k sorted (sort-nodup (keyAt far) scored scored-once);
+          inside = λ y m. scored-nodes y (in-sort (keyAt far) scored (in-take k sorted m));
+          rising = rising-take (keyAt far) k sorted (sort-rising (keyAt far) scored);
+          nearest = λ h x y m l out.
+              left-out (keyAt far) k sorted (sort-rising (keyAt far) scored) x y m (sort-in (keyAt far) scored (reverse-in seen (seen-whole h y l))) out;
+        }
 
 pub search-found : (list : ℕ → List ℕ) (n e : ℕ) → e < n → ((u v : ℕ) → In v (list u) → v < n) → ((x : ℕ) → x < n → Reach list e x)
     → (far : ℕ → Float) (L : ℕ) → ((u : ℕ) → u < n → length (list u) ≤ L) → (k ef : ℕ)
     → Found n L k (placesFor ef k) far (beamSearch list n e far (placesFor ef k)) (answerOf far k (beamSearch list n e far (placesFor ef k)))
-unfolding beamSearch answerOf
-search-found list n e e-below inside reached far L longest k ef = record {
-  once = scored-once list n e e-below inside far b;
-  nodes = scored-nodes list n e e-below inside far b;
-  low = omega (arith, enough, length-reverse latest);
-  high = omega (arith, seen-short list n e e-below inside far b L longest, few, length-reverse latest);
-  many = omega (arith, length-take k sorted, length-sort (keyAt far) scored, length-reverse latest, few, enough);
-  distinct = nodup-take k sorted (sort-nodup (keyAt far) scored (scored-once list n e e-below inside far b));
-  inside = λ y m. scored-nodes list n e e-below inside far b y (in-sort (keyAt far) scored (in-take k sorted m));
-  rising = rising-take (keyAt far) k sorted (sort-rising (keyAt far) scored);
-  nearest = λ h x y m l out.
-      left-out (keyAt far) k sorted (sort-rising (keyAt far) scored) x y m
-      (sort-in (keyAt far) scored (reverse-in latest (seen-whole list n e e-below inside far b reached h y l))) out;
-}
-  where
-    b : ℕ
-    b = placesFor ef k
-
-    latest : List ℕ
-    latest = walked list n e far b
-
-    scored : List ℕ
-    scored = beamSearch list n e far b
-
-    sorted : List ℕ
-    sorted = sortBy (keyAt far) scored
-
-    done : Ended list n e (λ l. b ≤ length l) (e ∷ []) latest
-    done = ended list n e e-below inside far b
-
-    few : length latest ≤ n
-    few = seen-few list n e e-below inside far b
-
-    enough : min n b ≤ length latest
-    enough = seen-enough list n e e-below inside far b reached
+search-found list n e e-below inside reached far L longest k ef = found list n e e-below inside far (placesFor ef k) reached L longest k (omega arith)

@@ -57,22 +57,13 @@ far-in b = subst (In (b .far)) (sym (pick-yes (eqb (b .near) (b .near)) _ _ (eqb
 other-ends-below : (n : ℕ) (bs : List Bridge) → AllEnds n bs → (u v : ℕ) → In v (otherEnds bs u) → v < n
 unfolding otherEnds
 other-ends-below n [] a u v m = absurd (in-nil m)
-other-ends-below n (b ∷ bs) a u v m = go (other-ends-below n bs (a .1) u v) (in-cases (otherEnd b u) m)
-  where
-    end : Opposite b u v → v < n
-    end (inl p) = omega (arith, a .0 .far-below)
-    end (inr p) = omega (arith, a .0 .near-below)
-
-    go : (In v (otherEnds bs u) → v < n) → In v (otherEnd b u) ⊎ In v (otherEnds bs u) → v < n
-    go rec (inl k) = end (other-end-in b u v k)
-    go rec (inr k) = rec k
+other-ends-below n (b ∷ bs) a u v m = elim (in-cases (otherEnd b u) m) [
+  | inl k ↦ elim (other-end-in b u v k) [ inl p ↦ omega (arith, a .0 .far-below) | inr p ↦ omega (arith, a .0 .near-below) ]
+  | inr k ↦ other-ends-below n bs (a .1) u v k
+]
 
 -- lists hold nodes, where rows do and bridges end at nodes
 pub list-below : (rows : List (List ℕ)) (n : ℕ) → ((u v : ℕ) → In v (getD rows u []) → v < n) → (bs : List Bridge) → AllEnds n bs
     → (u v : ℕ) → In v (listOf rows bs u) → v < n
 unfolding listOf
-list-below rows n below bs a u v m = go (in-cases (getD rows u []) m)
-  where
-    go : In v (getD rows u []) ⊎ In v (otherEnds bs u) → v < n
-    go (inl k) = below u v k
-    go (inr k) = other-ends-below n bs a u v k
+list-below rows n below bs a u v m = elim (in-cases (getD rows u []) m) [ inl k ↦ below u v k | inr k ↦ other-ends-below n bs a u v k ]

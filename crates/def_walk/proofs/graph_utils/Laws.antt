@@ -28,19 +28,15 @@ stack-laws : Pushes stack
 stack-laws = record { new = λ v l. here refl; old = λ x v l m. there m; only = λ x v l m. in-cons m; one = λ v l. refl }
 
 -- what marking ends with: nothing stops it
-record Marked (list : ℕ → List ℕ) (n e : ℕ) (from r : List ℕ) : Type 0 where
-  nodup : NoDup r
-  below : Below n r
-  keeps : (x : ℕ) → In x from → In x r
-  reach : (x : ℕ) → In x r → Reach list e x
-  closed : (u : ℕ) → In u r → Closed list r u
+pub record Marked (list : ℕ → List ℕ) (n e : ℕ) (from r : List ℕ) : Type 0 where
+  pub nodup : NoDup r
+  pub below : Below n r
+  pub keeps : (x : ℕ) → In x from → In x r
+  pub reach : (x : ℕ) → In x r → Reach list e x
+  pub closed : (u : ℕ) → In u r → Closed list r u
 
 never-stopped : {list : ℕ → List ℕ} {n e : ℕ} {from r : List ℕ} → Ended list n e (λ _. ⊥) from r → Marked list n e from r
-never-stopped {list} {n} {e} {from} {r} d = record { nodup = d .nodup; below = d .below; keeps = d .keeps; reach = d .reach; closed = go (d .why) }
-  where
-    go : ((u : ℕ) → In u r → Closed list r u) ⊎ ⊥ → (u : ℕ) → In u r → Closed list r u
-    go (inl c) = c
-    go (inr x) = absurd x
+never-stopped d = record { nodup = d .nodup; below = d .below; keeps = d .keeps; reach = d .reach; closed = elim (d .why) [ inl c ↦ c | inr x ↦ absurd x ] }
 
 mark-ended : (list : ℕ → List ℕ) (n e : ℕ) → ((u v : ℕ) → In v (list u) → v < n) → (reached : List ℕ) (s : ℕ) → (In s reached → ⊥)
     → Inv list n e (s ∷ reached) (s ∷ []) → Marked list n e (s ∷ reached) (markReachable list n reached s)
@@ -63,11 +59,7 @@ nearest-reached vs reached i best (c ∷ cs) m =
 -- ---- the turns
 
 pub record Turned (rows : List (List ℕ)) (e i : ℕ) (r : Repaired) : Type 0 where
-  pub nodup : NoDup (r .reached)
-  pub below : Below (length rows) (r .reached)
-  pub root : In e (r .reached)
-  pub reach : (x : ℕ) → In x (r .reached) → Reach (listOf rows (r .bridges)) e x
-  pub closed : (u : ℕ) → In u (r .reached) → Closed (listOf rows (r .bridges)) (r .reached) u
+  pub marks : Marked (listOf rows (r .bridges)) (length rows) e (e ∷ []) (r .reached)
   pub all : (j : ℕ) → j < i → In j (r .reached)
   pub ends : AllEnds (length rows) (r .bridges)
   pub few : length (r .bridges) ≤ i
@@ -82,38 +74,31 @@ module _ (rows : List (List ℕ)) (e : ℕ) (vs : List (List Float)) (e-below : 
   first : Turned rows e zero (turnsTo rows e vs zero)
   unfolding turnsTo
   first = record {
-    nodup = d .nodup;
-    below = d .below;
-    root = d .keeps e (here refl);
-    reach = d .reach;
-    closed = d .closed;
+    marks = mark-ended (listOf rows []) (length rows) e (inside [] tt) [] e (λ m. in-nil m) (record {
+      nodup = ((λ m. in-nil m), tt);
+      below = λ x m. let q = in-one m in omega arith;
+      root = here refl;
+      sub = λ x m. m;
+      reach = λ x m. subst (Reach (listOf rows []) e) (sym (in-one m)) start;
+      closed = λ u m. inl m;
+    });
     all = λ j h. absurd (omega arith);
     ends = tt;
     few = omega arith;
     fewer = λ h. absurd (omega arith);
   }
-    where
-      list : ℕ → List ℕ
-      list = listOf rows []
-
-      below₀ : Below (length rows) (e ∷ [])
-      below₀ x m = let q = in-one m in omega arith
-
-      reach₀ : (x : ℕ) → In x (e ∷ []) → Reach list e x
-      reach₀ x m = subst (Reach list e) (sym (in-one m)) start
-
-      d : Marked list (length rows) e (e ∷ []) (markReachable list (length rows) [] e)
-      d = mark-ended list (length rows) e (inside [] tt) [] e (λ m. in-nil m)
-          (record { nodup = ((λ m. in-nil m), tt); below = below₀; root = here refl; sub = λ x m. m; reach = reach₀; closed = λ u m. inl m })
 
   -- the turn of a node that is not reached
   module _ (i : ℕ) (i-below : i < length rows) (r : Repaired) (t : Turned rows e i r) (out : In i (r .reached) → ⊥) where
+    root : In e (r .reached)
+    root = t .marks .keeps e (here refl)
+
     b : Bridge
     b = bridgeTo rows e vs r i
 
     b-near : In (b .near) (r .reached)
     unfolding b bridgeTo
-    b-near = nearest-reached vs (r .reached) i e (candidatesFor (listOf rows (r .bridges)) e i) (t .root)
+    b-near = nearest-reached vs (r .reached) i e (candidatesFor (listOf rows (r .bridges)) e i) root
 
     b-far : b .far ≡ i
     unfolding b bridgeTo
@@ -127,7 +112,7 @@ module _ (rows : List (List ℕ)) (e : ℕ) (vs : List (List Float)) (e-below : 
 
     b-ends : Ends (length rows) b
     b-ends = record {
-      near-below = t .below (b .near) b-near;
+      near-below = t .marks .below (b .near) b-near;
       far-below = omega (arith, b-far);
       differ = λ q. out (in-cast (sym (q ∙ b-far)) b-near);
     }
@@ -138,22 +123,21 @@ module _ (rows : List (List ℕ)) (e : ℕ) (vs : List (List Float)) (e-below : 
 
     wider : (u v : ℕ) → In v (listOf rows (r .bridges) u) → In v (list u)
     unfolding list bs
-    wider u v m = subst (In v) (sym (list-snoc rows (r .bridges) b u)) (in-left (otherEnd b u) m)
+    wider u v m = rw (list-snoc rows (r .bridges) b u) (in-left (otherEnd b u) m)
 
     edge : In i (list (b .near))
     unfolding list bs
-    edge =
-        subst (In i) (sym (list-snoc rows (r .bridges) b (b .near))) (in-right (listOf rows (r .bridges) (b .near)) (in-cast (sym b-far) (far-in b)))
+    edge = rw (list-snoc rows (r .bridges) b (b .near)) (in-right (listOf rows (r .bridges) (b .near)) (in-cast (sym b-far) (far-in b)))
 
     reach-old : (x : ℕ) → In x (r .reached) → Reach list e x
-    reach-old x m = reach-wider wider (t .reach x m)
+    reach-old x m = reach-wider wider (t .marks .reach x m)
 
     begun : Inv list (length rows) e (i ∷ r .reached) (i ∷ [])
     unfolding list bs
     begun = record {
-      nodup = (out, t .nodup);
+      nodup = (out, t .marks .nodup);
       below = below′;
-      root = there (t .root);
+      root = there root;
       sub = λ x m. here (in-one m);
       reach = reach′;
       closed = closed′;
@@ -161,7 +145,7 @@ module _ (rows : List (List ℕ)) (e : ℕ) (vs : List (List Float)) (e-below : 
       where
         below′ : Below (length rows) (i ∷ r .reached)
         below′ x (here q) = omega arith
-        below′ x (there m) = t .below x m
+        below′ x (there m) = t .marks .below x m
 
         reach′ : (x : ℕ) → In x (i ∷ r .reached) → Reach list e x
         reach′ x (here q) = subst (Reach list e) (sym q) (along (reach-old (b .near) b-near) edge)
@@ -171,13 +155,12 @@ module _ (rows : List (List ℕ)) (e : ℕ) (vs : List (List Float)) (e-below : 
         end u v (inl p) = here (p .1 ∙ b-far)
         end u v (inr p) = there (in-cast (p .1) b-near)
 
-        from : (u v : ℕ) → In u (r .reached) → In v (listOf rows (r .bridges) u) ⊎ In v (otherEnd b u) → In v (i ∷ r .reached)
-        from u v m (inl k) = there (t .closed u m v k)
-        from u v m (inr k) = end u v (other-end-in b u v k)
-
         closed′ : (u : ℕ) → In u (i ∷ r .reached) → In u (i ∷ []) ⊎ Closed list (i ∷ r .reached) u
         closed′ u (here q) = inl (here q)
-        closed′ u (there m) = inr (λ v k. from u v m (in-cases (listOf rows (r .bridges) u) (subst (In v) (list-snoc rows (r .bridges) b u) k)))
+        closed′ u (there m) = inr (λ v k. elim (in-cases (listOf rows (r .bridges) u) (rw (list-snoc rows (r .bridges) b u) at k)) [
+          | inl l ↦ there (t .marks .closed u m v l)
+          | inr l ↦ end u v (other-end-in b u v l)
+        ])
 
     marked : Marked list (length rows) e (i ∷ r .reached) (markReachable list (length rows) (r .reached) i)
     unfolding list
@@ -186,40 +169,32 @@ module _ (rows : List (List ℕ)) (e : ℕ) (vs : List (List Float)) (e-below : 
     bridged : Turned rows e (suc i) (record { reached = markReachable list (length rows) (r .reached) i; bridges = bs })
     unfolding list bs
     bridged = record {
-      nodup = marked .nodup;
-      below = marked .below;
-      root = marked .keeps e (there (t .root));
-      reach = marked .reach;
-      closed = marked .closed;
-      all = all′;
+      marks = record {
+        nodup = marked .nodup;
+        below = marked .below;
+        keeps = λ x m. marked .keeps x (there (t .marks .keeps x m));
+        reach = marked .reach;
+        closed = marked .closed;
+      };
+      all = λ j h. elim (decLt j i) [ yes k ↦ marked .keeps j (there (t .all j k)) | no k ↦ marked .keeps j (here {x = i} (omega arith)) ];
       ends = bs-ends;
       few = omega (arith, length-append (r .bridges) (b ∷ []), t .few);
       fewer = λ h. omega (arith, length-append (r .bridges) (b ∷ []), t .fewer (e-before h));
     }
       where
-        all′ : (j : ℕ) → j < suc i → In j (markReachable list (length rows) (r .reached) i)
-        all′ j h = elim (decLt j i) [ yes k ↦ marked .keeps j (there (t .all j k)) | no k ↦ marked .keeps j (here {x = i} (omega arith)) ]
-
         -- the entry is reached and i is not, so i is not the entry
         e-before : e < suc i → e < i
-        e-before h = elim (decLt e i) [ yes k ↦ k | no k ↦ absurd (out (in-cast {b = e} (omega arith) (t .root))) ]
+        e-before h = elim (decLt e i) [ yes k ↦ k | no k ↦ absurd (out (in-cast {b = e} (omega arith) root)) ]
 
   -- the turn of a node that is reached
   passed : (i : ℕ) (r : Repaired) → Turned rows e i r → In i (r .reached) → Turned rows e (suc i) r
   passed i r t m = record {
-    nodup = t .nodup;
-    below = t .below;
-    root = t .root;
-    reach = t .reach;
-    closed = t .closed;
-    all = all′;
+    marks = t .marks;
+    all = λ j h. elim (decLt j i) [ yes k ↦ t .all j k | no k ↦ in-cast {b = i} (omega arith) m ];
     ends = t .ends;
     few = omega (arith, t .few);
     fewer = λ h. omega (arith, t .few);
   }
-    where
-      all′ : (j : ℕ) → j < suc i → In j (r .reached)
-      all′ j h = elim (decLt j i) [ yes k ↦ t .all j k | no k ↦ in-cast {b = i} (omega arith) m ]
 
   turned : (i : ℕ) → i < length rows → (r : Repaired) → Turned rows e i r → Turned rows e (suc i) (turn rows e vs i r)
   unfolding turn b bs list
@@ -240,7 +215,7 @@ module _ (rows : List (List ℕ)) (e : ℕ) (vs : List (List Float)) (e-below : 
   -- every node is reached along out-edges of the repaired lists
   pub repair-reaches-all : (x : ℕ) → x < length rows → Reach (listOf rows (ensureConnectivity rows e vs)) e x
   unfolding ensureConnectivity
-  repair-reaches-all x h = all-turned .reach x (all-turned .all x h)
+  repair-reaches-all x h = all-turned .marks .reach x (all-turned .all x h)
 
   -- both ends of a bridge are nodes, and different
   pub repair-ends : AllEnds (length rows) (ensureConnectivity rows e vs)

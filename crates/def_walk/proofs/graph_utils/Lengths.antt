@@ -1,12 +1,11 @@
 -- How long lists with bridges are: over all nodes together each bridge adds two entries, and the longest is the longest. Assumes nothing.
-use mathlib.Core.Path.{_≡_, refl, sym, subst, ap, _∙_}
+use mathlib.Core.Path.{_≡_, refl, sym, ap, _∙_}
 use mathlib.Core.Logic.{_≢_}
-use mathlib.Core.Bool.{Bool, not}
 use mathlib.Core.List.{List, [], _∷_, _++_}
 use Prim.Native.Nat.{ℕ, zero, suc, _+_, _*_, _≤_, _<_}
 use native.Mathlib.Omega.{arith}
 use native.Mathlib.Decide.{decLt}
-use lib.Dec.{T, eqb, eqb→eq, eqb-refl}
+use lib.Dec.{eqb, eqb→eq, eqb-refl}
 use lib.ListN.{length, length-append, getD}
 use mir.Facts.{no-eqb}
 use Rattle.basics.specs.Choice.{pick, pick-ind, pick-yes, pick-no}
@@ -54,22 +53,15 @@ sum-out (suc n) a h = let r = sum-out n a (omega arith) in omega (arith, at-no a
 sum-in : (n a : ℕ) → a < n → sumTo n (isAt a) ≡ 1
 unfolding sumTo
 sum-in zero a h = absurd (omega arith)
-sum-in (suc n) a h = go (sum-in n a) (decLt a n)
-  where
-    go : (a < n → sumTo n (isAt a) ≡ 1) → Dec (a < n) → sumTo n (isAt a) + isAt a n ≡ 1
-    go rec (yes k) = omega (arith, rec k, at-no a n (omega arith))
-    go rec (no k) =
-        let q : n ≡ a = omega arith in
-        let z : isAt a n ≡ 1 = subst (λ (x : ℕ). isAt a x ≡ 1) (sym q) (at-yes a) in
-        omega (arith, sum-out n a (omega arith))
+sum-in (suc n) a h = elim (decLt a n) [
+  | yes k ↦ omega (arith, sum-in n a k, at-no a n (omega arith))
+  | no k ↦
+      let q : n ≡ a = omega arith in
+      let z : isAt a n ≡ 1 = rw q (at-yes a) in
+      omega (arith, sum-out n a (omega arith))
+]
 
 -- ---- bridges
-
-at-test-yes : (t : Bool) → T t → pick {X = ℕ} t 1 0 ≡ 1
-at-test-yes t = pick-yes t 1 0
-
-at-test-no : (t : Bool) → T (not t) → pick {X = ℕ} t 1 0 ≡ 0
-at-test-no t = pick-no t 1 0
 
 -- a bridge is one entry at each of its ends
 length-other-end : (n : ℕ) (b : Bridge) → Ends n b → (i : ℕ) → length (otherEnd b i) ≡ isAt (b .near) i + isAt (b .far) i
@@ -78,10 +70,10 @@ length-other-end n b q i =
     pick-ind (λ (l : List ℕ). length l ≡ isAt (b .near) i + isAt (b .far) i) (eqb i (b .near))
     (λ t.
     let p : i ≡ b .near = eqb→eq i (b .near) t in
-    omega (arith, at-test-yes (eqb i (b .near)) t, at-no (b .far) i (λ z. q .differ (sym p ∙ z))))
+    omega (arith, pick-yes {X = ℕ} (eqb i (b .near)) 1 0 t, at-no (b .far) i (λ z. q .differ (sym p ∙ z))))
     (λ t. pick-ind (λ (l : List ℕ). length l ≡ isAt (b .near) i + isAt (b .far) i) (eqb i (b .far))
-    (λ t′. omega (arith, at-test-no (eqb i (b .near)) t, at-test-yes (eqb i (b .far)) t′))
-    (λ t′. omega (arith, at-test-no (eqb i (b .near)) t, at-test-no (eqb i (b .far)) t′)))
+    (λ t′. omega (arith, pick-no {X = ℕ} (eqb i (b .near)) 1 0 t, pick-yes {X = ℕ} (eqb i (b .far)) 1 0 t′))
+    (λ t′. omega (arith, pick-no {X = ℕ} (eqb i (b .near)) 1 0 t, pick-no {X = ℕ} (eqb i (b .far)) 1 0 t′)))
 
 sum-other-ends : (n : ℕ) (bs : List Bridge) → AllEnds n bs → sumTo n (λ i. length (otherEnds bs i)) ≡ 2 * length bs
 unfolding otherEnds

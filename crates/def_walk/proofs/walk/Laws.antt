@@ -90,13 +90,9 @@ module _ (list : ℕ → List ℕ) (n e : ℕ) (push : ℕ → List ℕ → List
       below′ x (here q) = omega arith
       below′ x (there m) = g .below x m
 
-      sub-push : (x : ℕ) → (x ≡ v) ⊎ In x (s .front) → In x (v ∷ s .seen)
-      sub-push x (inl q) = here q
-      sub-push x (inr m) = there (g .sub x (there m))
-
       sub′ : (x : ℕ) → In x (u ∷ push v (s .front)) → In x (v ∷ s .seen)
       sub′ x (here q) = there (g .sub x (here q))
-      sub′ x (there m) = sub-push x (law .only x v (s .front) m)
+      sub′ x (there m) = elim (law .only x v (s .front) m) [ inl q ↦ here q | inr k ↦ there (g .sub x (there k)) ]
 
       reach′ : (x : ℕ) → In x (v ∷ s .seen) → Reach list e x
       reach′ x (here q) = subst (Reach list e) (sym q) r
@@ -171,11 +167,13 @@ module _ (list : ℕ → List ℕ) (n e : ℕ) (push : ℕ → List ℕ → List
   stopped i t = record { nodup = i .nodup; below = i .below; keeps = λ x m. m; reach = i .reach; why = inr t }
 
   done : {seen : List ℕ} → Inv list n e seen [] → Ended list n e Late seen seen
-  done {seen} i = record { nodup = i .nodup; below = i .below; keeps = λ x m. m; reach = i .reach; why = inl (λ u m. go u (i .closed u m)) }
-    where
-      go : (u : ℕ) → In u [] ⊎ Closed list seen u → Closed list seen u
-      go u (inl m) = absurd (in-nil m)
-      go u (inr c) = c
+  done i = record {
+    nodup = i .nodup;
+    below = i .below;
+    keeps = λ x m. m;
+    reach = i .reach;
+    why = inl (λ u m. elim (i .closed u m) [ inl k ↦ absurd (in-nil k) | inr c ↦ c ]);
+  }
 
   later : {a b r : List ℕ} → ((x : ℕ) → In x a → In x b) → Ended list n e Late b r → Ended list n e Late a r
   later k i = record { nodup = i .nodup; below = i .below; keeps = λ x m. i .keeps x (k x m); reach = i .reach; why = i .why }
