@@ -1,54 +1,30 @@
 -- One node pushed, and several. Assumes nothing.
 use mathlib.Core.Path.{_≡_, refl, sym, ap, _∙_, subst}
-use mathlib.Core.Logic.{_⊎_, inl, inr}
+use mathlib.Core.Logic.{inl, inr}
 use mathlib.Core.Bool.{false}
 use mathlib.Core.List.{List, [], _∷_}
 use mathlib.Core.List.{List·Memᴰ as In, List·Memᴰ·head as here, List·Memᴰ·tail as there, List·Memᴰ·cases-cons as in-cons}
-use Prim.Native.Nat.{ℕ, suc, _+_, _-_, _*_, _≤_, _<_, min}
-use native.Mathlib.Nat.{le-of-eq}
+use Prim.Native.Nat.{ℕ, suc, _+_, _-_, _≤_, _<_, min}
 use native.Mathlib.Omega.{arith}
 use native.Mathlib.Numerals.{add-one}
 use lib.ListN.{length, getD, take, drop, length-drop}
 use lib.Seq.{length-take-le, take-all, take-suc, split-at, getD-take, getD-drop}
-use lib.Ieee.{Float, binary32, inf, lt}
-use Rattle.basics.specs.Choice.{pick-ind}
+use lib.Ieee.{Float, binary32, inf}
 use Rattle.basics.specs.Nodes.{NoDup, Below}
 use Rattle.basics.proofs.Counting.{at-most}
 use Rattle.distance.specs.Order.{keyOf}
 use Rattle.sorting.specs.Inside.Pairs.{keptPairs, keptKeys, keptIds}
 use Rattle.def_walk.specs.Walk.{State}
-use Rattle.def_walk.specs.KeepClosest.{keyAt, sooner, replaceWorst, keepClosest, heldOf, cutoffOf}
+use Rattle.def_walk.specs.KeepClosest.{keyAt, keepClosest, heldOf, cutoffOf}
 use Rattle.def_walk.specs.Beam.{toFrontier}
 use Rattle.beam_state.specs.Inside.Queues.{frontRank, Queue, Held, Known, Entering, Keeping}
 use Rattle.beam_state.specs.declared.queues.Closest.{Closest}
-use Rattle.beam_state.proofs.queues.Laws.{in-insert}
-use Rattle.beam_state.proofs.queues.Holding.{hold-length}
+use Rattle.def_walk.proofs.beam.Inserting.{frontier-laws, held-length}
 use Rattle.beam_state.specs.Inside.State.{part, frontierAt, heldAt, keysAt, wordsFor, heldEnd, frontierPart, keysPart, Memory, Standing, Pushing, PushingAll, pushed}
 use Rattle.beam_state.specs.declared.Walk.{Walk}
 use Rattle.beam_state.proofs.Parts.{lay, lay-length, part-here, part-before, part-after, take-before}
 use Rattle.beam_state.proofs.Pushed.{pushed-append, pushed-keeps, pushed-once}
 use Rattle.beam_state.proofs.Answers.{answer-more}
-
--- ---- what is in the frontier, and how many are held
-
-frontier-in : (far : ℕ → Float) (v : ℕ) (front : List ℕ) (u : ℕ) → In u (toFrontier far v front) → (u ≡ v) ⊎ In u front
-unfolding toFrontier
-frontier-in far v front u m = in-insert (sooner far) u v front m
-
-replace-few : (far : ℕ → Float) (v : ℕ) (held : List ℕ) → length (replaceWorst far v held) ≤ length held
-unfolding replaceWorst
-replace-few far v [] = omega arith
-replace-few far v (w ∷ l) = pick-ind (λ (r : List ℕ). length r ≤ suc (length l)) (lt (far v) (far w)) (λ _. le-of-eq (hold-length far v l)) (λ _. omega arith)
-
-keep-few : (far : ℕ → Float) (b v : ℕ) (held : List ℕ) → length (keepClosest far b v held) ≤ suc (length held)
-unfolding keepClosest
-keep-few far b v held =
-    pick-ind (λ (r : List ℕ). length r ≤ suc (length held)) (lib.Dec.ltb (length held) b) (λ _. le-of-eq (hold-length far v held)) (λ _. let r = replace-few far v held in omega arith)
-
-held-few : (far : ℕ → Float) (b : ℕ) (seen : List ℕ) → length (heldOf far b seen) ≤ length seen
-unfolding heldOf
-held-few far b [] = omega arith
-held-few far b (v ∷ seen) = let k = keep-few far b v (heldOf far b seen) in let h = held-few far b seen in omega arith
 
 -- ---- one node
 
@@ -135,8 +111,8 @@ module _ (n b v : ℕ) (floats : List Float) (walk : Walk) (words nodes : List �
             (subst (λ (k : List ℕ). Rattle.beam_state.specs.Inside.State.AnswerHeld far nodes₀ k nodes (walk .kept) seen) (sym keys-was) (s .answer)));
         scored-is = let few = known .few in let all = at-most n seen (s .once) (s .inside) in omega (arith, sc, s .scored-is);
         once = (out, s .once);
-        inside = λ u m. below u (in-cons m);
-        sub = λ u m. sub′ u (in-front u m);
+        inside = below;
+        sub = λ u m. elim (frontier-laws far .only u v front m) [ inl e ↦ here e | inr i ↦ there (s .sub u i) ];
       }
         where
           same-distance : d ≡ far v
@@ -145,24 +121,16 @@ module _ (n b v : ℕ) (floats : List Float) (walk : Walk) (words nodes : List �
           same-key : key ≡ keyAt far v
           same-key = ki ∙ ap (keyOf binary32) same-distance
 
-          below : (u : ℕ) → (u ≡ v) ⊎ In u seen → u < n
-          below u (inl e) = omega arith
-          below u (inr m) = s .inside u m
+          below : Below n (v ∷ seen)
+          below u m = elim (in-cons m) [ inl e ↦ omega arith | inr i ↦ s .inside u i ]
 
           -- the held are among the nodes scored, so that there is a free slot while they are fewer than b
           slot : length (heldOf far b seen) < b → length (heldOf far b seen) < min b n
-          slot h = let f = held-few far b seen in let all = at-most n (v ∷ seen) (out, s .once) (λ u m. below u (in-cons m)) in omega arith
+          slot h = omega (arith, held-length far b seen, at-most n (v ∷ seen) (out, s .once) below)
 
           kept : Rattle.beam_state.specs.Inside.Queues.Kept far (min b n) b v (heldOf far b seen) y closest
           kept = keep far v (min b n) (heldOf far b seen) (known .f32s) same-distance same-key (s .held-count) slot
               (subst (Held far (min b n) (heldOf far b seen)) (sym held-was) (subst (λ (i : ℕ). Held far (min b n) (heldOf far b seen) (part (heldAt n) i words)) (sym e-is) (s .held)))
-
-          in-front : (u : ℕ) → In u (toFrontier far v front) → (u ≡ v) ⊎ In u front
-          in-front u m = frontier-in far v front u m
-
-          sub′ : (u : ℕ) → (u ≡ v) ⊎ In u front → In u (v ∷ seen)
-          sub′ u (inl e) = here e
-          sub′ u (inr m) = there (s .sub u m)
 
 -- ---- several
 

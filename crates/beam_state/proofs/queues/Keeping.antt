@@ -16,7 +16,8 @@ use Rattle.beam_state.specs.Inside.Tournament.{Putting, firstOf}
 use Rattle.beam_state.specs.declared.tournament.Pair.{Pair}
 use Rattle.def_walk.specs.KeepClosest.{keyAt, hold, replaceWorst, keepClosest, worstOf}
 use Rattle.beam_state.specs.Inside.Queues.{heldRank, Held, Worst, Keeping}
-use Rattle.beam_state.proofs.queues.Holding.{hold-length, none-first, first-held, held-more, held-over}
+use Rattle.def_walk.proofs.beam.Inserting.{hold-one}
+use Rattle.beam_state.proofs.queues.Holding.{none-first, first-held, held-more, held-over}
 
 module _ (tree : List ℕ) (top : Pair) (first : top ≡ firstOf tree) (j : getD tree 3 0 < 4294967296) (k : getD tree 2 0 < 4294967296) where
   top-id : top .id ≡ firstOf tree .id
@@ -57,7 +58,7 @@ module _ (tree : List ℕ) (top : Pair) (first : top ≡ firstOf tree) (j : getD
         let put′ : Putting (length held) (heldRank (keyAt far v) (length held)) tree tree′ =
         subst (λ (x : ℕ). Putting x (heldRank (keyAt far v) x) tree tree′) e (subst (λ (x : ℕ). Putting count (heldRank x count) tree tree′) key-is put) in record {
           stands = subst (λ (l : List ℕ). Held far size l tree′) (sym after) (held-more v held (room (omega arith)) put′ h);
-          count = omega (arith, ap length after, hold-length far v held);
+          count = omega (arith, ap length after, hold-one far v held);
           cutoff = sym (pick-true (inf false) (worstOf far (keepClosest far b v held)) free);
         }
 
@@ -96,7 +97,7 @@ module _ (tree : List ℕ) (top : Pair) (first : top ≡ firstOf tree) (j : getD
             subst (λ (x : ℕ). Putting x (heldRank (keyAt far v) x) tree tree′) top-id (subst (λ (x : ℕ). Putting (top .id) (heldRank x (top .id)) tree tree′) key-is put) in
             let with : Held far size (hold far v l) tree′ = held-over w v l h (firstOf tree .id) (f .inside) (f .is) put′ in record {
               stands = subst (λ (m : List ℕ). Held far size m tree′) (sym after) with;
-              count = omega (arith, e, ap length after, hold-length far v l);
+              count = omega (arith, e, ap length after, hold-one far v l);
               cutoff = worst far size (hold far v l) f32s with ∙ ap (worstOf far) (sym after) ∙ sym (pick-false (inf false) (worstOf far (keepClosest far b v (w ∷ l))) (no-slot (w ∷ l) e));
             }
 

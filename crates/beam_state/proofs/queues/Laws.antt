@@ -1,40 +1,35 @@
 -- Queues: an empty one, a node put in, the first taken out, and which pair the tree then has first. The tree knows only which nodes are in the
 -- queue; the list's order is that of the ranks, so that the least rank is the first node's. Assumes nothing.
 use mathlib.Core.Path.{_≡_, refl, sym, ap, _∙_, subst}
-use mathlib.Core.Logic.{_⊎_, inl, inr}
+use mathlib.Core.Logic.{inl, inr}
 use mathlib.Core.Bool.{Bool, true, false, _||_}
 use mathlib.Core.List.{List, [], _∷_}
 use mathlib.Core.List.{List·Memᴰ as In, List·Memᴰ·head as here, List·Memᴰ·tail as there, List·Memᴰ·not-nil as in-nil, List·Memᴰ·cases-cons as in-cons}
-use Prim.Native.Nat.{ℕ, suc, _/_, _≤_, _<_}
+use Prim.Native.Nat.{ℕ, _/_, _≤_, _<_}
 use native.Mathlib.Omega.{arith}
-use native.Mathlib.Decide.{ℕ-discrete, decLt}
-use borrow.Author.Tests.{eq-eqb, ne-eqb, ltb-true, ltb-false}
-use lib.Dec.{T, eqb, ltb}
+use native.Mathlib.Decide.{ℕ-discrete}
+use borrow.Author.Tests.{eq-eqb, ne-eqb}
+use lib.Arith.{lt-of-le-ne}
+use lib.Dec.{T, eqb, ltb, ltb→lt, nltb→le}
+use lib.Ieee.Bits.{is-true}
 use lib.ListN.{length, getD, set, replicate, length-replicate, getD-replicate, length-set}
 use lib.Seq.{getD-set-same, getD-set-other}
 use Rattle.basics.specs.Choice.{pick, pick-ind, pick-true, pick-false}
 use Rattle.basics.specs.Nodes.{has}
-use Rattle.basics.proofs.Counting.{has-in, in-has}
+use Rattle.basics.proofs.Counting.{has-in, in-has, in-or-not}
 use Rattle.beam_state.specs.Inside.Tournament.{rankAt, emptyRank, Tournament, Putting}
 use Rattle.beam_state.proofs.tournament.Laws.{Winner, first-least, first-wins}
 use Rattle.def_walk.specs.KeepClosest.{insertIn}
+use Rattle.def_walk.proofs.beam.Inserting.{insert-only}
 use Rattle.beam_state.specs.Inside.Queues.{Ordered, Queue}
 
 -- ---- membership
 
 pub has-yes : (x : ℕ) (l : List ℕ) → In x l → has x l ≡ true
-has-yes x l m = is (has x l) (in-has m)
-  where
-    is : (t : Bool) → T t → t ≡ true
-    is true h = refl
-    is false h = absurd h
+has-yes x l m = is-true (has x l) (in-has m)
 
 pub has-no : (x : ℕ) (l : List ℕ) → (In x l → ⊥) → has x l ≡ false
-has-no x l n = is (has x l) (λ t. n (has-in x l t))
-  where
-    is : (t : Bool) → (T t → ⊥) → t ≡ false
-    is true h = absurd (h tt)
-    is false h = refl
+has-no x l n = (elim (has x l) as (λ t. (T t → ⊥) → t ≡ false) [ true ↦ λ h. absurd (h tt) | false ↦ λ h. refl ]) (λ t. n (has-in x l t))
 
 or-swap : (a b c : Bool) → (a || (b || c)) ≡ (b || (a || c))
 or-swap true true c = refl
@@ -50,14 +45,6 @@ has-insert precedes x v (w ∷ l) =
     pick-ind (λ (r : List ℕ). has x r ≡ (eqb x v || (eqb x w || has x l))) (precedes v w)
     (λ _. refl) (λ _. ap (λ (t : Bool). eqb x w || t) (has-insert precedes x v l) ∙ or-swap (eqb x w) (eqb x v) (has x l))
 
-pub in-insert : (precedes : ℕ → ℕ → Bool) (x v : ℕ) (l : List ℕ) → In x (insertIn precedes v l) → (x ≡ v) ⊎ In x l
-in-insert precedes x v l m = in-cons (has-in x (v ∷ l) (subst T (has-insert precedes x v l) (in-has m)))
-
-pub insert-length : (precedes : ℕ → ℕ → Bool) (v : ℕ) (l : List ℕ) → length (insertIn precedes v l) ≡ suc (length l)
-unfolding insertIn
-insert-length precedes v [] = refl
-insert-length precedes v (w ∷ l) = pick-ind (λ (r : List ℕ). length r ≡ suc (suc (length l))) (precedes v w) (λ _. refl) (λ _. ap suc (insert-length precedes v l))
-
 -- ---- order
 
 module _ (rank : ℕ → ℕ) where
@@ -66,30 +53,16 @@ module _ (rank : ℕ → ℕ) where
       → ((w : ℕ) → In w l → rank v ≡ rank w → ⊥) → Ordered rank l → Ordered rank (insertIn precedes v l)
   unfolding insertIn
   insert-ordered precedes v [] p ne o = ((λ w m. absurd (in-nil m)), tt)
-  insert-ordered precedes v (w ∷ l) p ne o = either (insert-ordered precedes v l (λ x m. p x (there m)) (λ x m. ne x (there m)) (o .1)) (ltb (rank v) (rank w)) refl
-    where
-      first : rank v < rank w → (x : ℕ) → In x (w ∷ l) → rank v < rank x
-      first h x m = go (in-cons m)
-        where
-          go : (x ≡ w) ⊎ In x l → rank v < rank x
-          go (inl e) = subst (λ (y : ℕ). rank v < rank y) (sym e) h
-          go (inr i) = let q = o .0 x i in omega arith
-
-      later : rank w < rank v → (x : ℕ) → In x (insertIn precedes v l) → rank w < rank x
-      later h x m = go (in-insert precedes x v l m)
-        where
-          go : (x ≡ v) ⊎ In x l → rank w < rank x
-          go (inl e) = subst (λ (y : ℕ). rank w < rank y) (sym e) h
-          go (inr i) = o .0 x i
-
-      differ : rank w ≤ rank v → rank w < rank v
-      differ h = elim (ℕ-discrete (rank v) (rank w)) [ yes e ↦ absurd (ne w (here refl) e) | no e ↦ elim (decLt (rank w) (rank v)) [ yes k ↦ k | no k ↦ absurd (e (omega arith)) ] ]
-
-      either : Ordered rank (insertIn precedes v l) → (t : Bool) → ltb (rank v) (rank w) ≡ t → Ordered rank (insertIn precedes v (w ∷ l))
-      either rest true e = subst (Ordered rank) (sym (pick-true (v ∷ w ∷ l) (w ∷ insertIn precedes v l) (p w (here refl) ∙ e))) (first (ltb-true _ _ e), o)
-      either rest false e =
-          subst (Ordered rank) (sym (pick-false (v ∷ w ∷ l) (w ∷ insertIn precedes v l) (p w (here refl) ∙ e)))
-          (later (differ (ltb-false _ _ e)), rest)
+  insert-ordered precedes v (w ∷ l) p ne o =
+      pick-ind (Ordered rank) (precedes v w)
+      (λ t.
+      let first : rank v < rank w = ltb→lt _ _ (rw (p w (here refl)) at t) in
+      ((λ x m. elim (in-cons {b = w} {l = l} m) [ inl e ↦ omega (arith, ap rank e) | inr i ↦ omega (arith, o .0 x i) ]), o))
+      (λ t.
+      let later : rank w < rank v = lt-of-le-ne (nltb→le _ _ (rw (p w (here refl)) at t)) (λ e. ne w (here refl) (sym e)) in (
+        (λ x m. elim (insert-only precedes x v l m) [ inl e ↦ omega (arith, ap rank e) | inr i ↦ o .0 x i ]),
+        insert-ordered precedes v l (λ x m. p x (there m)) (λ x m. ne x (there m)) (o .1),
+      ))
 
 -- ---- queues
 
@@ -105,11 +78,6 @@ module _ (rank : ℕ → ℕ) (n : ℕ) where
     inside = λ x m. absurd (in-nil m);
   }
 
-  -- which nodes there are after a put
-  put-stands : (leaves l : List ℕ) (v r : ℕ) → length leaves ≡ n → v < n → ((w : ℕ) → w < n → getD leaves w emptyRank ≡ pick (has w l) (rank w) emptyRank)
-      → (w : ℕ) → w < n → (w ≡ v → ⊥) → getD (set leaves v r) w emptyRank ≡ pick (has w l) (rank w) emptyRank
-  put-stands leaves l v r e h s w k ne = getD-set-other leaves v w r emptyRank ne ∙ s w k
-
   pub put-in : (precedes : ℕ → ℕ → Bool) (v : ℕ) (l tree tree′ : List ℕ) → v < n → ((w : ℕ) → w < n → precedes v w ≡ ltb (rank v) (rank w))
       → ((w : ℕ) → w < n → rank v ≡ rank w → v ≡ w) → (In v l → ⊥) → Putting v (rank v) tree tree′ → Queue rank n l tree → Queue rank n (insertIn precedes v l) tree′
   unfolding has
@@ -119,18 +87,14 @@ module _ (rank : ℕ → ℕ) (n : ℕ) where
     many = length-set (q .leaves) v (rank v) ∙ q .many;
     stands = stands′;
     ordered = insert-ordered rank precedes v l (λ w m. p w (q .inside w m)) (λ w m e. out (subst (λ (x : ℕ). In x l) (sym (one w (q .inside w m) e)) m)) (q .ordered);
-    inside = λ x m. go x (in-insert precedes x v l m);
+    inside = λ x m. elim (insert-only precedes x v l m) [ inl e ↦ omega arith | inr i ↦ q .inside x i ];
   }
     where
-      go : (x : ℕ) → (x ≡ v) ⊎ In x l → x < n
-      go x (inl e) = omega arith
-      go x (inr i) = q .inside x i
-
       stands′ : (w : ℕ) → w < n → getD (set (q .leaves) v (rank v)) w emptyRank ≡ pick (has w (insertIn precedes v l)) (rank w) emptyRank
       stands′ w k = elim (ℕ-discrete w v) [
         | yes e ↦ ap (λ (x : ℕ). getD (set (q .leaves) v (rank v)) x emptyRank) e ∙ getD-set-same (q .leaves) v (rank v) emptyRank (omega (arith, q .many)) ∙ ap rank (sym e)
             ∙ sym (pick-true (rank w) emptyRank (has-insert precedes w v l ∙ ap (λ (t : Bool). t || has w l) (eq-eqb w v e)))
-        | no e ↦ put-stands (q .leaves) l v (rank v) (q .many) h (q .stands) w k e
+        | no e ↦ getD-set-other (q .leaves) v w (rank v) emptyRank e ∙ q .stands w k
             ∙ ap (λ (t : Bool). pick t (rank w) emptyRank) (sym (has-insert precedes w v l ∙ ap (λ (t : Bool). t || has w l) (ne-eqb w v e)))
       ]
 
@@ -155,13 +119,18 @@ module _ (rank : ℕ → ℕ) (n : ℕ) where
       stands′ w k = elim (ℕ-discrete w u) [
         | yes e ↦ ap (λ (x : ℕ). getD (set (q .leaves) u emptyRank) x emptyRank) e ∙ getD-set-same (q .leaves) u emptyRank emptyRank (omega (arith, q .many, low))
             ∙ sym (pick-false (rank w) emptyRank (has-no w l (λ m. gone (subst (λ (x : ℕ). In x l) e m))))
-        | no e ↦ put-stands (q .leaves) (u ∷ l) u emptyRank (q .many) low (q .stands) w k e
+        | no e ↦ getD-set-other (q .leaves) u w emptyRank emptyRank e ∙ q .stands w k
             ∙ ap (λ (t : Bool). pick (t || has w l) (rank w) emptyRank) (ne-eqb w u e)
       ]
 
   -- the pair that the tree has first
   pub first-node : (u : ℕ) (l tree : List ℕ) → ((v : ℕ) → v < n → rank v < emptyRank) → Queue rank n (u ∷ l) tree → rankAt tree 1 ≡ rank u
-  first-node u l tree below q = go (in-or w)
+  first-node u l tree below q = elim (in-or-not w (u ∷ l)) [
+    | inl m ↦ elim (in-cons m) [ inl e ↦ held m ∙ ap rank e | inr i ↦ absurd (let a = q .ordered .0 w i in let b = held m in omega (arith, least)) ]
+    | inr m ↦
+        let e : rankAt tree 1 ≡ emptyRank = sym (won .wins) ∙ q .stands w inside ∙ pick-false (rank w) emptyRank (has-no w (u ∷ l) m) in
+        absurd (let a = below u low in omega (arith, least))
+  ]
     where
       low : u < n
       low = q .inside u (here refl)
@@ -181,22 +150,9 @@ module _ (rank : ℕ → ℕ) (n : ℕ) where
       least : rankAt tree 1 ≤ rank u
       least = let h = first-least (q .leaves) tree (q .tournament) u (omega (arith, q .many, low)) in omega (arith, u-stands)
 
-      in-or : (x : ℕ) → In x (u ∷ l) ⊎ (In x (u ∷ l) → ⊥)
-      in-or x = Rattle.basics.proofs.Counting.in-or-not x (u ∷ l)
-
       -- the winner is in the queue, and no node behind the first has so low a rank
       held : In w (u ∷ l) → rankAt tree 1 ≡ rank w
       held m = sym (won .wins) ∙ q .stands w inside ∙ pick-true (rank w) emptyRank (has-yes w (u ∷ l) m)
-
-      go : In w (u ∷ l) ⊎ (In w (u ∷ l) → ⊥) → rankAt tree 1 ≡ rank u
-      go (inl m) = at (in-cons m)
-        where
-          at : (w ≡ u) ⊎ In w l → rankAt tree 1 ≡ rank u
-          at (inl e) = held m ∙ ap rank e
-          at (inr i) = absurd (let a = q .ordered .0 w i in let b = held m in omega (arith, least))
-      go (inr m) =
-          let e : rankAt tree 1 ≡ emptyRank = sym (won .wins) ∙ q .stands w inside ∙ pick-false (rank w) emptyRank (has-no w (u ∷ l) m) in
-          absurd (let a = below u low in omega (arith, least))
 
   pub none-first : (tree : List ℕ) → 0 < n → Queue rank n [] tree → rankAt tree 1 ≡ emptyRank
   unfolding has pick

@@ -1,7 +1,7 @@
 -- The first pair of a tournament is one of the places' and no place's comes before it. Assumes nothing.
-use mathlib.Core.Path.{_≡_, sym, ap, _∙_, subst}
+use mathlib.Core.Path.{_≡_, sym, ap, _∙_}
 use mathlib.Core.List.{List}
-use Prim.Native.Nat.{ℕ, zero, suc, _+_, _*_, _-_, _/_, _≤_, _<_, min}
+use Prim.Native.Nat.{ℕ, zero, suc, _+_, _*_, _-_, _/_, _≤_, _<_}
 use native.Mathlib.Omega.{arith}
 use native.Mathlib.Decide.{ℕ-discrete, decLt}
 use lib.ListN.{length, getD}
@@ -18,24 +18,15 @@ module _ (leaves tree : List ℕ) (t : Tournament leaves tree) where
   first-under : (more p : ℕ) → p ≤ more → 1 ≤ p → p < 2 * length leaves → rankAt tree 1 ≤ rankAt tree p
   first-under zero p h a b = absurd (omega arith)
   first-under (suc more) p h a b = elim (ℕ-discrete p 1) [
-    | yes e ↦ subst (λ (k : ℕ). rankAt tree 1 ≤ rankAt tree k) (sym e) (omega arith)
-    | no e ↦ up (first-under more (p / 2) (omega arith) (omega arith) (omega arith)) (t .inner (p / 2) (omega arith) (omega arith)) below
+    | yes e ↦ omega (arith, ap (rankAt tree) e)
+    | no e ↦
+        let up : rankAt tree 1 ≤ rankAt tree (p / 2) = first-under more (p / 2) (omega arith) (omega arith) (omega arith) in
+        let least = t .inner (p / 2) (omega arith) (omega arith) in
+        elim (decLt (2 * (p / 2)) p) [
+          | yes l ↦ (let odd : 2 * (p / 2) + 1 ≡ p = omega arith in omega (arith, ap (rankAt tree) odd))
+          | no l ↦ (let even : 2 * (p / 2) ≡ p = omega arith in omega (arith, ap (rankAt tree) even))
+        ]
   ]
-    where
-      least : ℕ
-      least = min (rankAt tree (2 * (p / 2))) (rankAt tree (2 * (p / 2) + 1))
-
-      below : least ≤ rankAt tree p
-      below = elim (ℕ-discrete p (2 * (p / 2))) [
-        | yes e ↦ subst (λ (k : ℕ). least ≤ rankAt tree k) (sym e) (omega arith)
-        | no e ↦ subst (λ (k : ℕ). least ≤ rankAt tree k) (odd e) (omega arith)
-      ]
-        where
-          odd : (p ≡ 2 * (p / 2) → ⊥) → 2 * (p / 2) + 1 ≡ p
-          odd ne = elim (decLt (2 * (p / 2)) p) [ yes l ↦ omega arith | no l ↦ absurd (ne (omega arith)) ]
-
-      up : rankAt tree 1 ≤ rankAt tree (p / 2) → rankAt tree (p / 2) ≡ least → least ≤ rankAt tree p → rankAt tree 1 ≤ rankAt tree p
-      up x y z = omega arith
 
   -- no place's rank is below the first pair's
   pub first-least : (i : ℕ) → i < length leaves → rankAt tree 1 ≤ getD leaves i emptyRank
@@ -44,16 +35,15 @@ module _ (leaves tree : List ℕ) (t : Tournament leaves tree) where
   winner-of : (more p : ℕ) → 2 * length leaves ≤ p + more → 1 ≤ p → p < 2 * length leaves → Winner leaves (rankAt tree p)
   winner-of zero p h a b = absurd (omega arith)
   winner-of (suc more) p h a b = elim (decLt p (length leaves)) [
-    | no l ↦ record { place = p - length leaves; inside = omega arith; wins = sym (t .leaf (p - length leaves) (omega arith)) ∙ ap (rankAt tree) (back (omega arith)) }
+    | no l ↦
+        let back : length leaves + (p - length leaves) ≡ p = omega arith in
+        record { place = p - length leaves; inside = omega arith; wins = sym (t .leaf (p - length leaves) (omega arith)) ∙ ap (rankAt tree) back }
     | yes l ↦ elim (decLt (rankAt tree (2 * p + 1)) (rankAt tree (2 * p))) [
       | yes r ↦ same (2 * p + 1) (winner-of more (2 * p + 1) (omega arith) (omega arith) (omega arith)) (omega (arith, t .inner p a l))
       | no r ↦ same (2 * p) (winner-of more (2 * p) (omega arith) (omega arith) (omega arith)) (omega (arith, t .inner p a l))
     ]
   ]
     where
-      back : length leaves ≤ p → length leaves + (p - length leaves) ≡ p
-      back l = omega arith
-
       same : (q : ℕ) → Winner leaves (rankAt tree q) → rankAt tree q ≡ rankAt tree p → Winner leaves (rankAt tree p)
       same q w e = record { place = w .place; inside = w .inside; wins = w .wins ∙ e }
 

@@ -18,14 +18,8 @@ module _ (tree : List ℕ) (p rank : ℕ) (h : 2 * p + 1 < length tree) where
       ap₂ rankOf k i ∙ omega arith
 
   pub laid-other : (q : ℕ) → (q ≡ p → ⊥) → rankAt (withPair tree p rank) q ≡ rankAt tree q
-  laid-other q ne = ap₂ rankOf (word (2 * q + 1) (λ e. omega arith) (λ e. apart′ e)) (word (2 * q) (λ e. apart e) (λ e. omega arith))
+  laid-other q ne = ap₂ rankOf (word (2 * q + 1) (λ e. omega arith) (λ e. ne (omega arith))) (word (2 * q) (λ e. ne (omega arith)) (λ e. omega arith))
     where
-      apart : 2 * q ≡ 2 * p → ⊥
-      apart e = ne (omega arith)
-
-      apart′ : 2 * q + 1 ≡ 2 * p + 1 → ⊥
-      apart′ e = ne (omega arith)
-
       word : (w : ℕ) → (w ≡ 2 * p → ⊥) → (w ≡ 2 * p + 1 → ⊥) → getD (withPair tree p rank) w 0 ≡ getD tree w 0
       word w a b = getD-set-other (set tree (2 * p) (rank % 4294967296)) (2 * p + 1) w (rank / 4294967296) 0 b ∙ getD-set-other tree (2 * p) w (rank % 4294967296) 0 a
 
@@ -54,28 +48,16 @@ module _ (leaves : List ℕ) (q : ℕ) (tree : List ℕ) (low : 1 < q) (high : q
 
   -- of two numbers, whichever comes first
   either : min (rankAt tree (2 * above)) (rankAt tree (2 * above + 1)) ≡ least
-  either = elim (ℕ-discrete (q % 2) 0) [
-    | yes e ↦ ap₂ min (ap (rankAt tree) (left e)) (ap (rankAt tree) (right e))
-    | no e ↦ ap₂ min (ap (rankAt tree) (right′ e)) (ap (rankAt tree) (left′ e)) ∙ turn (rankAt tree (beside q)) (rankAt tree q)
+  either = elim (decLt 0 (q % 2)) [
+    | yes odd ↦
+        let left : 2 * above ≡ beside q = omega arith in
+        let right : 2 * above + 1 ≡ q = omega arith in
+        omega (arith, ap (rankAt tree) left, ap (rankAt tree) right)
+    | no even ↦
+        let left : 2 * above ≡ q = omega arith in
+        let right : 2 * above + 1 ≡ beside q = omega arith in
+        omega (arith, ap (rankAt tree) left, ap (rankAt tree) right)
   ]
-    where
-      left : q % 2 ≡ 0 → 2 * above ≡ q
-      left e = omega arith
-
-      right : q % 2 ≡ 0 → 2 * above + 1 ≡ beside q
-      right e = omega arith
-
-      left′ : (q % 2 ≡ 0 → ⊥) → 2 * above + 1 ≡ q
-      left′ e = omega (arith, odd e)
-        where
-          odd : (q % 2 ≡ 0 → ⊥) → 0 < q % 2
-          odd e = elim (decLt 0 (q % 2)) [ yes l ↦ l | no l ↦ absurd (e (omega arith)) ]
-
-      right′ : (q % 2 ≡ 0 → ⊥) → 2 * above ≡ beside q
-      right′ e = omega (arith, left′ e)
-
-      turn : (a b : ℕ) → min a b ≡ min b a
-      turn a b = omega arith
 
   pub open-up : Open leaves q tree → Open leaves above tree′
   open-up o = record {

@@ -26,7 +26,7 @@ module _ (precedes : ℕ → ℕ → Bool) where
   insert-old x v [] m = absurd (in-nil m)
   insert-old x v (w ∷ l) m = pick-ind (In x) (precedes v w) (λ _. there m) (λ _. elim (in-cons m) [ inl q ↦ here q | inr k ↦ there (insert-old x v l k) ])
 
-  insert-only : (x v : ℕ) (l : List ℕ) → In x (insertIn precedes v l) → (x ≡ v) ⊎ In x l
+  pub insert-only : (x v : ℕ) (l : List ℕ) → In x (insertIn precedes v l) → (x ≡ v) ⊎ In x l
   unfolding insertIn
   insert-only x v [] = λ m. in-cons m
   insert-only x v (w ∷ l) =
@@ -36,7 +36,7 @@ module _ (precedes : ℕ → ℕ → Bool) where
         | inr k ↦ elim (insert-only x v l k) [ inl q ↦ inl q | inr j ↦ inr (there j) ]
       ])
 
-  insert-one : (v : ℕ) (l : List ℕ) → length (insertIn precedes v l) ≡ suc (length l)
+  pub insert-one : (v : ℕ) (l : List ℕ) → length (insertIn precedes v l) ≡ suc (length l)
   unfolding insertIn
   insert-one v [] = refl
   insert-one v (w ∷ l) = pick-ind (λ (r : List ℕ). length r ≡ suc (suc (length l))) (precedes v w) (λ _. refl) (λ _. ap suc (insert-one v l))
@@ -46,7 +46,7 @@ module _ (far : ℕ → Float) where
   unfolding toFrontier
   frontier-laws = record { new = insert-new (sooner far); old = insert-old (sooner far); only = insert-only (sooner far); one = insert-one (sooner far) }
 
-  hold-one : (v : ℕ) (held : List ℕ) → length (hold far v held) ≡ suc (length held)
+  pub hold-one : (v : ℕ) (held : List ℕ) → length (hold far v held) ≡ suc (length held)
   unfolding hold
   hold-one v held = insert-one (λ x y. sooner far y x) v held
 

@@ -2,7 +2,7 @@
 -- scored all n nodes, or is stopped, and then b are scored at least. Before an expansion at most 10·b are scored, or the entry node alone, and
 -- an expansion adds at most a list's length. Assumes nothing.
 use mathlib.Core.Path.{_≡_, refl, sym, subst}
-use mathlib.Core.Logic.{_⊎_, inl, inr}
+use mathlib.Core.Logic.{inl, inr}
 use mathlib.Core.Bool.{not}
 use mathlib.Core.List.{List, [], _∷_}
 use mathlib.Core.List.{List·Memᴰ as In, List·Memᴰ·head as here, List·Memᴰ·not-nil as in-nil, List·Memᴰ·eq-of-singleton as in-one}
@@ -18,7 +18,7 @@ use Rattle.sorting.specs.Sorting.{sortBy}
 use Rattle.sorting.specs.Inside.Pairs.{Rising}
 use Rattle.sorting.proofs.Laws.{sort-in, in-sort, length-sort, sort-nodup, sort-rising, rising-take}
 use Rattle.def_walk.specs.Walk.{Reach, start}
-use Rattle.def_walk.proofs.walk.Laws.{Inv, Closed, Ended, walk-ended, walk-short, reach-in}
+use Rattle.def_walk.proofs.walk.Laws.{Inv, Ended, walk-ended, walk-short, reach-in}
 use Rattle.def_walk.specs.KeepClosest.{keyAt, heldOf, cutoffOf}
 use Rattle.def_walk.specs.Beam.{stopFactor, stopMultiplier, placesFor, toFrontier, tooFar, tooMany, walked, beamSearch, answerOf}
 use Rattle.def_walk.proofs.beam.Reverse.{in-reverse, reverse-in, nodup-reverse}
