@@ -15,9 +15,6 @@ Inv-loop words₀ floats nodes₀ size places count many now₀ i₀ words nodes
 abbrev μ-loop : tie.MeasureT-loop
 μ-loop words₀ floats nodes₀ size places count many now₀ i₀ words nodes now i = many - i
 
-returns : tie.Need-returns Inv-loop μ-loop
-returns c = (refl, λ long. absurd (omega (arith, c .if1 .taken)))
-
 loop-holds : tie.Need-loop-holds Inv-loop μ-loop
 loop-holds c = let a = (c .before .before .before .before .before) .args in going-none (a .size) (a .places) (a .count) (c .lesser .result) _
 
@@ -37,12 +34,6 @@ loop-again c =
     going-more {m′ = record { words = p .last .0; floats = _; nodes = p .last .1 .1 .0; walk = p .result }} (at-loop .loop .inv) refl (at-lesser .lesser .ensures)
     (at-loop-test .loop-test .taken) (omega (arith, at-lesser .before .if1 .left)) (p .kept .0) (p .kept .1 .1 .0) (p .ensures .0) (p .ensures .1)
 
-same-length : tie.Need-same-length Inv-loop μ-loop
-same-length c = c .before .loop .inv .words-kept
-
-same-length-2 : tie.Need-same-length-2 Inv-loop μ-loop
-same-length-2 c = c .before .loop .inv .nodes-kept
-
 returns-2 : tie.Need-returns-2 Inv-loop μ-loop
 returns-2 c = let l = c .before .loop in (l .inv .frame, going-all (l .inv) (c .before .before .lesser .ensures) (c .loop-test .left))
 
@@ -50,10 +41,10 @@ pub push-all-spec : {M : Type 1} → statement M
 push-all-spec =
     tie.close
     (tie.spec
-    Inv-loop μ-loop returns
+    Inv-loop μ-loop (λ c. (refl, λ long. absurd (omega (arith, c .if1 .taken))))
     -- lesser
     (λ c κs. search needs) loop-holds add-node
     -- node
     (λ c. search needs) (λ c. search needs) push-requires
     -- i, the loop measure
-    (λ c. search needs) (λ c. search needs) loop-again same-length same-length-2 returns-2)
+    (λ c. search needs) (λ c. search needs) loop-again (λ c. c .before .loop .inv .words-kept) (λ c. c .before .loop .inv .nodes-kept) returns-2)

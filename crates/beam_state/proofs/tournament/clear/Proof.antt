@@ -19,28 +19,10 @@ abbrev μ-loop : tie.MeasureT-loop
 kept : (c : tie.At-loop Inv-loop μ-loop) → length (c .loop .tree) ≡ length (c .before .args .tree .now)
 kept c = ap length (c .loop .inv .1) ∙ filled-length {A = ℕ} 0xffff_ffff (c .before .args .tree .now) (c .loop .i) (c .loop .inv .0)
 
-loop-holds : tie.Need-loop-holds Inv-loop μ-loop
-loop-holds c = (omega arith, refl)
-
-mul-tree : tie.Need-mul-tree Inv-loop μ-loop
-mul-tree c = let n = kept (c .before) in omega arith
-
-slice-write-tree : tie.Need-slice-write-tree Inv-loop μ-loop
-slice-write-tree c = let n = kept (c .before) in omega arith
-
-add-i : tie.Need-add-i Inv-loop μ-loop
-add-i c = let n = kept (c .before) in omega arith
-
-loop-less : tie.Need-loop-less Inv-loop μ-loop
-loop-less c = let n = kept (c .before) in omega arith
-
 loop-again : tie.Need-loop-again Inv-loop μ-loop
 loop-again c =
     let n = kept (c .before) in
     (omega arith, rw (c .before .loop .inv .1) (filled-more {A = ℕ} 0xffff_ffff (c .before .before .args .tree .now) (c .before .loop .i) (omega arith)))
-
-same-length : tie.Need-same-length Inv-loop μ-loop
-same-length c = kept (c .before)
 
 returns : tie.Need-returns Inv-loop μ-loop
 returns c =
@@ -49,4 +31,8 @@ returns c =
     subst (Tournament (replicate (length t / 4) emptyRank)) (sym (c .before .loop .inv .1 ∙ filled-end {A = ℕ} 0xffff_ffff t (c .before .loop .i) (omega arith))) (all-empty t)
 
 pub clear-spec : {M : Type 1} → statement M
-clear-spec = tie.close (tie.spec Inv-loop μ-loop loop-holds mul-tree slice-write-tree add-i loop-less loop-again same-length returns)
+clear-spec =
+    tie.close
+    (tie.spec
+    Inv-loop μ-loop (λ c. (omega arith, refl)) (λ c. let n = kept (c .before) in omega arith) (λ c. let n = kept (c .before) in omega arith)
+    (λ c. let n = kept (c .before) in omega arith) (λ c. let n = kept (c .before) in omega arith) loop-again (λ c. kept (c .before)) returns)

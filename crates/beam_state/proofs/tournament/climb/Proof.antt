@@ -16,12 +16,6 @@ abbrev μ-loop : tie.MeasureT-loop
 loop-holds : tie.Need-loop-holds Inv-loop μ-loop
 loop-holds c = record { kept = refl; inside = c .before .pre .0; rank-is = c .before .pre .1; so-far = λ leaves o. o }
 
-add-beside : tie.Need-add-beside Inv-loop μ-loop
-add-beside c = let i = c .before .loop .inv .inside in omega arith
-
-rank-at-requires : tie.Need-rank-at-requires Inv-loop μ-loop
-rank-at-requires c κs = let l = c .before .before .loop .inv in omega (arith, l .inside, l .kept)
-
 lay-requires : tie.Need-lay-requires Inv-loop μ-loop
 lay-requires c κs = let l = c .before .before .before .before .before .loop .inv in omega (arith, l .inside, l .kept)
 
@@ -38,9 +32,6 @@ loop-again c =
     climbed-more (a .tree .now) (x .loop .tree) (at-lay .lay .last .0) (a .from) (x .loop .p) (x .loop .least) (at-rank-at .rank-at .result) (at-lesser .lesser-u64 .result) (x .loop .inv)
     (at-loop-test .loop-test .taken) (at-rank-at .rank-at .ensures) (at-lesser .lesser-u64 .ensures) (at-lay .lay .ensures)
 
-same-length : tie.Need-same-length Inv-loop μ-loop
-same-length c = c .before .loop .inv .kept
-
 returns : tie.Need-returns Inv-loop μ-loop
 returns c = λ leaves o. open-end leaves (c .before .loop .p) (c .before .loop .tree) (omega arith) (c .before .loop .inv .so-far leaves o)
 
@@ -48,10 +39,10 @@ pub climb-spec : {M : Type 1} → statement M
 climb-spec =
     tie.close
     (tie.spec
-    Inv-loop μ-loop loop-holds add-beside
+    Inv-loop μ-loop loop-holds (λ c. let i = c .before .loop .inv .inside in omega arith)
     -- beside
-    (λ c. search needs) (λ c. search needs) rank-at-requires
+    (λ c. search needs) (λ c. search needs) (λ c κs. let l = c .before .before .loop .inv in omega (arith, l .inside, l .kept))
     -- lesser_u64
     (λ c κs. search needs) lay-requires
     -- the loop measure
-    (λ c. search needs) loop-again same-length returns)
+    (λ c. search needs) loop-again (λ c. c .before .loop .inv .kept) returns)
