@@ -1,7 +1,6 @@
 -- Empty rows are well bounded, and rows stay so where one is replaced by another that is. Assumes nothing.
 use mathlib.Core.Path.{_≡_, refl, sym, ap, _∙_, subst}
-use mathlib.Core.List.{List, []}
-use mathlib.Core.List.{List·Memᴰ as In, List·Memᴰ·not-nil as in-nil}
+use mathlib.Core.List.{List, [], List·Memᴰ as In, List·Memᴰ·not-nil as in-nil}
 use Prim.Native.Nat.{ℕ, zero, suc, _≤_}
 use native.Mathlib.Omega.{arith}
 use native.Mathlib.Decide.{ℕ-discrete, decLt}

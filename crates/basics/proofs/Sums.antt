@@ -1,13 +1,12 @@
 -- The equations of a sum of products that a loop over components uses: one step, and the end. Assumes nothing.
 use mathlib.Core.List.{List, [], _∷_}
-use lib.Ieee.{Float, Format, add, mul}
+use lib.Ieee.{Float, Format, add, mul, nan}
 use Rattle.basics.specs.Sum.{sumFrom, products}
 use mathlib.Core.Path.{_≡_, refl, ap}
 use Prim.Native.Nat.{ℕ, _+_, _≤_, _<_}
 use native.Mathlib.Numerals.{add-one}
 use lib.ListN.{length, getD, take, drop, drop-of-length-le}
 use lib.Seq.{drop-cons, take-nil}
-use lib.Ieee.{nan}
 
 -- the sum of products from component i on takes one step
 pub sum-step : (f : Format) (total : Float) (xs ys : List Float) (i : ℕ) → i < length xs → i < length ys

@@ -1,7 +1,6 @@
 -- Lists of node numbers: membership as a test, lists with no repeats, lists of numbers below n.
 use mathlib.Core.Bool.{Bool, false, _||_}
-use mathlib.Core.List.{List, [], _∷_}
-use mathlib.Core.List.{List·Memᴰ as In}
+use mathlib.Core.List.{List, [], _∷_, List·Memᴰ as In}
 use Prim.Native.Nat.{ℕ, _<_}
 use lib.Dec.{eqb}
 

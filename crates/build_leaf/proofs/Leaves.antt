@@ -1,7 +1,6 @@
 -- Leaf after leaf: where each stands among the nodes, and the rows after the first k of them; and the hyperplanes. Assumes nothing.
 use mathlib.Core.Path.{_≡_, refl, sym, ap, ap₂, subst, _∙_}
-use mathlib.Core.List.{List, [], _∷_, _++_, map, flatten, append-nil, append-assoc}
-use mathlib.Core.List.{List·Memᴰ as In}
+use mathlib.Core.List.{List, [], _∷_, _++_, map, flatten, append-nil, append-assoc, List·Memᴰ as In}
 use Prim.Native.Nat.{ℕ, zero, suc, _+_, _*_, _/_, _≤_, _<_}
 use native.Mathlib.Nat.{mul-le-mul}
 use native.Mathlib.Omega.{arith}

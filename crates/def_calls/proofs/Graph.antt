@@ -1,8 +1,7 @@
 -- What the graph of parts 1 to 7 promises for one vector at least: rows that fit, every node reached from the entry node, bridges that are fewer
 -- than the nodes and two entries each; and what a search along its lists promises. Assumes nothing.
 use mathlib.Core.Path.{_≡_, subst}
-use mathlib.Core.List.{List, [], _∷_}
-use mathlib.Core.List.{List·Memᴰ as In}
+use mathlib.Core.List.{List, [], _∷_, List·Memᴰ as In}
 use Prim.Native.Nat.{ℕ, suc, _+_, _*_, _≤_, _<_}
 use native.Mathlib.Omega.{arith}
 use lib.ListN.{length, getD}

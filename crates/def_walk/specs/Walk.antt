@@ -1,8 +1,7 @@
 -- A search along out-edges (scope, parts 7 and 8). A node's list is `list i`. What is seen is listed latest first, so that its length counts it, and
 -- the frontier's next node comes first.
 use mathlib.Core.Bool.{Bool}
-use mathlib.Core.List.{List, [], _∷_}
-use mathlib.Core.List.{List·Memᴰ as In}
+use mathlib.Core.List.{List, [], _∷_, List·Memᴰ as In}
 use Prim.Native.Nat.{ℕ, zero, suc}
 use Rattle.basics.specs.Choice.{pick}
 use Rattle.basics.specs.Nodes.{has}

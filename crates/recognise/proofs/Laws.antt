@@ -3,8 +3,7 @@
 use mathlib.Core.Path.{_≡_, refl, sym, _∙_}
 use mathlib.Core.Logic.{⊎-elim}
 use mathlib.Core.Bool.{not}
-use mathlib.Core.List.{List, [], _∷_, _++_, reverse}
-use mathlib.Core.List.{List·Memᴰ as In, List·Memᴰ·head as here, List·Memᴰ·not-nil as in-nil}
+use mathlib.Core.List.{List, [], _∷_, _++_, reverse, List·Memᴰ as In, List·Memᴰ·head as here, List·Memᴰ·not-nil as in-nil}
 use Prim.Native.Nat.{ℕ, _<_}
 use native.Mathlib.Omega.{arith}
 use lib.Dec.{eqb, eqb→eq}

@@ -2,12 +2,11 @@
 -- stand at the front of an array, and both outputs are written as far as nodes were found. Assumes nothing.
 use mathlib.Core.Path.{_≡_, refl, sym, ap, ap₂, subst, _∙_}
 use mathlib.Core.Logic.{⊎-elim}
-use mathlib.Core.List.{List, [], _∷_, _++_, map, append-assoc}
-use mathlib.Core.List.{List·Memᴰ as In, List·Memᴰ·head as here, List·Memᴰ·tail as there}
+use mathlib.Core.List.{List, [], _∷_, _++_, map, append-assoc, List·Memᴰ as In, List·Memᴰ·head as here, List·Memᴰ·tail as there}
 use Prim.Native.Nat.{ℕ, _-_, _*_, _≤_, min}
 use native.Mathlib.Omega.{arith}
 use lib.Dec.{ltb, lt→ltb}
-use lib.ListN.{length, getD, take, drop, length-append, length-drop, length-map, take-append-drop}
+use lib.ListN.{length, getD, take, drop, length-append, length-map, take-append-drop}
 use lib.Seq.{length-take-le, take-at, drop-append-le}
 use lib.Ieee.{Float}
 use borrow.Author.Tests.{ltb-false}
@@ -19,7 +18,7 @@ use Rattle.basics.proofs.Tests.{both-false}
 use Rattle.sorting.specs.Sorting.{sortBy}
 use Rattle.sorting.proofs.Laws.{in-sort}
 use Rattle.store.specs.declared.Lent.the-variants.{Scratch}
-use Rattle.store.specs.Layout.{word, dimensionAt, nodesAt, degreeAt, entryAt, bridgeCountAt, capacityAt, rowsAt, rowSize, bridgeSize, scratchWords, scratchFloats}
+use Rattle.store.specs.Layout.{word, dimensionAt, nodesAt, degreeAt, entryAt, bridgeCountAt, capacityAt, rowSize, bridgeSize, scratchWords, scratchFloats}
 use Rattle.store.specs.View.{view, listIn}
 use Rattle.store.proofs.Header.{Built}
 use Rattle.store.proofs.Opened.{Opened, opened}

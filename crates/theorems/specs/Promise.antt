@@ -2,8 +2,7 @@
 -- are proved equal to.
 use mathlib.Core.Path.{_≡_}
 use mathlib.Core.Bool.{false}
-use mathlib.Core.List.{List, [], _∷_, _++_, map}
-use mathlib.Core.List.{List·Memᴰ as In}
+use mathlib.Core.List.{List, [], _∷_, _++_, map, List·Memᴰ as In}
 use Prim.Native.Nat.{ℕ, _+_, _*_, _≤_, _<_, min, max}
 use lib.ListN.{length, getD, drop}
 use lib.Ieee.{Float, binary32}

@@ -1,8 +1,7 @@
 -- What each step of the frontier's code does to the list that its tree stands for. Assumes nothing.
 use mathlib.Core.Path.{_≡_, refl, ap, ap₂, _∙_, subst}
 use mathlib.Core.Bool.{false}
-use mathlib.Core.List.{List, [], _∷_}
-use mathlib.Core.List.{List·Memᴰ·head as here}
+use mathlib.Core.List.{List, [], _∷_, List·Memᴰ·head as here}
 use Prim.Native.Nat.{ℕ, _/_, _≤_, _<_}
 use native.Mathlib.Omega.{arith}
 use native.Mathlib.Decide.{decLt}

@@ -1,8 +1,7 @@
 -- What a walk keeps between its steps (scope, part 8), in words and in a struct: the frontier, the held, the cutoff and the first few of what is
 -- scored.
 use mathlib.Core.Path.{_≡_}
-use mathlib.Core.List.{List, [], _∷_, _++_, map, reverse}
-use mathlib.Core.List.{List·Memᴰ as In}
+use mathlib.Core.List.{List, [], _∷_, _++_, map, reverse, List·Memᴰ as In}
 use Prim.Native.Nat.{ℕ, _+_, _-_, _*_, _≤_, _<_, min}
 use lib.ListN.{length, take, drop}
 use lib.Ieee.{Float}

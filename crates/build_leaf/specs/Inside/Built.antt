@@ -1,8 +1,7 @@
 -- Leaf lists in words (scope, part 5): what the code leaves of rows as a build makes them, each a count and D entries, zero past the count. Each
 -- says: whatever rows the words were, the words are now those that the definition makes of them, where the sizes fit.
 use mathlib.Core.Path.{_≡_}
-use mathlib.Core.List.{List, _++_, map, flatten}
-use mathlib.Core.List.{List·Memᴰ as In}
+use mathlib.Core.List.{List, _++_, map, flatten, List·Memᴰ as In}
 use Prim.Native.Nat.{ℕ, _+_, _*_, _≤_, _<_}
 use lib.ListN.{length, getD}
 use lib.Ieee.{Float}

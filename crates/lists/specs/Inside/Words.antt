@@ -1,10 +1,9 @@
 -- Lists in words (scope, Records): the rows one after the other in a slice of words, each a count and D entries, and its bridges. A build writes rows
 -- whole, zero past their counts; a reader takes the entries that a row's first word counts.
 use mathlib.Core.Path.{_≡_}
-use mathlib.Core.List.{List, map, flatten}
+use mathlib.Core.List.{List, map, flatten, []}
 use Prim.Native.Nat.{ℕ, _*_, _/_, _≤_}
 use lib.ListN.{length, getD, take, drop}
-use mathlib.Core.List.{[]}
 use Rattle.basics.specs.Graph.{Bridge}
 use Rattle.basics.specs.Lists.{pieces}
 use Rattle.store.specs.Layout.{rowSize, bridgeSize}

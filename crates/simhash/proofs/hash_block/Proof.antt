@@ -1,12 +1,11 @@
 -- Where the residual is longer than the block's planes its part of their length is passed on, and what is cut off plays no part. Assumes nothing.
 use native.Mathlib.Omega.{arith}
 use mathlib.Core.Path.{sym, _∙_}
-use lib.ListN.{length-take}
+use lib.ListN.{length-take, length, take}
 use lib.Seq.{length-take-le}
 use Rattle.simhash.proofs.Sums.{cut-side}
 use Rattle.simhash.specs.Inside.Blocks.{sideOf}
 use Rattle.simhash.proofs.Bits.{bits-same}
-use lib.ListN.{length, take}
 use Prim.Native.Nat.{_/_}
 use borrow.Author.Needs.{needs}
 use Rattle.simhash.proofs.hash_block.Statement.{statement}

@@ -3,8 +3,7 @@
 -- begins with. Assumes nothing.
 use mathlib.Core.Path.{_≡_, sym, ap, ap₂, _∙_, subst}
 use mathlib.Core.Bool.{true, false, not, _||_}
-use mathlib.Core.List.{List, []}
-use mathlib.Core.List.{List·Memᴰ as In}
+use mathlib.Core.List.{List, [], List·Memᴰ as In}
 use Prim.Native.Nat.{ℕ, _≤_, _<_}
 use native.Mathlib.Omega.{arith}
 use lib.ListN.{length, getD}

@@ -4,8 +4,7 @@ use mathlib.Core.Bool.{false}
 use mathlib.Core.List.{List, [], _∷_}
 use Prim.Native.Nat.{ℕ, zero, suc, _<_}
 use lib.ListN.{length, getD, List·getD-eq-default}
-use lib.Ieee.{Float, nan, inf}
-use lib.Ieee.{ofBits, nanBits}
+use lib.Ieee.{Float, nan, inf, ofBits, nanBits}
 use native.Mathlib.Omega.{arith}
 use borrow.Author.Needs.{needs}
 use Rattle.beam_state.proofs.queues.distance_of.Statement.{statement}

@@ -2,7 +2,7 @@
 use borrow.Author.Needs.{needs}
 use native.Mathlib.Omega.{arith}
 use mathlib.Core.Path.{_≡_, refl, _∙_}
-use Prim.Native.Nat.{ℕ, _+_, _-_, _≤_}
+use Prim.Native.Nat.{_+_, _-_, _≤_}
 use lib.ListN.{length}
 use Rattle.build_leaf.specs.Inside.Candidates.{Offered}
 use Rattle.build_leaf.proofs.leaf_candidates.Offers.{offered-none, offered-more}

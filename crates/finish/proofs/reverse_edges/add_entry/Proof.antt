@@ -4,9 +4,8 @@ use borrow.Author.Needs.{needs}
 use mathlib.Core.Path.{_≡_, sym, ap, _∙_}
 use mathlib.Core.List.{List}
 use Prim.Native.Nat.{ℕ, _+_, _-_}
-use lib.ListN.{getD, take, drop}
+use lib.ListN.{getD, take, drop, length-set}
 use mathlib.Core.Bool.{Bool}
-use lib.ListN.{length-set}
 use Rattle.basics.specs.Nodes.{has}
 use Rattle.finish.proofs.reverse_edges.Entry.{entry-full, entry-had, entry-new}
 use Rattle.finish.proofs.reverse_edges.add_entry.Statement.{statement}

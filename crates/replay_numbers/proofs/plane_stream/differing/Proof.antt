@@ -2,7 +2,6 @@
 use Prim.Native.Nat.{_≤_, _-_}
 use lib.ListN.{length}
 use borrow.Author.Needs.{needs}
-use native.Mathlib.Omega.{arith}
 use Rattle.replay_numbers.proofs.plane_stream.differing.Statement.{statement}
 use Rattle.replay_numbers.proofs.plane_stream.differing.Tie as tie
 
