@@ -16,8 +16,7 @@ abbrev μ-loop : tie.MeasureT-loop
 
 add-at : tie.Need-add-at Inv-loop μ-loop
 add-at c =
-    let taken = c .before .before .before .before .before .before .before .before in
-    let at-end = taken .before .before .before .before .before .before .before .before in
+    let at-end = c .before .before .before .before .before .before .before .before .before .before .before .before .before .before .before .before in
     let from = at-end .line-end .ensures .0 in
     let within = at-end .line-end .ensures .1 in
     let inside = at-end .before .loop-test .taken in
