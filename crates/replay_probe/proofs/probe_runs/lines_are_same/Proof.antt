@@ -14,9 +14,13 @@ abbrev μ-loop : tie.MeasureT-loop
 μ-loop input output words₀ floats₀ out₀ state₀ seen₀ at₀ words floats out state seen at =
     length input - at
 
+-- the place after line_end, from the one after take_line
+abbrev ended : tie.After-take-line Inv-loop μ-loop → tie.After-line-end Inv-loop μ-loop
+ended c = c .before .before .before .before .before
+
 add-at : tie.Need-add-at Inv-loop μ-loop
 add-at c =
-    let at-end = c .before .before .before .before .before .before .before .before .before .before .before .before .before .before .before .before in
+    let at-end = ended (c .before .before .before .before .before .before .before .before .before .before .before) in
     let from = at-end .line-end .ensures .0 in
     let within = at-end .line-end .ensures .1 in
     let inside = at-end .before .loop-test .taken in
