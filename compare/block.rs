@@ -34,7 +34,7 @@ impl<T: Copy + PartialEq + From<u32>> Block<T> {
 }
 
 impl<T: Copy + PartialEq> Block<T> {
-    /// So many elements without a content, which may not be asked for.
+    /// Elements that have no content; it may not be asked for.
     pub fn undefined(length: usize) -> Self {
         Block {
             all: Vec::with_capacity(length),

@@ -74,7 +74,7 @@ fn decimal(text: &str) -> Option<u32> {
         .then(|| text.parse().ok())?
 }
 
-/// So many hexadecimal digits in lower case and nothing else.
+/// This number of hexadecimal digits in lower case and nothing else.
 fn hexadecimal(text: &str, digits: usize) -> Option<u64> {
     let good = text.len() == digits && text.bytes().all(|b| matches!(b, b'0'..=b'9' | b'a'..=b'f'));
     good.then(|| u64::from_str_radix(text, 16).ok())?

@@ -159,7 +159,7 @@ class Declaration:
         return found - set(parts(self.name)) - set("(){},;.")
 
     def number(self):
-        """The number, if the declaration only gives a number a name."""
+        """The number, if the declaration only names a number."""
         if self.kind == "definition" and self.body[:2] == [self.name, "="] and len(self.body) == 3 and NUMBER.fullmatch(self.body[2]):
             return self.body[2] if self.head[-2:] == [":", "ℕ"] else None
         return None
@@ -450,7 +450,7 @@ def constant_end(text, at):
 
 
 def read_rust_use(file, path):
-    """use a::b::Type is an import; use a::b, of a module, gives the paths b::x a meaning and no word alone."""
+    """use a::b::Type is an import; use a::b, of a module, makes b::x a path and is no word alone."""
     words = path.replace(" ", "").replace("\n", "")
     group = re.fullmatch(r"(.*)::\{(.*)\}", words)
     for one in [f"{group[1]}::{x}" for x in group[2].split(",") if x] if group else [words]:

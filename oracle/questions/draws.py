@@ -90,7 +90,7 @@ def floats(bits):
 
 
 def counted(bits):
-    """tokens of a count and so many f32s"""
+    """tokens of a count and of that number of f32s"""
     return [f'{len(bits):x}'] + floats(bits)
 
 

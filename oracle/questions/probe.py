@@ -49,7 +49,7 @@ def good():
 
 
 def evening():
-    """a household's evening, which examples/README.md tells: features that a reader can follow"""
+    """a household's evening, which examples/README.md explains: features that a reader can follow"""
     def features(*xs):
         return ','.join(floats(map(single, xs)))
 

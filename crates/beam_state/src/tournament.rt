@@ -49,7 +49,7 @@ fn rank_at(tree: &[u32], p: usize) -> u64
     rank(tree[2 * p + 1], tree[2 * p])
 }
 
-// Gives pair p a rank.
+// The rank of pair p becomes this one.
 fn lay(tree: &mut [u32], p: usize, rank: u64)
     requires { ⌜ 2 * p + 1 < length (now tree) ⌝ }
     ensures { λ _. ⌜ now (tree .exit) ≡ withPair (now (tree .entry)) p rank ⌝ }

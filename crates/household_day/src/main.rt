@@ -154,7 +154,7 @@ fn write_count(count: Household) {
     }
 }
 
-// Tells the count of one day over the first `sightings` of the two lists.
+// Reports the count of one day over the first `sightings` of the two lists.
 fn tell_day(day: u64, seconds: &[u64], docs: &[u32], sightings: usize) {
     if seconds.len() < sightings {
         return;

@@ -17,7 +17,7 @@ use words::ids::Node;
 const WORDS: usize = 2;
 
 // Marks a node, and puts it behind the `count` fresh ones that are there; it stays there as one of them if it
-// was not marked. Gives how many there are then. Which nodes are fresh cannot be foretold, so there is no
+// was not marked. Returns how many there are then. Which nodes are fresh cannot be foretold, so there is no
 // branch on it.
 fn visit(words: &mut [u32], size: usize, count: usize, node: u32) -> usize
     requires { ⌜ freshEnd size ≤ length (now words) ⌝ }
