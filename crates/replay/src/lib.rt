@@ -226,11 +226,10 @@ pub fn words(tokens: &[u64], from: usize, n: usize, out: &mut [u32]) -> usize
     count
 }
 
-// A whole number that an f32 holds.
-pub fn float_of(x: u64) -> f32
-    requires { ⌜ x ≤ 16777216 ⌝ }
-{
-    x as f32
+// A whole number up to 2^24 as a float, which holds each of them; a larger one counts as 2^24.
+pub fn float_of(x: u64) -> f32 {
+    let held = slices::lesser_u64(x, 16777216);
+    held as f32
 }
 
 // The first n, or all if there are fewer.

@@ -3,16 +3,13 @@
 //
 // A number of the stream is (h − 2^30)/2^30, rounded once: the size of h − 2^30 is split so that both parts
 // and their products are exact, and their sum alone rounds.
-ghost use Prim.Native.Nat.{_≤_};
 use libc::STDOUT_FILENO;
 use random::hyperplanes;
 use random::lcg;
 use words::bits;
 
 // a/2^30, rounded once, for an a of at most 2^30.
-fn fraction(a: u64) -> f32
-    requires { ⌜ a ≤ 1073741824 ⌝ }
-{
+fn fraction(a: u64) -> f32 {
     (replay::float_of(a / 4096) * 4096.0 + replay::float_of(a % 4096)) / 1073741824.0
 }
 
