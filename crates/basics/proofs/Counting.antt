@@ -76,21 +76,29 @@ shorter (x ∷ l) m d s =
     let r = shorter l (without x m) (d .1) (λ z i. in-without x (λ e. d .0 (in-cast (sym e) i)) (s z (there i))) in
     omega arith
 
+-- as long as that one, it holds all of them
+pub all-in : (l m : List ℕ) → NoDup l → ((x : ℕ) → In x l → In x m) → length m ≤ length l → {y : ℕ} → In y m → In y l
+all-in l m d s h {y} i = elim (in-or-not y l) [ inl k ↦ k | inr f ↦ absurd (let r = shorter (y ∷ l) m (f, d) within in omega arith) ]
+  where
+    within : (x : ℕ) → In x (y ∷ l) → In x m
+    within x (here e) = in-cast e i
+    within x (there k) = s x k
+
 unfoldable pub upTo : ℕ → List ℕ
 upTo zero = []
 upTo (suc n) = n ∷ upTo n
 
-length-upTo : (n : ℕ) → length (upTo n) ≡ n
+pub length-upTo : (n : ℕ) → length (upTo n) ≡ n
 unfolding upTo
 length-upTo zero = refl
 length-upTo (suc n) = ap suc (length-upTo n)
 
-in-upTo : (n x : ℕ) → x < n → In x (upTo n)
+pub in-upTo : (n x : ℕ) → x < n → In x (upTo n)
 unfolding upTo
 in-upTo zero x h = absurd (omega arith)
 in-upTo (suc n) x h = elim (decLt x n) [ yes k ↦ there (in-upTo n x k) | no k ↦ here {x = n} (omega arith) ]
 
-upTo-below : (n x : ℕ) → In x (upTo n) → x < n
+pub upTo-below : (n x : ℕ) → In x (upTo n) → x < n
 unfolding upTo
 upTo-below zero x m = absurd (in-nil m)
 upTo-below (suc n) x m = elim (in-cons m) [ inl q ↦ omega arith | inr k ↦ let r = upTo-below n x k in omega arith ]
@@ -103,14 +111,10 @@ at-most n l d b =
 
 -- n of them are all
 pub all-of : (n : ℕ) (l : List ℕ) → NoDup l → Below n l → n ≤ length l → (x : ℕ) → x < n → In x l
-all-of n l d b h x k = elim (in-or-not x l) [ inl m ↦ m | inr f ↦ absurd (let r = at-most n (x ∷ l) (f, d) below in omega arith) ]
-  where
-    below : Below n (x ∷ l)
-    below y (here e) = omega arith
-    below y (there m) = b y m
+all-of n l d b h x k = all-in l (upTo n) d (λ y i. in-upTo n y (b y i)) (omega (arith, length-upTo n)) (in-upTo n x k)
 
 -- a list that holds every node below n has n elements at least
-nodup-upTo : (n : ℕ) → NoDup (upTo n)
+pub nodup-upTo : (n : ℕ) → NoDup (upTo n)
 unfolding upTo
 nodup-upTo zero = tt
 nodup-upTo (suc n) = ((λ m. let h = upTo-below n n m in omega arith), nodup-upTo n)

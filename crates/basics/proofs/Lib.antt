@@ -8,5 +8,6 @@ pub mod Refusals
 pub mod Sums
 pub mod Tests
 pub mod Members
+pub mod Keeping
 pub mod Rows
 pub mod Examples

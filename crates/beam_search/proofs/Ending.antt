@@ -13,10 +13,12 @@ use lib.ListN.{length, getD, take, drop, set, replicate, length-take, length-dro
 use lib.Seq.{length-take-le, take-all, take-suc, take-nil, take-at}
 use lib.Ieee.{Float, binary32, fits, inf}
 use Rattle.basics.specs.Choice.{pick, pick-true}
+use Rattle.basics.specs.Lists.{keep}
 use Rattle.basics.specs.Nodes.{has}
 use Rattle.basics.proofs.Loops.{front-set, front-length}
 use Rattle.basics.proofs.Tests.{both-false}
 use Rattle.basics.proofs.Counting.{at-most}
+use Rattle.basics.proofs.Keeping.{in-keep, keep-few}
 use Rattle.sorting.specs.Sorting.{sortBy}
 use Rattle.sorting.specs.Inside.Pairs.{both}
 use Rattle.sorting.proofs.Laws.{length-sort, first-in}
@@ -30,7 +32,7 @@ use Rattle.beam_state.specs.Inside.Queues.{frontRank}
 use Rattle.beam_state.proofs.queues.Laws.{empty-queue}
 use Rattle.beam_state.proofs.queues.Holding.{none-held}
 use Rattle.neighbours.specs.Inside.Gathering.{freshEnd, GatheringAll}
-use Rattle.beam_state.specs.Inside.State.{part, frontierAt, heldAt, keysAt, wordsFor, heldEnd, frontierPart, heldPart, keysPart, Memory, AnswerHeld, Standing}
+use Rattle.beam_state.specs.Inside.State.{part, frontierAt, heldAt, keysAt, wordsFor, heldEnd, frontierPart, heldPart, keysPart, liveBy, Memory, AnswerHeld, Standing}
 use Rattle.beam_state.specs.declared.Walk.{Walk}
 use Rattle.beam_state.proofs.Parts.{lay, lay-length, part-here, part-before, take-before}
 use Rattle.beam_search.specs.declared.Sizes.{Sizes}
@@ -143,21 +145,23 @@ module _ (n b : ℕ) (words x y z : List ℕ) (long : wordsFor n ≤ length word
 abbrev pub noWalk : Walk
 noWalk = record { scored = 0; held = 0; cutoff = inf false; kept = 0 }
 
-none-standing : (far : ℕ → Float) (n b : ℕ) (words : List ℕ) (floats : List Float) (nodes : List ℕ) → n ≤ 1024 → Prepared n b words
-    → Standing far n b nodes (record { words = words; floats = floats; nodes = nodes; walk = noWalk }) [] []
-unfolding heldOf cutoffOf sortBy
-none-standing far n b words floats nodes few p = record {
+none-standing : (far : ℕ → Float) (live : ℕ → Bool) (n b : ℕ) (words : List ℕ) (floats : List Float) (nodes : List ℕ) → n ≤ 1024 → Prepared n b words
+    → Standing far live n b nodes (record { words = words; floats = floats; nodes = nodes; walk = noWalk }) [] []
+unfolding heldOf cutoffOf sortBy keep
+none-standing far live n b words floats nodes few p = record {
   frontier = empty-queue (frontRank far) n (frontierPart n words) (p .front);
-  held = none-held far (min b n) (heldPart n b words) (omega arith) (p .held);
-  held-count = refl;
-  cutoff-is = refl;
-  answer = record {
-    pairs-are = none-kept (both (keysPart n words) nodes) (keysPart n words) nodes;
-    nodes-are = sym (ap (λ (l : List ℕ). l ++ nodes) (take-nil (both (keysPart n words) nodes)));
-    kept-is = omega arith;
-    long = refl;
+  scored = record {
+    held = none-held far (min b n) (heldPart n b words) (omega arith) (p .held);
+    held-count = refl;
+    cutoff-is = refl;
+    answer = record {
+      pairs-are = none-kept (both (keysPart n words) nodes) (keysPart n words) nodes;
+      nodes-are = sym (ap (λ (l : List ℕ). l ++ nodes) (take-nil (both (keysPart n words) nodes)));
+      kept-is = omega arith;
+      long = refl;
+    };
+    scored-is = refl;
   };
-  scored-is = refl;
   once = tt;
   inside = λ x m. absurd (in-nil m);
   sub = λ x m. m;
@@ -165,18 +169,18 @@ none-standing far n b words floats nodes few p = record {
 
 -- the entry node alone is expanded to from nothing
 first-one : (far : ℕ → Float) (n e : ℕ) → e < n → expand (toFrontier far) (record { seen = []; front = [] }) (within n (e ∷ [])) ≡ record { seen = e ∷ []; front = e ∷ [] }
-unfolding within expand visit has pick toFrontier insertIn
+unfolding keep expand visit has pick toFrontier insertIn
 first-one far n e h = ap (λ (l : List ℕ). expand (toFrontier far) (record { seen = []; front = [] }) l) (pick-true (e ∷ []) [] (lt-ltb e n h))
 
-pub started : (sizes : Sizes) (far : ℕ → Float) (e count : ℕ) (words between : List ℕ) (floats : List Float) (nodes : List ℕ) (m′ : Memory) → ((v : ℕ) → T (fits binary32 (far v)))
-    → freshEnd (sizes .n) ≤ length words → Prepared (sizes .n) (sizes .places) words → GatheringAll (sizes .n) (e ∷ []) words between count
-    → TakingIn sizes far count (record { words = between; floats = floats; nodes = nodes; walk = noWalk }) m′
-    → take (frontierAt (sizes .n)) (m′ .words) ≡ take (frontierAt (sizes .n)) between → Starting sizes far e floats nodes m′
+pub started : (sizes : Sizes) (far : ℕ → Float) (live : ℕ → Bool) (count : ℕ) (words between : List ℕ) (floats : List Float) (nodes : List ℕ) (m′ : Memory) → ((v : ℕ) → T (fits binary32 (far v)))
+    → freshEnd (sizes .n) ≤ length words → Prepared (sizes .n) (sizes .places) words → GatheringAll (sizes .n) (sizes .entry .0 ∷ []) words between count
+    → TakingIn sizes far live count (record { words = between; floats = floats; nodes = nodes; walk = noWalk }) m′
+    → take (frontierAt (sizes .n)) (m′ .words) ≡ take (frontierAt (sizes .n)) between → Starting sizes far live floats nodes m′
 unfolding has pick
-started sizes far e count words between floats nodes m′ f32s long p gather taking frame h few room =
-    subst (λ (s : State). Between sizes far nodes m′ (s .seen) (s .front)) (first-one far (sizes .n) e h)
-    (gathered-in sizes far count (e ∷ []) between (record { words = words; floats = floats; nodes = nodes; walk = noWalk }) m′ nodes (record { seen = []; front = [] }) long gather taking frame
-    (p .marks) (none-standing far (sizes .n) (sizes .places) words floats nodes few p) (record { few = few; f32s = f32s; there = λ v i. absurd (in-nil i) }) room)
+started sizes far live count words between floats nodes m′ f32s long p gather taking frame h few room =
+    subst (λ (s : State). Between sizes far live nodes m′ (s .seen) (s .front)) (first-one far (sizes .n) (sizes .entry .0) h)
+    (gathered-in sizes far live count (sizes .entry .0 ∷ []) between (record { words = words; floats = floats; nodes = nodes; walk = noWalk }) m′ nodes (record { seen = []; front = [] }) long gather taking frame
+    (p .marks) (none-standing far live (sizes .n) (sizes .places) words floats nodes few p) (record { few = few; f32s = f32s; there = λ v i. absurd (in-nil i) }) room)
 
 -- ---- ended
 
@@ -184,8 +188,8 @@ map-same : (f g : ℕ → Float) (l : List ℕ) → ((x : ℕ) → In x l → f 
 map-same f g [] h = refl
 map-same f g (x ∷ l) h = ap₂ (λ (y : Float) (r : List Float). y ∷ r) (h x (here refl)) (map-same f g l (λ y m. h y (there m)))
 
-module _ (sizes : Sizes) (reads : Reads) (e : ℕ) (nodes : List ℕ) (m : Memory) (front : List ℕ) (distances distances′ : List Float) (count : ℕ)
-    (t : Between sizes (farOf sizes reads) nodes m (walkOn sizes reads (sizes .n) (e ∷ []) (e ∷ [])) front) (long : wordsFor (sizes .n) ≤ length (m .words)) (few : sizes .n ≤ 1024)
+module _ (sizes : Sizes) (reads : Reads) (nodes : List ℕ) (m : Memory) (front : List ℕ) (distances distances′ : List Float) (count : ℕ)
+    (t : Between sizes (farOf sizes reads) (liveBy (reads .withdrawn)) nodes m (walkOn sizes reads (sizes .n) (sizes .entry .0 ∷ []) (sizes .entry .0 ∷ [])) front) (long : wordsFor (sizes .n) ≤ length (m .words)) (few : sizes .n ≤ 1024)
     (room : length nodes ≤ length distances) (put : PutDistances (m .walk .kept) (m .nodes) (m .floats) distances distances′) (count-is : count ≡ min (m .walk .kept) 4294967295) where
   abbrev n : ℕ
   n = sizes .n
@@ -197,13 +201,17 @@ module _ (sizes : Sizes) (reads : Reads) (e : ℕ) (nodes : List ℕ) (m : Memor
   r = m .walk
 
   abbrev seen : List ℕ
-  seen = walkOn sizes reads n (e ∷ []) (e ∷ [])
+  seen = walkOn sizes reads n (sizes .entry .0 ∷ []) (sizes .entry .0 ∷ [])
 
-  a : AnswerHeld far nodes (keysPart n (m .words)) (m .nodes) (r .kept) seen
-  a = t .standing .answer
+  -- those of them that are live
+  abbrev scored : List ℕ
+  scored = keep (liveBy (reads .withdrawn)) seen
 
-  seen-few : length seen ≤ n
-  seen-few = at-most n seen (t .standing .once) (t .standing .inside)
+  a : AnswerHeld far nodes (keysPart n (m .words)) (m .nodes) (r .kept) scored
+  a = t .standing .scored .answer
+
+  scored-few : length scored ≤ n
+  scored-few = omega (arith, keep-few (liveBy (reads .withdrawn)) seen, at-most n seen (t .standing .once) (t .standing .inside))
 
   keys-length : length (keysPart n (m .words)) ≡ n
   keys-length =
@@ -211,10 +219,10 @@ module _ (sizes : Sizes) (reads : Reads) (e : ℕ) (nodes : List ℕ) (m : Memor
       length-take-le (wordsFor n - keysAt n) (drop (keysAt n) (m .words)) (omega (arith, length-drop (keysAt n) (m .words))) ∙ s
 
   abbrev sorted : List ℕ
-  sorted = sortBy (keyAt far) (reverse seen)
+  sorted = sortBy (keyAt far) (reverse scored)
 
-  sorted-length : length sorted ≡ length seen
-  sorted-length = length-sort (keyAt far) (reverse seen) ∙ length-reverse seen
+  sorted-length : length sorted ≡ length scored
+  sorted-length = length-sort (keyAt far) (reverse scored) ∙ length-reverse scored
 
   abbrev most : ℕ
   most = both (keysPart n (m .words)) (m .nodes)
@@ -225,18 +233,18 @@ module _ (sizes : Sizes) (reads : Reads) (e : ℕ) (nodes : List ℕ) (m : Memor
     | no k ↦ let s : min i j ≡ j = omega arith in ap (λ (x : ℕ). take x l) s
   ]
 
-  first-is : take most sorted ≡ answerOf far (length nodes) (reverse seen)
+  first-is : take most sorted ≡ answerOf far (length nodes) (reverse scored)
   unfolding answerOf
-  first-is = ap₂ (λ (i : ℕ) (j : ℕ). take (min i j) sorted) keys-length (a .long) ∙ take-min n (length nodes) sorted (omega (arith, sorted-length, seen-few))
+  first-is = ap₂ (λ (i : ℕ) (j : ℕ). take (min i j) sorted) keys-length (a .long) ∙ take-min n (length nodes) sorted (omega (arith, sorted-length, scored-few))
 
   abbrev found : List ℕ
-  found = answerOf far (length nodes) (reverse seen)
+  found = answerOf far (length nodes) (reverse scored)
 
   found-length : length found ≡ r .kept
   found-length = ap length (sym first-is) ∙ length-take most sorted ∙ ap (min most) sorted-length ∙ sym (a .kept-is)
 
   kept-few : (r .kept ≤ n) × (r .kept ≤ length nodes)
-  kept-few = (omega (arith, a .kept-is, seen-few), omega (arith, a .kept-is, a .long))
+  kept-few = (omega (arith, a .kept-is, scored-few), omega (arith, a .kept-is, a .long))
 
   nodes-is : m .nodes ≡ found ++ drop (r .kept) nodes
   nodes-is = a .nodes-are ∙ ap (λ (l : List ℕ). l ++ drop (r .kept) nodes) first-is
@@ -246,14 +254,14 @@ module _ (sizes : Sizes) (reads : Reads) (e : ℕ) (nodes : List ℕ) (m : Memor
 
   found-in : (x : ℕ) → In x found → In x seen
   unfolding answerOf
-  found-in x i = in-reverse seen (first-in (keyAt far) (length nodes) (reverse seen) i)
+  found-in x i = in-keep (liveBy (reads .withdrawn)) seen (in-reverse scored (first-in (keyAt far) (length nodes) (reverse scored) i)) .1
 
-  pub searched : Searched far (answerOf far (length nodes) (scoredBy sizes e reads)) (scoredBy sizes e reads) nodes (m .nodes) distances distances′
+  pub searched : Searched far (answerOf far (length nodes) (scoredBy sizes reads)) (scoredBy sizes reads) nodes (m .nodes) distances distances′
       (record { count = count; scored = r .scored })
   unfolding beamSearch walked
   searched = record {
     count-is = omega (arith, kept-few .0, found-length);
-    scored-is = t .standing .scored-is ∙ sym (length-reverse seen);
+    scored-is = t .standing .scored .scored-is ∙ sym (length-reverse scored);
     nodes-are = nodes-is ∙ ap (λ (k : ℕ). found ++ drop k nodes) (sym found-length);
     distances-are =
         put (omega (arith, kept-few .1, a .long)) (omega (arith, kept-few .1))

@@ -1,25 +1,20 @@
 -- A walk that has seen every node sees no more, whatever is left in its frontier. Assumes nothing.
 use mathlib.Core.Path.{_≡_, refl, ap, _∙_}
-use mathlib.Core.Logic.{inl, inr}
 use mathlib.Core.Bool.{Bool}
 use mathlib.Core.List.{List, [], _∷_}
-use mathlib.Core.List.{List·Memᴰ as In, List·Memᴰ·head as here, List·Memᴰ·tail as there, List·Memᴰ·not-nil as in-nil, List·Memᴰ·cases-cons as in-cons}
-use Prim.Native.Nat.{ℕ, zero, suc, _<_}
-use native.Mathlib.Omega.{arith}
+use mathlib.Core.List.{List·Memᴰ as In, List·Memᴰ·head as here, List·Memᴰ·tail as there}
+use Prim.Native.Nat.{ℕ, zero, suc}
 use lib.Dec.{ltb, ltb→lt}
 use Rattle.basics.specs.Choice.{pick, pick-ind, pick-yes}
 use Rattle.basics.specs.Nodes.{has, Below}
 use Rattle.basics.proofs.Counting.{in-has}
+use Rattle.basics.proofs.Keeping.{in-keep}
 use Rattle.def_walk.specs.Walk.{State, visit, expand, walk}
 use Rattle.beam_search.specs.Inside.Search.{within}
 
 -- the entries of a graph's lists are nodes of it
 pub within-below : (n : ℕ) (l : List ℕ) → Below n (within n l)
-unfolding within
-within-below n [] x m = absurd (in-nil m)
-within-below n (v ∷ l) x m =
-    pick-ind (λ (k : List ℕ). In x k → x < n) (ltb v n)
-    (λ t i. elim (in-cons {b = v} {l = within n l} i) [ inl e ↦ omega (arith, ltb→lt v n t) | inr j ↦ within-below n l x j ]) (λ _ i. within-below n l x i) m
+within-below n l x m = ltb→lt x n (in-keep (λ v. ltb v n) l m .0)
 
 -- a list of nodes seen adds nothing
 expand-seen : (push : ℕ → List ℕ → List ℕ) (s : State) (l : List ℕ) → ((v : ℕ) → In v l → In v (s .seen)) → expand push s l ≡ s

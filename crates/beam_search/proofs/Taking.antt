@@ -12,6 +12,7 @@ use lib.Ieee.{Float, inf}
 use lib.Ieee.Bits.{is-true}
 use Rattle.basics.specs.Choice.{pick, pick-ind, pick-no}
 use Rattle.basics.specs.Graph.{listOf}
+use Rattle.basics.specs.Lists.{keep}
 use Rattle.basics.specs.Nodes.{has, NoDup, Below}
 use Rattle.basics.proofs.Counting.{at-most}
 use Rattle.def_walk.specs.Walk.{State, visit, expand}
@@ -22,7 +23,7 @@ use Rattle.neighbours.specs.Inside.Scoring.{scoredAt}
 use Rattle.neighbours.proofs.scoring.Laws.{scored-known, scored-keeps}
 use Rattle.lists.specs.Inside.Words.{rowLists, bridgeList}
 use Rattle.neighbours.specs.Inside.Gathering.{Fresh, visitOne, gatherFresh, freshEnd, FreshIn, GatheringAll, Linked, GatheringList}
-use Rattle.beam_state.specs.Inside.State.{part, frontierAt, heldAt, keysAt, wordsFor, heldEnd, Memory, AnswerHeld, Standing, PushingAll, pushed}
+use Rattle.beam_state.specs.Inside.State.{part, frontierAt, heldAt, keysAt, wordsFor, heldEnd, liveBy, Memory, AnswerHeld, Standing, PushingAll, pushed}
 use Rattle.beam_state.specs.declared.Walk.{Walk}
 use Rattle.beam_state.proofs.Parts.{part-behind}
 use Rattle.beam_state.proofs.Pushed.{pushed-append}
@@ -31,17 +32,19 @@ use Rattle.beam_search.specs.Inside.Search.{within, Reads, farOf, listsO
 use Rattle.beam_search.specs.Inside.Steps.{Between, TakenIn, TakingIn}
 
 -- the same state in words that are the same behind marks and fresh nodes, whatever the floats
-standing-behind : {far : ℕ → Float} {n b : ℕ} {nodes₀ nodes : List ℕ} {w : Walk} {seen front : List ℕ} (words words′ : List ℕ) (floats floats′ : List Float)
+standing-behind : {far : ℕ → Float} {live : ℕ → Bool} {n b : ℕ} {nodes₀ nodes : List ℕ} {w : Walk} {seen front : List ℕ} (words words′ : List ℕ) (floats floats′ : List Float)
     → drop (freshEnd n) words′ ≡ drop (freshEnd n) words
-    → Standing far n b nodes₀ (record { words = words; floats = floats; nodes = nodes; walk = w }) seen front
-    → Standing far n b nodes₀ (record { words = words′; floats = floats′; nodes = nodes; walk = w }) seen front
-standing-behind {far} {n} {b} {nodes₀} {nodes} {w} {seen} {front} words words′ floats floats′ same t = record {
+    → Standing far live n b nodes₀ (record { words = words; floats = floats; nodes = nodes; walk = w }) seen front
+    → Standing far live n b nodes₀ (record { words = words′; floats = floats′; nodes = nodes; walk = w }) seen front
+standing-behind {far} {live} {n} {b} {nodes₀} {nodes} {w} {seen} {front} words words′ floats floats′ same t = record {
   frontier = subst (Queue (frontRank far) n front) (moved (frontierAt n) (heldAt n) (omega arith)) (t .frontier);
-  held = subst (Held far (min b n) (heldOf far b seen)) (moved (heldAt n) (heldEnd n b) (omega arith)) (t .held);
-  held-count = t .held-count;
-  cutoff-is = t .cutoff-is;
-  answer = subst (λ (k : List ℕ). AnswerHeld far nodes₀ k nodes (w .kept) seen) (moved (keysAt n) (wordsFor n) (omega arith)) (t .answer);
-  scored-is = t .scored-is;
+  scored = record {
+    held = subst (Held far (min b n) (heldOf far b (keep live seen))) (moved (heldAt n) (heldEnd n b) (omega arith)) (t .scored .held);
+    held-count = t .scored .held-count;
+    cutoff-is = t .scored .cutoff-is;
+    answer = subst (λ (k : List ℕ). AnswerHeld far nodes₀ k nodes (w .kept) (keep live seen)) (moved (keysAt n) (wordsFor n) (omega arith)) (t .scored .answer);
+    scored-is = t .scored .scored-is;
+  };
   once = t .once;
   inside = t .inside;
   sub = t .sub;
@@ -61,11 +64,11 @@ pushed-in far (v ∷ vs) s x m = elim (pushed-in far vs (record { seen = v ∷ s
   | inr i ↦ inr (there i)
 ]
 
-pub taking-in : (sizes : Sizes) (far : ℕ → Float) (count many : ℕ) (m m′ : Memory) → many ≡ min count (sizes .n)
+pub taking-in : (sizes : Sizes) (far : ℕ → Float) (withdrawn : List ℕ) (count many : ℕ) (m m′ : Memory) → many ≡ min count (sizes .n)
     → wordsFor (sizes .n) ≤ length (m .words) → m′ .floats ≡ scoredAt far (take (sizes .n + many - sizes .n) (drop (sizes .n) (m .words))) (m .floats)
     → length (m′ .floats) ≡ length (m .floats)
-    → PushingAll (sizes .n) (sizes .places) many (record { words = m .words; floats = m′ .floats; nodes = m .nodes; walk = m .walk }) m′ → TakingIn sizes far count m m′
-taking-in sizes far count many m m′ mi long score lf push nodes₀ fresh s fi ci cn d below room known t = record {
+    → PushingAll (sizes .n) (sizes .places) many withdrawn (record { words = m .words; floats = m′ .floats; nodes = m .nodes; walk = m .walk }) m′ → TakingIn sizes far (liveBy withdrawn) count m m′
+taking-in sizes far withdrawn count many m m′ mi long score lf push nodes₀ fresh s fi ci cn d below room known t = record {
   standing = push long far nodes₀ fresh s (fi ∙ ap (λ (k : ℕ). take k (drop (sizes .n) (m .words))) (sym all)) (all ∙ ci) (omega arith) d below known′
       (standing-behind (m .words) (m .words) (m .floats) (m′ .floats) refl t);
   known = known′;
@@ -111,7 +114,7 @@ module _ (far : ℕ → Float) (n : ℕ) (s₀ : State) where
       }
 
   expand-alike : (list : List ℕ) (s : State) (g : Fresh) → Alike far s s₀ g → Alike far (expand (toFrontier far) s (within n list)) s₀ (gatherFresh n list g)
-  unfolding expand gatherFresh within visitOne
+  unfolding expand gatherFresh keep visitOne
   expand-alike [] s g a = a
   expand-alike (v ∷ list) s g a =
       pick-ind (λ (l : List ℕ). Alike far (expand (toFrontier far) s l) s₀ (gatherFresh n list (visitOne n v g))) (ltb v n)
@@ -126,7 +129,7 @@ same-mark n v words words′ h same =
     sym (getD-take (frontierAt n) words′ v 0 (omega arith)) ∙ ap (λ (l : List ℕ). getD l v 0) same ∙ getD-take (frontierAt n) words v 0 (omega arith)
 
 -- what is gathered is taken in: marks and all
-module _ (sizes : Sizes) (far : ℕ → Float) (count : ℕ) (list between : List ℕ) (m m′ : Memory) where
+module _ (sizes : Sizes) (far : ℕ → Float) (live : ℕ → Bool) (count : ℕ) (list between : List ℕ) (m m′ : Memory) where
   abbrev n : ℕ
   n = sizes .n
 
@@ -134,14 +137,14 @@ module _ (sizes : Sizes) (far : ℕ → Float) (count : ℕ) (list between : Lis
   abbrev gathered : Memory
   gathered = record { words = between; floats = m .floats; nodes = m .nodes; walk = m .walk }
 
-  pub gathered-in : (nodes₀ : List ℕ) (s : State) → freshEnd n ≤ length (m .words) → GatheringAll n list (m .words) between count → TakingIn sizes far count gathered m′
+  pub gathered-in : (nodes₀ : List ℕ) (s : State) → freshEnd n ≤ length (m .words) → GatheringAll n list (m .words) between count → TakingIn sizes far live count gathered m′
       → take (frontierAt n) (m′ .words) ≡ take (frontierAt n) between → ((v : ℕ) → v < n → getD (m .words) v 0 ≡ pick (has v (s .seen)) 1 0)
-      → Standing far n (sizes .places) nodes₀ m (s .seen) (s .front) → Known far n (s .seen) (m .floats) → n ≤ length (m .floats)
-      → Between sizes far nodes₀ m′ (expand (toFrontier far) s (within n list) .seen) (expand (toFrontier far) s (within n list) .front)
+      → Standing far live n (sizes .places) nodes₀ m (s .seen) (s .front) → Known far n (s .seen) (m .floats) → n ≤ length (m .floats)
+      → Between sizes far live nodes₀ m′ (expand (toFrontier far) s (within n list) .seen) (expand (toFrontier far) s (within n list) .front)
   unfolding pushed
   gathered-in nodes₀ s long gather taking frame marks t known room = record {
     marks = λ v h. same-mark n v between (m′ .words) h frame ∙ got .marks v h ∙ ap (λ (l : List ℕ). pick {X = ℕ} (has v l) 1 0) (sym (like .seen-is));
-    standing = subst (λ (z : State). Standing far n (sizes .places) nodes₀ m′ (z .seen) (z .front)) (like .made) (taken .standing);
+    standing = subst (λ (z : State). Standing far live n (sizes .places) nodes₀ m′ (z .seen) (z .front)) (like .made) (taken .standing);
     known = subst (λ (z : State). Known far n (z .seen) (m′ .floats)) (like .made) (taken .known);
     room = taken .room;
   }
@@ -162,7 +165,7 @@ module _ (sizes : Sizes) (far : ℕ → Float) (count : ℕ) (list between : Lis
       final : all .seen ≡ pushed far (all .fresh) s .seen
       final = sym (ap (λ (z : State). z .seen) (like .made) ∙ like .seen-is)
 
-      taken : TakenIn sizes far nodes₀ m′ (pushed far (all .fresh) s)
+      taken : TakenIn sizes far live nodes₀ m′ (pushed far (all .fresh) s)
       taken = taking nodes₀ (all .fresh) s (sym (got .buffer)) (got .count-is) (omega (arith, at-most n (all .seen) (got .once) (got .inside), got .fewer, got .count-is))
           (subst NoDup final (got .once)) (subst (Below n) final (got .inside)) room known
           (standing-behind (m .words) between (m .floats) (m .floats) (got .behind) t)
@@ -170,14 +173,14 @@ module _ (sizes : Sizes) (far : ℕ → Float) (count : ℕ) (list between : Lis
 -- a node's list looked at, of linked bridges
 abbrev pub Expanding : Sizes → Reads → List ℕ → ℕ → Memory → Memory → Type 0
 Expanding sizes reads links u m m′ =
-    Linked (sizes .n) (reads .bridges) links → u < sizes .n → (nodes₀ seen front : List ℕ) → Between sizes (farOf sizes reads) nodes₀ m seen front
-    → Between sizes (farOf sizes reads) nodes₀ m′ (expand (toFrontier (farOf sizes reads)) (record { seen = seen; front = front }) (listsOf sizes reads u) .seen)
+    Linked (sizes .n) (reads .bridges) links → u < sizes .n → (nodes₀ seen front : List ℕ) → Between sizes (farOf sizes reads) (liveBy (reads .withdrawn)) nodes₀ m seen front
+    → Between sizes (farOf sizes reads) (liveBy (reads .withdrawn)) nodes₀ m′ (expand (toFrontier (farOf sizes reads)) (record { seen = seen; front = front }) (listsOf sizes reads u) .seen)
     (expand (toFrontier (farOf sizes reads)) (record { seen = seen; front = front }) (listsOf sizes reads u) .front)
 
 pub expanding : (sizes : Sizes) (reads : Reads) (links : List ℕ) (u count : ℕ) (between : List ℕ) (m m′ : Memory) → wordsFor (sizes .n) ≤ length (m .words)
     → GatheringList (sizes .n) (sizes .degree) (reads .rows) (reads .bridges) links u (m .words) between count
-    → TakingIn sizes (farOf sizes reads) count (gathered sizes (farOf sizes reads) count [] between m m′) m′
+    → TakingIn sizes (farOf sizes reads) (liveBy (reads .withdrawn)) count (gathered sizes (farOf sizes reads) (liveBy (reads .withdrawn)) count [] between m m′) m′
     → take (frontierAt (sizes .n)) (m′ .words) ≡ take (frontierAt (sizes .n)) between → Expanding sizes reads links u m m′
 expanding sizes reads links u count between m m′ long gather taking frame linked below nodes₀ seen front t =
-    gathered-in sizes (farOf sizes reads) count (listOf (rowLists (sizes .degree) (reads .rows)) (bridgeList (reads .bridges)) u) between m m′ nodes₀ (record { seen = seen; front = front })
+    gathered-in sizes (farOf sizes reads) (liveBy (reads .withdrawn)) count (listOf (rowLists (sizes .degree) (reads .rows)) (bridgeList (reads .bridges)) u) between m m′ nodes₀ (record { seen = seen; front = front })
     (omega arith) (gather linked below) taking frame (t .marks) (t .standing) (t .known) (t .room)

@@ -11,17 +11,20 @@ use lib.ListN.{length, drop, length-drop}
 use lib.Seq.{length-take-le}
 use lib.Ieee.{Float, binary32, mul, lt}
 use Rattle.basics.specs.Choice.{pick, pick-true, pick-false}
+use Rattle.basics.specs.Lists.{keep}
 use Rattle.basics.proofs.Counting.{all-of}
+use Rattle.basics.proofs.Keeping.{keep-few}
 use Rattle.basics.proofs.Tests.{one-true, both-false}
+use Rattle.def_walk.specs.declared.Stops.{Stops}
 use Rattle.def_walk.specs.Walk.{State, expand, walk}
 use Rattle.def_walk.specs.KeepClosest.{heldOf}
-use Rattle.def_walk.specs.Beam.{stopFactor, stopMultiplier, toFrontier, tooFar, tooMany}
+use Rattle.def_walk.specs.Beam.{toFrontier, tooFar, tooMany}
 use Rattle.beam_state.specs.Inside.Queues.{frontRank, Queue, Held, Taken, Popping}
 use Rattle.words.specs.declared.ids.Node.{Node}
 use Rattle.beam_state.specs.declared.queues.Popped.{Popped}
 use Rattle.beam_state.specs.declared.queues.Popped.the-variants.{At, Empty}
 use Rattle.neighbours.specs.Inside.Gathering.{Linked}
-use Rattle.beam_state.specs.Inside.State.{part, frontierAt, heldAt, keysAt, wordsFor, heldEnd, frontierPart, Memory, AnswerHeld}
+use Rattle.beam_state.specs.Inside.State.{part, frontierAt, heldAt, keysAt, wordsFor, heldEnd, frontierPart, liveBy, Memory, AnswerHeld}
 use Rattle.beam_state.specs.declared.Walk.{Walk}
 use Rattle.beam_state.proofs.Parts.{lay, lay-length, part-here, part-after, take-before}
 use Rattle.beam_search.specs.declared.Sizes.{Sizes}
@@ -41,6 +44,12 @@ module _ (sizes : Sizes) (reads : Reads) (links : List ℕ) (m : Memory) (x : Li
   abbrev far : ℕ → Float
   far = farOf sizes reads
 
+  abbrev live : ℕ → Bool
+  live = liveBy (reads .withdrawn)
+
+  abbrev stops : Stops
+  stops = sizes .stops
+
   abbrev w : Walk
   w = m .walk
 
@@ -55,17 +64,20 @@ module _ (sizes : Sizes) (reads : Reads) (links : List ℕ) (m : Memory) (x : Li
   popped-long = omega (arith, lay-length (frontierAt n) (heldAt n) x (m .words) (omega arith) (omega arith) size)
 
   -- another frontier, and the rest as before
-  after-pop : (nodes₀ seen front rest : List ℕ) → Between sizes far nodes₀ m seen front → Queue (frontRank far) n rest x → ((y : ℕ) → In y rest → In y front)
-      → Between sizes far nodes₀ popped-to seen rest
+  after-pop : (nodes₀ seen front rest : List ℕ) → Between sizes far live nodes₀ m seen front → Queue (frontRank far) n rest x → ((y : ℕ) → In y rest → In y front)
+      → Between sizes far live nodes₀ popped-to seen rest
   after-pop nodes₀ seen front rest t q s = record {
     marks = λ v h. same-mark n v (m .words) (popped-to .words) h (take-before (frontierAt n) (heldAt n) x (m .words) (omega arith) (omega arith) size (frontierAt n) (omega arith)) ∙ t .marks v h;
     standing = record {
       frontier = subst (Queue (frontRank far) n rest) (sym (part-here (frontierAt n) (heldAt n) x (m .words) (omega arith) (omega arith) size)) q;
-      held = subst (Held far (min b n) (heldOf far b seen)) (kept (heldAt n) (heldEnd n b) (omega arith)) (t .standing .held);
-      held-count = t .standing .held-count;
-      cutoff-is = t .standing .cutoff-is;
-      answer = subst (λ (k : List ℕ). AnswerHeld far nodes₀ k (m .nodes) (w .kept) seen) (kept (keysAt n) (wordsFor n) (omega arith)) (t .standing .answer);
-      scored-is = t .standing .scored-is;
+      scored = record {
+        held = subst (Held far (min b n) (heldOf far b (keep live seen))) (kept (heldAt n) (heldEnd n b) (omega arith)) (t .standing .scored .held);
+        held-count = t .standing .scored .held-count;
+        cutoff-is = t .standing .scored .cutoff-is;
+        answer = subst (λ (k : List ℕ). AnswerHeld far nodes₀ k (m .nodes) (w .kept) (keep live seen)) (kept (keysAt n) (wordsFor n) (omega arith))
+            (t .standing .scored .answer);
+        scored-is = t .standing .scored .scored-is;
+      };
       once = t .standing .once;
       inside = t .standing .inside;
       sub = λ y i. t .standing .sub y (s y i);
@@ -78,7 +90,7 @@ module _ (sizes : Sizes) (reads : Reads) (links : List ℕ) (m : Memory) (x : Li
       kept a e h = sym (part-after (frontierAt n) (heldAt n) x (m .words) (omega arith) (omega arith) size a e h)
 
   module _ (popped : Popped) (pop : Popping (m .floats) (frontierPart n (m .words)) x popped) where
-    taken : (nodes₀ seen front : List ℕ) → Between sizes far nodes₀ m seen front → Taken far n front x popped
+    taken : (nodes₀ seen front : List ℕ) → Between sizes far live nodes₀ m seen front → Taken far n front x popped
     taken nodes₀ seen front t = pop far n front (record { few = t .known .few; f32s = t .known .f32s; there = λ v i. t .known .there v (t .standing .sub v i) }) (t .standing .frontier)
 
     not-both : (d : Float) (v : Node) → popped ≡ Empty → popped ≡ At d v → ⊥
@@ -95,19 +107,19 @@ module _ (sizes : Sizes) (reads : Reads) (links : List ℕ) (m : Memory) (x : Li
     }
     step-empty e linked nodes₀ seen (u ∷ rest) t = absurd (not-both (far u) (record { 0 = u }) e (taken nodes₀ seen (u ∷ rest) t .0))
 
-    module _ (d : Float) (v : Node) (got : popped ≡ At d v) (stop : Bool) (stop-is : stop ≡ (leb b (w .held) && lt (mul binary32 (w .cutoff) stopFactor) d)) where
+    module _ (d : Float) (v : Node) (got : popped ≡ At d v) (stop : Bool) (stop-is : stop ≡ (leb b (w .held) && lt (mul binary32 (w .cutoff) (stops .factor)) d)) where
       same-distance : (u : ℕ) → popped ≡ At (far u) (record { 0 = u }) → d ≡ far u
       same-distance u e = cc
 
       same-node : (u : ℕ) → popped ≡ At (far u) (record { 0 = u }) → v .0 ≡ u
       same-node u e = let same : v ≡ record { 0 = u } = cc in ap (λ (x : Node). x .0) same
 
-      too-far-is : (nodes₀ seen rest : List ℕ) (u : ℕ) → Between sizes far nodes₀ m seen (u ∷ rest) → tooFar far b seen u ≡ stop
+      too-far-is : (nodes₀ seen rest : List ℕ) (u : ℕ) → Between sizes far live nodes₀ m seen (u ∷ rest) → tooFar stops far b (keep live seen) u ≡ stop
       unfolding tooFar
       too-far-is nodes₀ seen rest u t =
           sym (stop-is
-          ∙ ap₂ (λ (p : Bool) (q : Bool). p && q) (ap (leb b) (t .standing .held-count))
-          (ap₂ (λ (p : Float) (q : Float). lt (mul binary32 p stopFactor) q) (t .standing .cutoff-is) (same-distance u (taken nodes₀ seen (u ∷ rest) t .0))))
+          ∙ ap₂ (λ (p : Bool) (q : Bool). p && q) (ap (leb b) (t .standing .scored .held-count))
+          (ap₂ (λ (p : Float) (q : Float). lt (mul binary32 p (stops .factor)) q) (t .standing .scored .cutoff-is) (same-distance u (taken nodes₀ seen (u ∷ rest) t .0))))
 
       pub step-far : stop ≡ true → Stepping sizes reads links m popped-to true
       unfolding walk
@@ -121,19 +133,19 @@ module _ (sizes : Sizes) (reads : Reads) (links : List ℕ) (m : Memory) (x : Li
       }
 
       pub step-on : (m′ : Memory) (done : Bool) → stop ≡ false → Expanding sizes reads links (v .0) popped-to m′
-          → done ≡ (ltb (stopMultiplier * b) (m′ .walk .scored) || leb n (m′ .walk .scored)) → Stepping sizes reads links m m′ done
+          → done ≡ (ltb (stops .multiplier * b) (m′ .walk .scored) || leb n (m′ .walk .scored)) → Stepping sizes reads links m m′ done
       unfolding walk tooMany
       step-on m′ done s expanding di linked nodes₀ seen [] t = absurd (not-both d v (taken nodes₀ seen [] t .0) got)
       step-on m′ done s expanding di linked nodes₀ seen (u ∷ rest) t = record {
         seen′ = next .seen;
         front′ = next .front;
         stands = there′;
-        ends = λ f more. on more ∙ elim (one-true (ltb (stopMultiplier * b) (m′ .walk .scored)) (leb n (m′ .walk .scored)) (sym di ∙ f)) [
+        ends = λ f more. on more ∙ elim (one-true (ltb (stops .multiplier * b) (m′ .walk .scored)) (leb n (m′ .walk .scored)) (sym di ∙ f)) [
           | inl e ↦ pick-true (next .seen) (walkOn sizes reads more (next .seen) (next .front)) (many ∙ e)
           | inr e ↦
-              let all : n ≤ length (next .seen) = omega (arith, leb→le n (m′ .walk .scored) (subst T (sym e) tt), there′ .standing .scored-is) in
-              same (tooMany b (next .seen)) (next .seen) _ (next .seen) refl
-              (walk-full (listsOf sizes reads) (toFrontier far) (tooFar far b) (tooMany b) (next .seen)
+              let all : n ≤ length (next .seen) = omega (arith, leb→le n (m′ .walk .scored) (subst T (sym e) tt), there′ .standing .scored .scored-is, keep-few live (next .seen)) in
+              same (tooMany stops b (keep live (next .seen))) (next .seen) _ (next .seen) refl
+              (walk-full (listsOf sizes reads) (toFrontier far) (λ l z. tooFar stops far b (keep live l) z) (λ l. tooMany stops b (keep live l)) (next .seen)
               (λ a y i. all-of n (next .seen) (there′ .standing .once) (there′ .standing .inside) all y (within-below n _ y i)) more (next .front))
         ];
         goes = λ f more. on more ∙ pick-false (next .seen) (walkOn sizes reads more (next .seen) (next .front)) (many ∙ both-false _ _ (sym di ∙ f) .0);
@@ -152,14 +164,14 @@ module _ (sizes : Sizes) (reads : Reads) (links : List ℕ) (m : Memory) (x : Li
           v-below : v .0 < n
           v-below = subst (λ (y : ℕ). y < n) (sym at) (t .standing .inside u (t .standing .sub u (here refl)))
 
-          there′ : Between sizes far nodes₀ m′ (next .seen) (next .front)
-          there′ = subst (λ (y : ℕ). Between sizes far nodes₀ m′ (expanded y .seen) (expanded y .front)) at
+          there′ : Between sizes far live nodes₀ m′ (next .seen) (next .front)
+          there′ = subst (λ (y : ℕ). Between sizes far live nodes₀ m′ (expanded y .seen) (expanded y .front)) at
               (expanding linked v-below nodes₀ seen rest (after-pop nodes₀ seen (u ∷ rest) rest t (taken nodes₀ seen (u ∷ rest) t .1) (λ y i. there i)))
 
-          many : tooMany b (next .seen) ≡ ltb (stopMultiplier * b) (m′ .walk .scored)
-          many = ap (ltb (stopMultiplier * b)) (sym (there′ .standing .scored-is))
+          many : tooMany stops b (keep live (next .seen)) ≡ ltb (stops .multiplier * b) (m′ .walk .scored)
+          many = ap (ltb (stops .multiplier * b)) (sym (there′ .standing .scored .scored-is))
 
-          on : (more : ℕ) → walkOn sizes reads (suc more) seen (u ∷ rest) ≡ pick (tooMany b (next .seen)) (next .seen) (walkOn sizes reads more (next .seen) (next .front))
+          on : (more : ℕ) → walkOn sizes reads (suc more) seen (u ∷ rest) ≡ pick (tooMany stops b (keep live (next .seen))) (next .seen) (walkOn sizes reads more (next .seen) (next .front))
           on more = pick-false _ _ (too-far-is nodes₀ seen rest u t ∙ s)
 
 -- ---- all steps
@@ -167,7 +179,7 @@ module _ (sizes : Sizes) (reads : Reads) (links : List ℕ) (m : Memory) (x : Li
 pub record Along (sizes : Sizes) (reads : Reads) (nodes₀ : List ℕ) (m : Memory) (left : ℕ) (whole : List ℕ) : Type 0 where
   pub seen′ : List ℕ
   pub front′ : List ℕ
-  pub stands : Between sizes (farOf sizes reads) nodes₀ m seen′ front′
+  pub stands : Between sizes (farOf sizes reads) (liveBy (reads .withdrawn)) nodes₀ m seen′ front′
   pub same : whole ≡ walkOn sizes reads left seen′ front′
 
 -- from the memory m₀ on, with `left` steps to go
@@ -176,7 +188,7 @@ pub record Onward (sizes : Sizes) (reads : Reads) (links : List ℕ) (m₀ m : M
   pub words-kept : length (m .words) ≡ length (m₀ .words)
   pub floats-kept : length (m .floats) ≡ length (m₀ .floats)
   pub nodes-kept : length (m .nodes) ≡ length (m₀ .nodes)
-  pub so-far : Linked (sizes .n) (reads .bridges) links → (nodes₀ seen front : List ℕ) → Between sizes (farOf sizes reads) nodes₀ m₀ seen front
+  pub so-far : Linked (sizes .n) (reads .bridges) links → (nodes₀ seen front : List ℕ) → Between sizes (farOf sizes reads) (liveBy (reads .withdrawn)) nodes₀ m₀ seen front
       → Along sizes reads nodes₀ m left (walkOn sizes reads (sizes .n) seen front)
 
 pub onward-none : (sizes : Sizes) (reads : Reads) (links : List ℕ) (m : Memory) → Onward sizes reads links m m (sizes .n)
@@ -195,7 +207,7 @@ module _ {sizes : Sizes} {reads : Reads} {links : List ℕ} {m₀ m : Memory} {l
       let a = o .so-far linked nodes₀ seen front t in
       let none : left ≡ 0 = omega arith in
       let e : walkOn sizes reads (sizes .n) seen front ≡ a .seen′ = a .same ∙ ap (λ (k : ℕ). walkOn sizes reads k (a .seen′) (a .front′)) none in
-      record { front = a .front′; stands = subst (λ (l : List ℕ). Between sizes (farOf sizes reads) nodes₀ m l (a .front′)) (sym e) (a .stands) }
+      record { front = a .front′; stands = subst (λ (l : List ℕ). Between sizes (farOf sizes reads) (liveBy (reads .withdrawn)) nodes₀ m l (a .front′)) (sym e) (a .stands) }
 
   module _ (m′ : Memory) (done : Bool) (more : 0 < left) (step : Stepping sizes reads links m m′ done) where
     one-less : left ≡ suc (left - 1)
@@ -223,4 +235,4 @@ module _ {sizes : Sizes} {reads : Reads} {links : List ℕ} {m₀ m : Memory} {l
         let a = o .so-far linked nodes₀ seen front t in
         let s = step linked nodes₀ (a .seen′) (a .front′) (a .stands) in
         let e : walkOn sizes reads (sizes .n) seen front ≡ s .seen′ = a .same ∙ ap (λ (k : ℕ). walkOn sizes reads k (a .seen′) (a .front′)) one-less ∙ s .ends d (left - 1) in
-        record { front = s .front′; stands = subst (λ (l : List ℕ). Between sizes (farOf sizes reads) nodes₀ m′ l (s .front′)) (sym e) (s .stands) }
+        record { front = s .front′; stands = subst (λ (l : List ℕ). Between sizes (farOf sizes reads) (liveBy (reads .withdrawn)) nodes₀ m′ l (s .front′)) (sym e) (s .stands) }

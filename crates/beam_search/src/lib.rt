@@ -2,10 +2,10 @@
 //
 // The walk starts at the entry node and goes on from the nearest node whose list it has not looked at. What
 // is fresh in a list is marked and gathered, then scored eight at a time, then pushed in order: into the
-// frontier, among the held, into the answer. It ends when everything left is well beyond the cutoff, when
-// many nodes are scored, or when the frontier is empty; and when all nodes are scored, since what is left of
-// the definition's walk then finds nothing. The answer is kept in order from the first node on, so that
-// nothing is sorted at the end.
+// frontier, and, if they are live, among the held and into the answer. It ends when everything left is well
+// beyond the cutoff, when many nodes are scored, or when the frontier is empty; and when all nodes are scored,
+// since what is left of the definition's walk then finds nothing. The answer is kept in order from the first
+// node on, so that nothing is sorted at the end.
 //
 // It computes the walk and the answer that `def_walk` defines; specs/Inside/Search says of which graph: the entries
 // of the lists that are below the number of nodes. Scratch is 11 words (`beam_state` has their layout) and a float for each
@@ -19,32 +19,30 @@ ghost use lib.Dec.{leb, ltb};
 ghost use lib.Ieee.{binary32, mul, lt};
 ghost use lib.ListN.{length, take};
 ghost use Rattle.distance.specs.Vectors.{vectorsIn};
-ghost use Rattle.def_walk.specs.Beam.{farFrom, stopFactor, stopMultiplier};
-ghost use Rattle.beam_state.specs.Inside.State.{frontierAt, wordsFor};
+ghost use Rattle.def_walk.specs.Beam.{farFrom};
+ghost use Rattle.beam_state.specs.Inside.State.{frontierAt, wordsFor, liveBy};
 ghost use Rattle.beam_search.specs.Inside.Steps.{Linking, TakingIn, Stepping, Walking, WalkingLinked, Prepared, Starting, PutDistances};
 ghost use Rattle.beam_search.specs.Inside.Search.{Searching};
 use beam_state::Walk;
 use beam_state::queues;
 use beam_state::queues::Popped;
 use beam_state::tournament;
+use def_walk::Stops;
 use lists::chains;
 use neighbours::gathering;
 use neighbours::scoring;
 use words::ids::Node;
 use words::slices;
 
-// The two stop numbers of part 8.
-const STOP_FACTOR: f32 = 1.5;
-
-const STOP_MULTIPLIER: u64 = 10;
-
 // The numbers of a walk: how many nodes there are, how many entries a row can have, how many components a
-// vector has, and how many nodes the walk keeps.
+// vector has, where the walk starts, how many nodes it keeps, and when it stops.
 pub struct Sizes {
     pub n: usize,
     pub degree: u16,
     pub dimension: u32,
+    pub entry: Node,
     pub places: u32,
+    pub stops: Stops,
 }
 
 // How many nodes the answer has, and how many were scored.
@@ -91,13 +89,15 @@ fn take_in(
     nodes: &mut [u32],
     query: &[f32],
     vectors: &[f32],
+    withdrawn: &[u32],
     sizes: Sizes,
     walk: Walk,
     count: usize,
 ) -> Walk
     requires { ⌜ wordsFor (sizes .n) ≤ length (now words) ⌝ }
     ensures marks { λ _. ⌜ take (frontierAt (sizes .n)) (now (words .exit)) ≡ take (frontierAt (sizes .n)) (now (words .entry)) ⌝ }
-    ensures pushed { λ r. ⌜ TakingIn sizes (farFrom (now (query .entry)) (vectorsIn (sizes .dimension) (now (vectors .entry)))) count
+    ensures pushed { λ r. ⌜ TakingIn sizes (farFrom (now (query .entry)) (vectorsIn (sizes .dimension) (now (vectors .entry))))
+        (liveBy (now (withdrawn .entry))) count
         (record { words = now (words .entry); floats = now (floats .entry); nodes = now (nodes .entry); walk = walk })
         (record { words = now (words .exit); floats = now (floats .exit); nodes = now (nodes .exit); walk = r }) ⌝ }
 {
@@ -105,21 +105,22 @@ fn take_in(
     let many = slices::lesser(count, n);
     let end = n + many;
     scoring::score(floats, query, vectors, sizes.dimension, &words[n..end]);
-    beam_state::push_all(words, floats, nodes, n, sizes.places, walk, many)
+    beam_state::push_all(words, floats, nodes, withdrawn, n, sizes.places, walk, many)
 }
 
 // Before a node is expanded: all places are taken, and it lies farther than the cutoff times the factor.
-fn too_far(walk: Walk, places: u32, distance: f32) -> bool
-    ensures { λ r. ⌜ r ≡ (leb places (walk .held) && lt (mul binary32 (walk .cutoff) stopFactor) distance) ⌝ }
+fn too_far(walk: Walk, sizes: Sizes, distance: f32) -> bool
+    ensures { λ r. ⌜ r ≡ (leb (sizes .places) (walk .held) && lt (mul binary32 (walk .cutoff) (sizes .stops .factor)) distance) ⌝ }
 {
-    (places <= walk.held) & (walk.cutoff * STOP_FACTOR < distance)
+    (sizes.places <= walk.held) & (walk.cutoff * sizes.stops.factor < distance)
 }
 
 // After a node is expanded: many nodes are scored, or all of them, so that nothing is left to be found.
-fn ends_after(walk: Walk, places: u32, n: usize) -> bool
-    ensures { λ r. ⌜ r ≡ (ltb (stopMultiplier * places) (walk .scored) || leb n (walk .scored)) ⌝ }
+fn ends_after(walk: Walk, sizes: Sizes) -> bool
+    ensures { λ r. ⌜ r ≡ (ltb (sizes .stops .multiplier * sizes .places) (walk .scored) || leb (sizes .n) (walk .scored)) ⌝ }
 {
-    (STOP_MULTIPLIER * (places as u64) < (walk.scored as u64)) | (n <= walk.scored as usize)
+    ((sizes.stops.multiplier as u64) * (sizes.places as u64) < (walk.scored as u64))
+        | (sizes.n <= walk.scored as usize)
 }
 
 // Takes the nearest node from the frontier and expands it, which is to look at its list, unless the walk ends
@@ -132,13 +133,14 @@ fn step(
     vectors: &[f32],
     rows: &[u32],
     bridges: &[u32],
+    withdrawn: &[u32],
     links: &[u32],
     sizes: Sizes,
     walk: Walk,
 ) -> Went
     requires { ⌜ wordsFor (sizes .n) ≤ length (now words) ⌝ }
     ensures { λ r. ⌜ Stepping sizes
-        (record { query = now (query .entry); vectors = now (vectors .entry); rows = now (rows .entry); bridges = now (bridges .entry) })
+        (record { query = now (query .entry); vectors = now (vectors .entry); rows = now (rows .entry); bridges = now (bridges .entry); withdrawn = now (withdrawn .entry) })
         (now (links .entry))
         (record { words = now (words .entry); floats = now (floats .entry); nodes = now (nodes .entry); walk = walk })
         (record { words = now (words .exit); floats = now (floats .exit); nodes = now (nodes .exit); walk = r .walk })
@@ -151,12 +153,22 @@ fn step(
     let Popped::At(distance, node) = popped else {
         return Went { walk, done: true };
     };
-    if too_far(walk, sizes.places, distance) {
+    if too_far(walk, sizes, distance) {
         return Went { walk, done: true };
     }
     let count = gathering::gather(words, n, rows, sizes.degree, bridges, links, node);
-    let next = take_in(words, floats, nodes, query, vectors, sizes, walk, count);
-    let done = ends_after(next, sizes.places, n);
+    let next = take_in(
+        words,
+        floats,
+        nodes,
+        query,
+        vectors,
+        withdrawn,
+        sizes,
+        walk,
+        count,
+    );
+    let done = ends_after(next, sizes);
     Went { walk: next, done }
 }
 
@@ -169,13 +181,14 @@ fn walk_on(
     vectors: &[f32],
     rows: &[u32],
     bridges: &[u32],
+    withdrawn: &[u32],
     links: &[u32],
     sizes: Sizes,
     walk: Walk,
 ) -> Walk
     requires { ⌜ wordsFor (sizes .n) ≤ length (now words) ⌝ }
     ensures { λ r. ⌜ Walking sizes
-        (record { query = now (query .entry); vectors = now (vectors .entry); rows = now (rows .entry); bridges = now (bridges .entry) })
+        (record { query = now (query .entry); vectors = now (vectors .entry); rows = now (rows .entry); bridges = now (bridges .entry); withdrawn = now (withdrawn .entry) })
         (now (links .entry))
         (record { words = now (words .entry); floats = now (floats .entry); nodes = now (nodes .entry); walk = walk })
         (record { words = now (words .exit); floats = now (floats .exit); nodes = now (nodes .exit); walk = r }) ⌝ }
@@ -192,6 +205,7 @@ fn walk_on(
             vectors,
             rows,
             bridges,
+            withdrawn,
             links,
             sizes,
             now,
@@ -214,13 +228,14 @@ fn walk_linked(
     vectors: &[f32],
     rows: &[u32],
     bridges: &[u32],
+    withdrawn: &[u32],
     sizes: Sizes,
     walk: Walk,
 ) -> Walk
     requires { ⌜ wordsFor (sizes .n) ≤ length (now words) ⌝ }
     requires { ⌜ (sizes .n ≤ 1024) × (length (now bridges) / 2 ≤ sizes .n) ⌝ }
     ensures { λ r. ⌜ WalkingLinked sizes
-        (record { query = now (query .entry); vectors = now (vectors .entry); rows = now (rows .entry); bridges = now (bridges .entry) })
+        (record { query = now (query .entry); vectors = now (vectors .entry); rows = now (rows .entry); bridges = now (bridges .entry); withdrawn = now (withdrawn .entry) })
         (record { words = now (words .entry); floats = now (floats .entry); nodes = now (nodes .entry); walk = walk })
         (record { words = now (words .exit); floats = now (floats .exit); nodes = now (nodes .exit); walk = r }) ⌝ }
 {
@@ -234,6 +249,7 @@ fn walk_linked(
             vectors,
             rows,
             bridges,
+            withdrawn,
             &bridges[none..none],
             sizes,
             walk,
@@ -249,6 +265,7 @@ fn walk_linked(
         vectors,
         rows,
         bridges,
+        withdrawn,
         &links[..],
         sizes,
         walk,
@@ -275,11 +292,12 @@ fn start(
     nodes: &mut [u32],
     query: &[f32],
     vectors: &[f32],
+    withdrawn: &[u32],
     sizes: Sizes,
-    entry: Node,
 ) -> Walk
     requires { ⌜ wordsFor (sizes .n) ≤ length (now words) ⌝ }
-    ensures { λ r. ⌜ Starting sizes (farFrom (now (query .entry)) (vectorsIn (sizes .dimension) (now (vectors .entry)))) (entry .0)
+    ensures { λ r. ⌜ Starting sizes (farFrom (now (query .entry)) (vectorsIn (sizes .dimension) (now (vectors .entry))))
+        (liveBy (now (withdrawn .entry)))
         (now (floats .entry)) (now (nodes .entry))
         (record { words = now (words .exit); floats = now (floats .exit); nodes = now (nodes .exit); walk = r }) ⌝ }
 {
@@ -290,8 +308,19 @@ fn start(
         cutoff: f32::from_bits(0x7f80_0000),
         kept: 0,
     };
+    let entry = sizes.entry;
     let count = gathering::begin(words, sizes.n, entry);
-    take_in(words, floats, nodes, query, vectors, sizes, none, count)
+    take_in(
+        words,
+        floats,
+        nodes,
+        query,
+        vectors,
+        withdrawn,
+        sizes,
+        none,
+        count,
+    )
 }
 
 // The distances of the answer's nodes go to the output.
@@ -309,22 +338,23 @@ fn put_distances(distances: &mut [f32], nodes: &[u32], floats: &[f32], count: us
 // The nearest nodes to a scaled query among those that a walk from the entry node scores, nearest first, with
 // their distances, as many as `nodes` has room for. Returns how many there are, and how many nodes were scored.
 // `vectors` has the nodes' vectors, `rows` their rows as words hold them, `bridges` the bridges, a pair of
-// words each. `words` and `floats` are scratch, 64 and 16 for each node. The contract holds for scratch that is
+// words each; `withdrawn` has a word for each node, 0 where it is live, and is empty where all are. `words` and
+// `floats` are scratch, 64 and 16 for each node. The contract holds for scratch that is
 // long enough, at most 1,024 nodes and no more bridges than nodes.
 pub fn beam_search(
     query: &[f32],
     vectors: &[f32],
     rows: &[u32],
     bridges: &[u32],
+    withdrawn: &[u32],
     sizes: Sizes,
-    entry: Node,
     nodes: &mut [u32],
     distances: &mut [f32],
     words: &mut [u32],
     floats: &mut [f32],
 ) -> Walked
-    ensures { λ r. ⌜ Searching sizes (entry .0)
-        (record { query = now (query .entry); vectors = now (vectors .entry); rows = now (rows .entry); bridges = now (bridges .entry) })
+    ensures { λ r. ⌜ Searching sizes
+        (record { query = now (query .entry); vectors = now (vectors .entry); rows = now (rows .entry); bridges = now (bridges .entry); withdrawn = now (withdrawn .entry) })
         (now (nodes .entry)) (now (nodes .exit)) (now (distances .entry)) (now (distances .exit))
         (length (now (words .entry))) (length (now (floats .entry))) r ⌝ }
 {
@@ -335,7 +365,7 @@ pub fn beam_search(
             scored: 0,
         };
     }
-    let first = start(words, floats, nodes, query, vectors, sizes, entry);
+    let first = start(words, floats, nodes, query, vectors, withdrawn, sizes);
     let last = walk_linked(
         words,
         floats,
@@ -344,6 +374,7 @@ pub fn beam_search(
         vectors,
         rows,
         bridges,
+        withdrawn,
         sizes,
         first,
     );

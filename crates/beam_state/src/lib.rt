@@ -22,7 +22,7 @@ pub mod tournament;
 ghost use mathlib.Core.Path.{_≡_};
 ghost use Prim.Native.Nat.{_+_, _≤_, min};
 ghost use lib.ListN.{length, take};
-ghost use Rattle.beam_state.specs.Inside.State.{frontierAt, wordsFor, Pushing, PushingAll};
+ghost use Rattle.beam_state.specs.Inside.State.{frontierAt, wordsFor, liveBy, Pushing, PushingAll};
 use distance::order;
 use words::ids::Node;
 use words::slices;
@@ -36,7 +36,8 @@ pub const KEYS: usize = 10;
 
 pub const WORDS: usize = 11;
 
-// How many nodes are scored, how many are held for the cutoff, the cutoff, and how many are in the answer.
+// How many nodes are scored, which are the live ones of those seen, how many are held for the cutoff, the cutoff,
+// and how many are in the answer.
 pub struct Walk {
     pub scored: u32,
     pub held: u32,
@@ -54,11 +55,24 @@ fn one_more(count: u32) -> u32
     count + 1
 }
 
-// A node that has its distance goes into the frontier, is offered to the held, and to the answer.
+// Whether a node is live: `withdrawn` has a word for each node, 0 where it is live. An empty slice says that all
+// nodes are, and so is a node past its end.
+fn is_live(withdrawn: &[u32], node: Node) -> bool
+    ensures { λ r. ⌜ r ≡ liveBy (now (withdrawn .entry)) (node .0) ⌝ }
+{
+    let at = node.0 as usize;
+    if at < withdrawn.len() {
+        return withdrawn[at] == 0;
+    }
+    true
+}
+
+// A node that has its distance goes into the frontier. A live one is offered to the held and to the answer.
 fn push(
     words: &mut [u32],
     floats: &[f32],
     nodes: &mut [u32],
+    withdrawn: &[u32],
     size: usize,
     places: u32,
     walk: Walk,
@@ -66,7 +80,7 @@ fn push(
 ) -> Walk
     requires { ⌜ wordsFor size ≤ length (now words) ⌝ }
     ensures marks { λ _. ⌜ take (frontierAt size) (now (words .exit)) ≡ take (frontierAt size) (now (words .entry)) ⌝ }
-    ensures pushed { λ r. ⌜ Pushing size places (node .0)
+    ensures pushed { λ r. ⌜ Pushing size places (node .0) (now (withdrawn .entry))
         (record { words = now (words .entry); floats = now (floats .entry); nodes = now (nodes .entry); walk = walk })
         (record { words = now (words .exit); floats = now (floats .entry); nodes = now (nodes .exit); walk = r }) ⌝ }
 {
@@ -74,10 +88,13 @@ fn push(
     let key = order::key(distance);
     let frontier = FRONTIER * size;
     let held = HELD * size;
+    queues::enter(&mut words[frontier..held], key, node);
+    if !is_live(withdrawn, node) {
+        return walk;
+    }
     let held_end = held + 4 * slices::lesser(places as usize, size);
     let keys = KEYS * size;
     let end = WORDS * size;
-    queues::enter(&mut words[frontier..held], key, node);
     let closest = queues::keep_closest(
         &mut words[held..held_end],
         walk.held,
@@ -99,13 +116,14 @@ pub fn push_all(
     words: &mut [u32],
     floats: &[f32],
     nodes: &mut [u32],
+    withdrawn: &[u32],
     size: usize,
     places: u32,
     walk: Walk,
     count: usize,
 ) -> Walk
     ensures marks { λ _. ⌜ take (frontierAt size) (now (words .exit)) ≡ take (frontierAt size) (now (words .entry)) ⌝ }
-    ensures pushed { λ r. ⌜ PushingAll size places count
+    ensures pushed { λ r. ⌜ PushingAll size places count (now (withdrawn .entry))
         (record { words = now (words .entry); floats = now (floats .entry); nodes = now (nodes .entry); walk = walk })
         (record { words = now (words .exit); floats = now (floats .entry); nodes = now (nodes .exit); walk = r }) ⌝ }
 {
@@ -117,7 +135,7 @@ pub fn push_all(
     let mut i = 0;
     while i < many {
         let node = Node(words[size + i]);
-        now = push(words, floats, nodes, size, places, now, node);
+        now = push(words, floats, nodes, withdrawn, size, places, now, node);
         i += 1;
     }
     now

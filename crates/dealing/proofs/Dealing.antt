@@ -11,12 +11,13 @@ use lib.ListN.{length, getD, set, take, drop, length-map, drop-of-length-le, Lis
 use lib.Seq.{take-suc, take-all, length-take-le}
 use lib.Ieee.{Float}
 use Rattle.basics.specs.Choice.{pick, pick-ind}
+use Rattle.basics.specs.Lists.{keep}
 use Rattle.basics.specs.Nodes.{has, Below}
 use Rattle.basics.proofs.Members.{in-getD}
 use Rattle.basics.proofs.Loops.{front-set}
 use Rattle.random.specs.Leaders.{upTo, drawn, drawStart, drawnInto, leaderCount, leaderPositions}
 use Rattle.random.proofs.leaders.Positions.{length-positions}
-use Rattle.def_graph.specs.Partition.{keep, nearestLeaders, dealt, leadersOf, gathered, bucketsOf, fanout}
+use Rattle.def_graph.specs.Partition.{nearestLeaders, dealt, leadersOf, gathered, bucketsOf, fanout}
 use Rattle.def_graph.specs.Inside.Occurrences.{entries}
 use Rattle.def_graph.proofs.partition.Dealing.{nearest-below, nearest-length, dealt-weight}
 use Rattle.dealing.specs.Inside.Deal.{Fitting}

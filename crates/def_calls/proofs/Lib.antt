@@ -3,3 +3,4 @@ pub mod Taken
 pub mod Graph
 pub mod Views
 pub mod Examples
+pub mod AllLive

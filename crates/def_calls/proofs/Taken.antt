@@ -20,6 +20,7 @@ use Rattle.store.specs.Layout.{word, builtState, stateAt, dimensionAt, nodesAt}
 use Rattle.store.specs.View.{view}
 use Rattle.store.specs.Opening.{opening}
 use Rattle.store.proofs.Opened.{Opened, opened, opening-numbered}
+use Rattle.def_walk.specs.Beam.{usual}
 use Rattle.def_calls.specs.Build.{ownBuildChecks, buildChecks}
 use Rattle.def_calls.specs.Search.{mostNodes, mostBeam, ownSearchChecks, searchChecks, Reply, refused, replyOf, searchWithEfSpec}
 
@@ -73,8 +74,8 @@ module _ (ws fs : ℕ) (w : List ℕ) (f : List Float) where
 
     -- a search that returns 0 has passed its checks, and leaves what its walk found
     pub search-replied : searchWithEfSpec ws fs w f query k ef docs distances .number ≡ 0
-        → SearchTaken × (searchWithEfSpec ws fs w f query k ef docs distances ≡ replyOf (view w f) query k ef docs distances)
+        → SearchTaken × (searchWithEfSpec ws fs w f query k ef docs distances ≡ replyOf usual (view w f) query k ef docs distances)
     unfolding searchWithEfSpec
     search-replied e =
-        let r = replied (firstRefusal (searchChecks w query k ef docs distances ws fs f)) (replyOf (view w f) query k ef docs distances) docs distances e in
+        let r = replied (firstRefusal (searchChecks w query k ef docs distances ws fs f)) (replyOf usual (view w f) query k ef docs distances) docs distances e in
         (search-taken (r .0), r .1)

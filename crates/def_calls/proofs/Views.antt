@@ -13,30 +13,15 @@ use Rattle.basics.specs.Lists.{pieces}
 use Rattle.basics.specs.Graph.{Bridge}
 use Rattle.basics.proofs.Pieces.{length-flatten, pieces-back}
 use Rattle.store.specs.Layout.{word, builtState, headerSize, stateAt, dimensionAt, nodesAt, maxLeafSizeAt, minLeafSizeAt, degreeAt, hashBitsAt, finalPruneAt, efSearchAt, entryAt, bridgeCountAt, capacityAt, fractionHighAt, fractionLowAt, alphaAt, docsAt, rowsAt, rowSize, bridgesAt, bridgeSize, wordsSize}
-use Rattle.store.specs.View.{paramsOf, rowWords, bridgeWords, rowBlock, bridgeBlock, entriesIn, bridgeIn, View, view}
+use Rattle.store.specs.View.{paramsOf, rowWords, bridgeWords, rowBlock, bridgeBlock, entriesIn, bridgeIn, view}
 use Rattle.store.proofs.Sizes.{product-le}
 use Rattle.store.proofs.Reading.{Short, vectors-read, blocks-sized, rows-back, pairs-sized, bridges-back}
 use Rattle.def_graph.specs.Rows.{Settings}
 use Rattle.def_calls.specs.Graph.{Graph, settingsOf, graphFor}
 use Rattle.def_calls.specs.Build.{laid, builtHeader, builtWords}
 use Rattle.def_calls.proofs.Taken.{BuildTaken}
-use Rattle.def_calls.proofs.Graph.{graph-many, graph-short, graph-few}
+use Rattle.def_calls.proofs.Graph.{graph-many, graph-short, graph-few, viewWith}
 use Rattle.def_calls.proofs.Laid.{same-word, same-part, same-pieces, laid-length, laid-before, laid-there}
-
--- a store's view with a graph in it
-abbrev pub viewWith : Graph → View → View
-viewWith g v = record {
-  params = v .params;
-  dimension = v .dimension;
-  capacity = v .capacity;
-  state = builtState;
-  n = v .n;
-  entry = g .entry;
-  docs = v .docs;
-  rows = g .rows;
-  bridges = g .bridges;
-  vectors = v .vectors;
-}
 
 -- ---- lengths of what is laid
 

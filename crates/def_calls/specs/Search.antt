@@ -1,6 +1,6 @@
 -- `search_with_ef` and `search` (scope, part 8 and Refusals): the first k of what the walk scored (all, if fewer), as doc ids and distances in the
 -- two outputs, with their number and the scored count. The stores stay as they are.
-use mathlib.Core.Bool.{not, _||_}
+use mathlib.Core.Bool.{Bool, true, not, _||_}
 use mathlib.Core.List.{List, [], _∷_, _++_, map}
 use Prim.Native.Nat.{ℕ, min}
 use lib.Dec.{eqb, ltb}
@@ -17,7 +17,8 @@ use Rattle.store.specs.declared.Lent.the-variants.{Scratch}
 use Rattle.store.specs.Layout.{word, builtState, stateAt, dimensionAt, nodesAt, efSearchAt}
 use Rattle.store.specs.View.{View, view, listIn}
 use Rattle.store.specs.Opening.{opening}
-use Rattle.def_walk.specs.Beam.{farFrom, placesFor, beamSearch, answerOf}
+use Rattle.def_walk.specs.declared.Stops.{Stops}
+use Rattle.def_walk.specs.Beam.{Network, usual, farFrom, placesFor, beamSearch, answerOf}
 
 -- ---- its checks: 3, 4, 3 with scratch, 4, then 10, 6, 7, 11, 12
 
@@ -57,15 +58,23 @@ unfoldable pub farIn : View → List Float → ℕ → Float
 unfolding farFrom scaledOf
 farIn v query = farFrom (scaledOf binary32 query) (v .vectors)
 
+-- which nodes of a store are live: every one
+abbrev pub liveIn : View → ℕ → Bool
+liveIn v i = true
+
+-- what a search of a store walks over
+abbrev pub networkIn : View → Network
+networkIn v = record { n = v .n; list = listIn v; live = liveIn v; entry = v .entry }
+
 -- the nodes scored, in order
-unfoldable pub scoredIn : View → List Float → ℕ → ℕ → List ℕ
+unfoldable pub scoredIn : Stops → View → List Float → ℕ → ℕ → List ℕ
 unfolding beamSearch listOf farIn
-scoredIn v query k ef = beamSearch (listIn v) (v .n) (v .entry) (farIn v query) (placesFor ef k)
+scoredIn stops v query k ef = beamSearch stops (networkIn v) (farIn v query) (placesFor ef k)
 
 -- the nodes of the answer
-unfoldable pub foundIn : View → List Float → ℕ → ℕ → List ℕ
+unfoldable pub foundIn : Stops → View → List Float → ℕ → ℕ → List ℕ
 unfolding answerOf farIn scoredIn
-foundIn v query k ef = answerOf (farIn v query) k (scoredIn v query k ef)
+foundIn stops v query k ef = answerOf (farIn v query) k (scoredIn stops v query k ef)
 
 -- ---- what it leaves: its number, how many nodes it returns and how many it scored, both outputs whole
 
@@ -81,13 +90,13 @@ abbrev pub refused : ℕ → List ℕ → List Float → Reply
 refused refusal docs distances = record { number = refusal; count = 0; scored = 0; docs = docs; distances = distances }
 
 -- nothing is written past the answer
-unfoldable pub replyOf : View → List Float → ℕ → ℕ → List ℕ → List Float → Reply
+unfoldable pub replyOf : Stops → View → List Float → ℕ → ℕ → List ℕ → List Float → Reply
 unfolding farIn scoredIn foundIn
-replyOf v query k ef docs distances =
-    let found : List ℕ = foundIn v query k ef in record {
+replyOf stops v query k ef docs distances =
+    let found : List ℕ = foundIn stops v query k ef in record {
       number = 0;
       count = length found;
-      scored = length (scoredIn v query k ef);
+      scored = length (scoredIn stops v query k ef);
       docs = map (λ i. getD (v .docs) i 0) found ++ drop (length found) docs;
       distances = map (farIn v query) found ++ drop (length found) distances;
     }
@@ -96,7 +105,7 @@ unfoldable pub searchWithEfSpec : (ws fs : ℕ) → List ℕ → List Float → 
 unfolding pick firstRefusal searchChecks replyOf view
 searchWithEfSpec ws fs w f query k ef docs distances =
     let refusal : ℕ = firstRefusal (searchChecks w query k ef docs distances ws fs f) in
-    let reply : Reply = replyOf (view w f) query k ef docs distances in
+    let reply : Reply = replyOf usual (view w f) query k ef docs distances in
     pick (eqb refusal 0) reply (refused refusal docs distances)
 
 -- with the store's ef_search

@@ -15,6 +15,7 @@ use mir.Facts.{no-eqb, no-leb}
 use lib.ListN.{length, getD}
 use lib.Ieee.{Float}
 use Rattle.basics.specs.Choice.{pick, pick-yes, pick-no}
+use Rattle.basics.specs.Lists.{keep}
 use Rattle.basics.specs.Nodes.{has}
 use Rattle.sorting.specs.Sorting.{sortBy, firstBy}
 use Rattle.distance.specs.Vectors.{rank}
@@ -36,12 +37,6 @@ leadersOf fraction level ids = map (λ (position : ℕ). getD ids position 0) (l
 unfoldable pub nearestLeaders : List (List Float) → ℕ → List ℕ → ℕ → List ℕ
 unfolding sortBy rank upTo
 nearestLeaders vs fan leaders id = firstBy (λ (l : ℕ). rank vs id (getD leaders l 0)) fan (upTo (length leaders))
-
--- those of a list for which the test holds, in their order
-unfoldable pub keep : (ℕ → Bool) → List ℕ → List ℕ
-unfolding pick
-keep test [] = []
-keep test (x ∷ xs) = let kept : List ℕ = keep test xs in pick (test x) (x ∷ kept) kept
 
 -- a bucket for each leader: the nodes that go to it, in their order
 unfoldable pub dealt : List (List Float) → ℕ → List ℕ → List ℕ → List (List ℕ)

@@ -1,5 +1,5 @@
--- The walk of a search and its answer (scope, part 8; `beam_search`). A node is scored when the walk computes its distance to the query, the entry
--- node too, each at most once.
+-- The walk of a search and its answer (scope, part 8; `beam_search`). A live node is scored when the walk computes its distance to the query, the
+-- entry node too, each at most once.
 use mathlib.Core.Bool.{Bool, false, _&&_}
 use mathlib.Core.List.{List, [], _∷_, reverse}
 use Prim.Native.Nat.{ℕ, _*_, max}
@@ -7,19 +7,25 @@ use lib.Dec.{leb, ltb}
 use lib.IntN.{negsuc}
 use lib.ListN.{length}
 use lib.Ieee.{Float, binary32, fin, mul, lt}
+use Rattle.basics.specs.Lists.{keep}
 use Rattle.distance.specs.Order.{keyOf}
 use Rattle.distance.specs.Distance.{distanceOf}
 use Rattle.distance.specs.Vectors.{vectorOf}
 use Rattle.sorting.specs.Sorting.{sortBy, firstBy}
+use Rattle.def_walk.specs.declared.Stops.{Stops}
 use Rattle.def_walk.specs.Walk.{walk}
 use Rattle.def_walk.specs.KeepClosest.{keyAt, sooner, insertIn, heldOf, cutoffOf}
 
--- the two stop numbers: a factor, 1.5, and a multiplier
-abbrev pub stopFactor : Float
-stopFactor = fin false 3 (negsuc 0)
+-- What a walk goes over: n nodes with their lists, and the entry node. Every node can be walked through; a node that is not live is not scored.
+pub record Network : Type 0 where
+  pub n : ℕ
+  pub list : ℕ → List ℕ
+  pub live : ℕ → Bool
+  pub entry : ℕ
 
-abbrev pub stopMultiplier : ℕ
-stopMultiplier = 10
+-- the stop numbers of part 8: the factor is 1.5
+abbrev pub usual : Stops
+usual = record { factor = fin false 3 (negsuc 0); multiplier = 10 }
 
 -- how far a query is from each node
 unfoldable pub farFrom : List Float → List (List Float) → ℕ → Float
@@ -36,29 +42,27 @@ unfolding insertIn sooner
 toFrontier far v front = insertIn (sooner far) v front
 
 -- before u is expanded: b are held, and u is farther than the cutoff times the factor, a product rounded once
-unfoldable pub tooFar : (ℕ → Float) → ℕ → List ℕ → ℕ → Bool
+unfoldable pub tooFar : Stops → (ℕ → Float) → ℕ → List ℕ → ℕ → Bool
 unfolding heldOf cutoffOf
-tooFar far b scored u = leb b (length (heldOf far b scored)) && lt (mul binary32 (cutoffOf far b scored) stopFactor) (far u)
+tooFar stops far b scored u = leb b (length (heldOf far b scored)) && lt (mul binary32 (cutoffOf far b scored) (stops .factor)) (far u)
 
--- after
-unfoldable pub tooMany : ℕ → List ℕ → Bool
-tooMany b scored = ltb (stopMultiplier * b) (length scored)
+-- after u is expanded: more nodes are scored than the multiplier times b
+unfoldable pub tooMany : Stops → ℕ → List ℕ → Bool
+tooMany stops b scored = ltb (stops .multiplier * b) (length scored)
 
--- the nodes scored, latest first: of n nodes, so by n expansions at most
-unfoldable pub walked : (ℕ → List ℕ) → ℕ → ℕ → (ℕ → Float) → ℕ → List ℕ
-unfolding walk toFrontier tooFar tooMany
-walked list n entry far b = walk list (toFrontier far) (tooFar far b) (tooMany b) n (entry ∷ []) (entry ∷ [])
+-- the nodes seen, latest first: of n nodes, so by n expansions at most; those of them that are live are scored
+unfoldable pub walked : Stops → Network → (ℕ → Float) → ℕ → List ℕ
+unfolding walk keep toFrontier tooFar tooMany
+walked stops g far b =
+    walk (g .list) (toFrontier far) (λ seen u. tooFar stops far b (keep (g .live) seen) u) (λ seen. tooMany stops b (keep (g .live) seen))
+    (g .n) (g .entry ∷ []) (g .entry ∷ [])
 
 -- the nodes scored, in order of scoring
-unfoldable pub beamSearch : (ℕ → List ℕ) → ℕ → ℕ → (ℕ → Float) → ℕ → List ℕ
-unfolding walked
-beamSearch list n entry far b = reverse (walked list n entry far b)
-
--- which of the nodes scored an answer may have: every one
-abbrev pub answerable : List ℕ → List ℕ
-answerable scored = scored
+unfoldable pub beamSearch : Stops → Network → (ℕ → Float) → ℕ → List ℕ
+unfolding walked keep
+beamSearch stops g far b = reverse (keep (g .live) (walked stops g far b))
 
 -- the nearest k of them (all, if fewer), nearest first; of equally near ones the one scored first
 unfoldable pub answerOf : (ℕ → Float) → ℕ → List ℕ → List ℕ
 unfolding sortBy keyOf
-answerOf far k scored = firstBy (keyAt far) k (answerable scored)
+answerOf far k scored = firstBy (keyAt far) k scored

@@ -20,6 +20,7 @@ use Rattle.store.specs.Layout.{word, nodesAt}
 use Rattle.store.specs.View.{view}
 use Rattle.store.specs.Opening.{opening}
 use Rattle.store.proofs.Opened.{opening-numbered}
+use Rattle.def_walk.specs.Beam.{usual}
 use Rattle.def_calls.specs.Search.{askingChecks, ownSearchChecks, searchChecks, farIn, foundIn, Reply, refused, replyOf, searchWithEfSpec}
 use Rattle.recognise.specs.Recognised.{newAs, refusedAs, recognisedAs}
 use Rattle.recognise.specs.Recognise.{recogniseChecks, nearestOf, docIn, recogniseSpec}
@@ -49,7 +50,7 @@ module _ (ws fs : ℕ) (w : List ℕ) (f query : List Float) (ef : ℕ) (limit :
   refusal = firstRefusal (recogniseChecks ws fs w f query ef limit)
 
   abbrev answer : Values
-  answer = nearestOf (docIn (view w f)) (farIn (view w f) query) limit (foundIn (view w f) query 1 ef)
+  answer = nearestOf (docIn (view w f)) (farIn (view w f) query) limit (foundIn usual (view w f) query 1 ef)
 
   checks-are : recogniseChecks ws fs w f query ef limit ≡ asked ++ (limitCheck ∷ [])
   unfolding recogniseChecks
@@ -115,10 +116,10 @@ module _ (ws fs : ℕ) (w : List ℕ) (f query : List Float) (ef : ℕ) (limit :
         (λ t. refl)
         ∙ searched-first
 
-    searched-reply : firstRefusal asked ≡ 0 → reply ≡ replyOf (view w f) query 1 ef docs distances
+    searched-reply : firstRefusal asked ≡ 0 → reply ≡ replyOf usual (view w f) query 1 ef docs distances
     unfolding searchWithEfSpec
     searched-reply e =
-        pick-true {X = Reply} (replyOf (view w f) query 1 ef docs distances) (refused (firstRefusal (searchChecks w query 1 ef docs distances ws fs f)) docs distances)
+        pick-true {X = Reply} (replyOf usual (view w f) query 1 ef docs distances) (refused (firstRefusal (searchChecks w query 1 ef docs distances ws fs f)) docs distances)
         (eq-eqb _ 0 (searched-first ∙ e))
 
     -- the call is accepted exactly if this search is and the limit is finite
@@ -140,7 +141,7 @@ module _ (ws fs : ℕ) (w : List ℕ) (f query : List Float) (ef : ℕ) (limit :
       limit-refused e h = turned-with limitNotFinite (limit-failed (sym numbered ∙ e) h) (λ z. omega arith)
 
       module _ (e : left .number ≡ 0) (h : finite limit ≡ true) where
-        left-is : left ≡ replyOf (view w f) query 1 ef docs distances
+        left-is : left ≡ replyOf usual (view w f) query 1 ef docs distances
         left-is = same ∙ searched-reply (sym numbered ∙ e)
 
         done : answer ≡ recogniseSpec ws fs w f query ef limit
@@ -148,7 +149,7 @@ module _ (ws fs : ℕ) (w : List ℕ) (f query : List Float) (ef : ℕ) (limit :
 
         pub found-none : left .count ≡ 0 → newAs 0 ≡ recogniseSpec ws fs w f query ef limit
         unfolding replyOf
-        found-none z = sym (ap (nearestOf (docIn (view w f)) (farIn (view w f) query) limit) (empty (foundIn (view w f) query 1 ef) (sym (ap (λ (r : Reply). r .count) left-is) ∙ z))) ∙ done
+        found-none z = sym (ap (nearestOf (docIn (view w f)) (farIn (view w f) query) limit) (empty (foundIn usual (view w f) query 1 ef) (sym (ap (λ (r : Reply). r .count) left-is) ∙ z))) ∙ done
           where
             empty : (l : List ℕ) → length l ≡ 0 → l ≡ []
             empty [] z = refl
@@ -158,7 +159,7 @@ module _ (ws fs : ℕ) (w : List ℕ) (f query : List Float) (ef : ℕ) (limit :
         unfolding replyOf
         found-one n =
             ap₂ (λ (doc : ℕ) (d : Float). recognisedAs doc d limit) (ap (λ (r : Reply). getD (r .docs) 0 0) left-is) (ap (λ (r : Reply). getD (r .distances) 0 nan) left-is)
-            ∙ first-is (foundIn (view w f) query 1 ef) (λ z. n (ap (λ (r : Reply). r .count) left-is ∙ z))
+            ∙ first-is (foundIn usual (view w f) query 1 ef) (λ z. n (ap (λ (r : Reply). r .count) left-is ∙ z))
             ∙ done
           where
             first-is : (l : List ℕ) → (length l ≡ 0 → ⊥)

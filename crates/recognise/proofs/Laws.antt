@@ -3,11 +3,11 @@
 use mathlib.Core.Path.{_≡_, refl, sym, _∙_}
 use mathlib.Core.Logic.{⊎-elim}
 use mathlib.Core.Bool.{not}
-use mathlib.Core.List.{List, [], _∷_, _++_, reverse, List·Memᴰ as In, List·Memᴰ·head as here, List·Memᴰ·not-nil as in-nil}
+use mathlib.Core.List.{List, [], _∷_, _++_, List·Memᴰ as In, List·Memᴰ·not-nil as in-nil}
 use Prim.Native.Nat.{ℕ, _<_}
 use native.Mathlib.Omega.{arith}
 use lib.Dec.{eqb, eqb→eq}
-use lib.ListN.{length, length-reverse, length-take}
+use lib.ListN.{length, length-take}
 use lib.Ieee.{Float, le}
 use lib.Ieee.Scale.{finite}
 use borrow.Author.Tests.{eqb-true, not-false}
@@ -18,16 +18,16 @@ use Rattle.basics.proofs.Refusals.{passes, both-none}
 use Rattle.sorting.specs.Sorting.{sortBy}
 use Rattle.sorting.proofs.Laws.{length-sort}
 use Rattle.store.specs.declared.Lent.the-variants.{Scratch}
-use Rattle.store.specs.Layout.{word, builtState, stateAt, nodesAt, entryAt}
-use Rattle.store.specs.View.{view, listIn}
+use Rattle.store.specs.Layout.{word, builtState, stateAt, entryAt}
+use Rattle.store.specs.View.{view}
 use Rattle.store.specs.Opening.{opening}
 use Rattle.store.proofs.Header.{Built}
 use Rattle.store.proofs.Opened.{Opened, opened, opening-numbered}
 use Rattle.def_walk.specs.KeepClosest.{keyAt}
-use Rattle.def_walk.specs.Beam.{placesFor, walked, beamSearch, answerOf}
-use Rattle.def_walk.proofs.beam.Laws.{ended}
-use Rattle.def_calls.specs.Search.{askingChecks, farIn, scoredIn, foundIn}
-use Rattle.search.proofs.Inside.{lists-inside}
+use Rattle.def_walk.specs.Beam.{usual, placesFor, answerOf}
+use Rattle.def_walk.proofs.beam.Laws.{entry-scored}
+use Rattle.def_calls.specs.Search.{askingChecks, farIn, networkIn, scoredIn, foundIn}
+use Rattle.finding.proofs.Inside.{lists-inside}
 use Rattle.recognise.specs.Recognised.{recognisedAs}
 use Rattle.recognise.specs.Recognise.{recogniseChecks, nearestOf, docIn, recogniseSpec}
 
@@ -44,7 +44,7 @@ pub number-is : (ws fs : ℕ) (w : List ℕ) (f query : List Float) (ef : ℕ) (
 unfolding recogniseSpec
 number-is ws fs w f query ef limit =
     let refusal : ℕ = firstRefusal (recogniseChecks ws fs w f query ef limit) in
-    pick-ind (λ (r : Values). r .0 ≡ refusal) (eqb refusal 0) (λ t. nearest (docIn (view w f)) (farIn (view w f) query) limit (foundIn (view w f) query 1 ef) ∙ sym (eqb→eq refusal 0 t)) (λ _. refl)
+    pick-ind (λ (r : Values). r .0 ≡ refusal) (eqb refusal 0) (λ t. nearest (docIn (view w f)) (farIn (view w f) query) limit (foundIn usual (view w f) query 1 ef) ∙ sym (eqb→eq refusal 0 t)) (λ _. refl)
 
 -- ---- a call that is not refused has one node to go by: the entry node is always scored
 
@@ -72,12 +72,12 @@ module _ (ws fs : ℕ) (w : List ℕ) (f query : List Float) (ef : ℕ) (limit :
   abbrev far : ℕ → Float
   far = farIn (view w f) query
 
-  abbrev seen : List ℕ
-  seen = walked (listIn (view w f)) (word w nodesAt) (word w entryAt) far (placesFor ef 1)
+  abbrev scored : List ℕ
+  scored = scoredIn usual (view w f) query 1 ef
 
-  pub one-found : length (foundIn (view w f) query 1 ef) ≡ 1
-  unfolding foundIn scoredIn answerOf beamSearch view
+  pub one-found : length (foundIn usual (view w f) query 1 ef) ≡ 1
+  unfolding foundIn scoredIn answerOf view
   one-found =
-      let scored : List ℕ = reverse seen in
-      let kept = ended (listIn (view w f)) (word w nodesAt) (word w entryAt) (built .entry) (lists-inside w f (stores .rest)) far (placesFor ef 1) .keeps in
-      omega (arith, length-take 1 (sortBy (keyAt far) scored), length-sort (keyAt far) scored, length-reverse seen, some (word w entryAt) seen (kept (word w entryAt) (here refl)))
+      let entry : In (word w entryAt) scored =
+      entry-scored usual (networkIn (view w f)) (built .entry) (lists-inside w f (stores .rest)) far (placesFor ef 1) tt in
+      omega (arith, length-take 1 (sortBy (keyAt far) scored), length-sort (keyAt far) scored, some (word w entryAt) scored entry)

@@ -14,6 +14,7 @@ use Rattle.error.specs.Numbers.{limitNotFinite}
 use Rattle.store.specs.declared.Lent.the-variants.{Scratch}
 use Rattle.store.specs.View.{View, view}
 use Rattle.store.specs.Opening.{opening}
+use Rattle.def_walk.specs.Beam.{usual}
 use Rattle.def_calls.specs.Search.{askingChecks, farIn, foundIn}
 use Rattle.recognise.specs.Recognised.{newAs, refusedAs, recognisedAs}
 
@@ -42,4 +43,4 @@ unfolding pick firstRefusal recogniseChecks recognisedAs view farIn foundIn
 recogniseSpec ws fs w f query ef limit =
     let refusal : ℕ = firstRefusal (recogniseChecks ws fs w f query ef limit) in
     let v : View = view w f in
-    pick {X = Values} (eqb refusal 0) (nearestOf (docIn v) (farIn v query) limit (foundIn v query 1 ef)) (refusedAs refusal)
+    pick {X = Values} (eqb refusal 0) (nearestOf (docIn v) (farIn v query) limit (foundIn usual v query 1 ef)) (refusedAs refusal)

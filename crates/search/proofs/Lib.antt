@@ -1,4 +1,1 @@
-pub mod Inside
-pub mod Answer
-pub mod Replying
-pub mod Replies
+mod Replies

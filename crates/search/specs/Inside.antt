@@ -1,2 +1,1 @@
-pub mod Docs
 pub mod Reply

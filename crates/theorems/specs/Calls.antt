@@ -37,6 +37,7 @@ outcome (search ws fs q k docs distances) w f = (searchSpec ws fs w f q k docs d
 
 -- ---- what is remembered: the last accepted `new`, the adds accepted since, and whether a build was
 
+-- a node's doc id and its vector as stored, scaled by part 2
 pub record Added : Type 0 where
   pub doc : ℕ
   pub vector : List Float
@@ -52,7 +53,7 @@ pub data Past : Type 0 where
   opened : Index → Past
   built : Index → Past
 
--- one node more, with its doc id and its vector as passed in
+-- one node more, with its doc id and its vector as stored
 abbrev pub withNode : ℕ → List Float → Index → Index
 withNode doc v x = record {
   dimension = x .dimension;
@@ -61,12 +62,13 @@ withNode doc v x = record {
   nodes = x .nodes ++ (record { doc = doc; vector = v } ∷ []);
 }
 
--- after an accepted call; what is accepted before any `new` is not remembered
+-- After an accepted call. An add's vector is scaled here, by part 2, and nowhere later. What is accepted before any `new` is not remembered.
 unfoldable pub accepted : Call → Past → Past
+unfolding scaledOf
 accepted (new d p typed c) past = opened (record { dimension = d; params = p; capacity = c; nodes = [] })
 accepted (add doc v) nothing = nothing
-accepted (add doc v) (opened x) = opened (withNode doc v x)
-accepted (add doc v) (built x) = built (withNode doc v x)
+accepted (add doc v) (opened x) = opened (withNode doc (scaledOf binary32 v) x)
+accepted (add doc v) (built x) = built (withNode doc (scaledOf binary32 v) x)
 accepted (build ws fs) nothing = nothing
 accepted (build ws fs) (opened x) = built x
 accepted (build ws fs) (built x) = built x
@@ -81,10 +83,8 @@ then c (suc refusal) past = past
 
 -- ---- the nodes, 0 up, in order of adding
 
--- their vectors, scaled by part 2
 unfoldable pub vectorsOf : Index → List (List Float)
-unfolding scaledOf
-vectorsOf x = map (λ (a : Added). scaledOf binary32 (a .vector)) (x .nodes)
+vectorsOf x = map (λ (a : Added). a .vector) (x .nodes)
 
 unfoldable pub docsOf : Index → List ℕ
 docsOf x = map (λ (a : Added). a .doc) (x .nodes)

@@ -11,7 +11,7 @@ use Rattle.beam_search.proofs.beam_search.Tie as tie
 
 -- from the test back to the start
 abbrev begin : tie.Else1 → tie.Start
-begin c = c .before .before .before .before .before .before .before .before .before
+begin c = c .before .before .before .before .before .before .before .before .before .before
 
 -- what the test said
 abbrev Fitting : tie.Else1 → Type 0
@@ -22,7 +22,7 @@ fitting c = let a = begin c .args in has-room (length (a .words .now)) (a .sizes
 
 returns : tie.Need-returns
 returns c fits =
-    let a = (c .before .before .before .before .before .before .before .before .before) .args in
+    let a = (c .before .before .before .before .before .before .before .before .before .before) .args in
     absurd
     (no-room (length (a .words .now)) (a .sizes .n) (length (a .bridges .now)) (c .if1 .taken)
     (record { scratch = omega (arith, fits .words-room); nodes = fits .few; pairs = omega (arith, fits .bridges-few) }))
@@ -43,10 +43,10 @@ returns-2 c fits =
     let s = at-start .start in
     let w = at-walk-linked .walk-linked in
     let put = at-put-distances .put-distances in
-    let reads : Reads = record { query = a .query .now; vectors = a .vectors .now; rows = a .rows .now; bridges = a .bridges .now } in
+    let reads : Reads = record { query = a .query .now; vectors = a .vectors .now; rows = a .rows .now; bridges = a .bridges .now; withdrawn = a .withdrawn .now } in
     let begun = s .ensures (fits .entry-below) (fits .few) (omega (arith, fits .floats-room)) in
-    let rested = w .ensures (fits .ends-below) (a .nodes .now) (a .entry .0 ∷ []) (a .entry .0 ∷ []) begun in
-    searched (a .sizes) reads (a .entry .0) (a .nodes .now) (record { words = w .last .0; floats = w .last .1 .0; nodes = w .last .1 .1 .0; walk = w .result }) (rested .front)
+    let rested = w .ensures (fits .ends-below) (a .nodes .now) (a .sizes .entry .0 ∷ []) (a .sizes .entry .0 ∷ []) begun in
+    searched (a .sizes) reads (a .nodes .now) (record { words = w .last .0; floats = w .last .1 .0; nodes = w .last .1 .1 .0; walk = w .result }) (rested .front)
     (a .distances .now) (put .last .0) (c .small .result) (rested .stands) (omega (arith, fitting at-if1 .scratch, w .kept .0, s .kept .0)) (fits .few) (fits .distances-room)
     (put .ensures) (c .small .ensures)
 

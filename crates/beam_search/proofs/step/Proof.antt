@@ -8,14 +8,14 @@ use Rattle.beam_search.proofs.step.Statement.{statement}
 use Rattle.beam_search.proofs.step.Tie as tie
 
 abbrev reads : tie.Start → Reads
-reads s = let a = s .args in record { query = a .query .now; vectors = a .vectors .now; rows = a .rows .now; bridges = a .bridges .now }
+reads s = let a = s .args in record { query = a .query .now; vectors = a .vectors .now; rows = a .rows .now; bridges = a .bridges .now; withdrawn = a .withdrawn .now }
 
 abbrev memory : tie.Start → Memory
 memory s = let a = s .args in record { words = a .words .now; floats = a .floats .now; nodes = a .nodes .now; walk = a .walk }
 
 -- from a pop back to the start
 abbrev start : tie.After-pop → tie.Start
-start c = c .before .before .before .before .before .before .before .before .before .before .before
+start c = c .before .before .before .before .before .before .before .before .before .before .before .before
 
 returns : tie.Need-returns
 returns c =

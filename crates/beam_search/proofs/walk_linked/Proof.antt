@@ -12,7 +12,7 @@ returns : tie.Need-returns
 returns c ends =
     let at-walk-on = c .before .before .before .before .before .before in
     let at-if1 = at-walk-on .before .before .before .before .before in
-    let start = at-if1 .before .before .before .before .before .before .before .before in
+    let start = at-if1 .before .before .before .before .before .before .before .before .before in
     let a = start .args in
     at-walk-on .walk-on .ensures (none-linked (a .sizes .n) (a .bridges .now) _ (start .pre .1 .0) (at-if1 .if1 .taken) (λ i h. refl))
 
@@ -21,7 +21,7 @@ returns-2 c ends =
     let at-walk-on2 = c .before .before .before .before .before .before in
     let at-link-bridges = at-walk-on2 .before .before .before .before .before .before in
     let at-if1 = at-link-bridges .before .before .before in
-    let start = at-if1 .before .before .before .before .before .before .before .before in
+    let start = at-if1 .before .before .before .before .before .before .before .before .before in
     at-walk-on2 .walk-on2 .ensures
     (at-link-bridges .link-bridges .ensures (start .pre .1 .0) (omega (arith, start .pre .1 .0, length-replicate {A = ℕ} 4096 0)) (λ i h. getD-replicate 4096 i 0 0 (omega (arith, start .pre .1 .0))) ends)
 

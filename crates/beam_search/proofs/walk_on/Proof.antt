@@ -8,20 +8,20 @@ use Rattle.beam_search.proofs.walk_on.Statement.{statement}
 use Rattle.beam_search.proofs.walk_on.Tie as tie
 
 abbrev Inv-loop : tie.InvT-loop
-Inv-loop words₀ floats₀ nodes₀ query vectors rows bridges links sizes now₀ left₀ words floats nodes now left =
-    Onward sizes (record { query = query; vectors = vectors; rows = rows; bridges = bridges }) links
+Inv-loop words₀ floats₀ nodes₀ query vectors rows bridges withdrawn links sizes now₀ left₀ words floats nodes now left =
+    Onward sizes (record { query = query; vectors = vectors; rows = rows; bridges = bridges; withdrawn = withdrawn }) links
     (record { words = words₀; floats = floats₀; nodes = nodes₀; walk = now₀ }) (record { words = words; floats = floats; nodes = nodes; walk = now }) left
 
 abbrev μ-loop : tie.MeasureT-loop
-μ-loop words₀ floats₀ nodes₀ query vectors rows bridges links sizes now₀ left₀ words floats nodes now left = left
+μ-loop words₀ floats₀ nodes₀ query vectors rows bridges withdrawn links sizes now₀ left₀ words floats nodes now left = left
 
 loop-holds : tie.Need-loop-holds Inv-loop μ-loop
-loop-holds c = let a = (c .before .before .before .before .before .before .before .before) .args in onward-none (a .sizes) _ (a .links .now) _
+loop-holds c = let a = (c .before .before .before .before .before .before .before .before .before) .args in onward-none (a .sizes) _ (a .links .now) _
 
 step-requires : tie.Need-step-requires Inv-loop μ-loop
 step-requires c κs =
     let at-loop = c .before .before .before .before in
-    let start = at-loop .before .before .before .before .before .before .before .before .before in
+    let start = at-loop .before .before .before .before .before .before .before .before .before .before in
     omega (arith, at-loop .loop .inv .words-kept, start .pre)
 
 -- the memory after a step

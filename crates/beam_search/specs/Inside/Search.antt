@@ -1,45 +1,48 @@
 -- What a search returns (scope, part 8): the answer of the walk, the distances of its nodes, and two counts. The graph is that of rows and bridges in
 -- words; entries that are no node are not in it, so that a search needs no test of the lists. On a well-formed store every entry is a node.
 use mathlib.Core.Path.{_≡_}
-use mathlib.Core.List.{List, [], _∷_, _++_, map}
+use mathlib.Core.List.{List, _++_, map}
 use Prim.Native.Nat.{ℕ, _*_, _≤_, _<_}
 use lib.Dec.{ltb}
 use lib.ListN.{length, getD, drop}
 use lib.Ieee.{Float}
-use Rattle.basics.specs.Choice.{pick}
+use Rattle.basics.specs.Lists.{keep}
 use Rattle.basics.specs.Graph.{listOf}
 use Rattle.lists.specs.Inside.Words.{rowLists, bridgeList}
 use Rattle.distance.specs.Vectors.{vectorsIn}
-use Rattle.def_walk.specs.Beam.{farFrom, beamSearch, answerOf}
+use Rattle.def_walk.specs.Beam.{Network, farFrom, beamSearch, answerOf}
+use Rattle.beam_state.specs.Inside.State.{liveBy}
 use Rattle.beam_search.specs.declared.Sizes.{Sizes}
 use Rattle.beam_search.specs.declared.Walked.{Walked}
 
 -- the entries below n
-unfoldable pub within : ℕ → List ℕ → List ℕ
-unfolding pick
-within n [] = []
-within n (v ∷ vs) = pick (ltb v n) (v ∷ within n vs) (within n vs)
+abbrev pub within : ℕ → List ℕ → List ℕ
+within n vs = keep (λ v. ltb v n) vs
 
 -- the list of node u among n nodes
 abbrev pub listInWords : ℕ → ℕ → List ℕ → List ℕ → ℕ → List ℕ
 listInWords n degree rows bridges u = within n (listOf (rowLists degree rows) (bridgeList bridges) u)
 
--- What a walk reads: a scaled query, the nodes' vectors, their rows as words hold them, and the bridges, two words each.
+-- What a walk reads: a scaled query, the nodes' vectors, their rows as words hold them, the bridges, two words each, and which nodes are withdrawn.
 pub record Reads : Type 0 where
   pub query : List Float
   pub vectors : List Float
   pub rows : List ℕ
   pub bridges : List ℕ
+  pub withdrawn : List ℕ
 
--- the distance of a node, the list of a node, and the nodes that a walk scores
+-- the distance of a node, the list of a node, what is walked over, and the nodes that a walk scores
 abbrev pub farOf : Sizes → Reads → ℕ → Float
 farOf sizes reads = farFrom (reads .query) (vectorsIn (sizes .dimension) (reads .vectors))
 
 abbrev pub listsOf : Sizes → Reads → ℕ → List ℕ
 listsOf sizes reads = listInWords (sizes .n) (sizes .degree) (reads .rows) (reads .bridges)
 
-abbrev pub scoredBy : Sizes → ℕ → Reads → List ℕ
-scoredBy sizes entry reads = beamSearch (listsOf sizes reads) (sizes .n) entry (farOf sizes reads) (sizes .places)
+abbrev pub networkOf : Sizes → Reads → Network
+networkOf sizes reads = record { n = sizes .n; list = listsOf sizes reads; live = liveBy (reads .withdrawn); entry = sizes .entry .0 }
+
+abbrev pub scoredBy : Sizes → Reads → List ℕ
+scoredBy sizes reads = beamSearch (sizes .stops) (networkOf sizes reads) (farOf sizes reads) (sizes .places)
 
 -- the sizes fit: bridges between nodes, at most one for each node, and enough words and floats of scratch
 pub record SearchFits (n entry : ℕ) (bridges nodes : List ℕ) (distances : List Float) (words floats : ℕ) : Type 0 where
@@ -59,8 +62,8 @@ pub record Searched (far : ℕ → Float) (found scored nodes nodes′ : List �
   pub distances-are : distances′ ≡ map far found ++ drop (length found) distances
 
 -- where the sizes fit, as many nodes are found as the output has room for
-abbrev pub Searching : Sizes → ℕ → Reads → List ℕ → List ℕ → List Float → List Float → ℕ → ℕ → Walked → Type 0
-Searching sizes entry reads nodes nodes′ distances distances′ words floats r =
-    SearchFits (sizes .n) entry (reads .bridges) nodes distances words floats
-    → Searched (farOf sizes reads) (answerOf (farOf sizes reads) (length nodes) (scoredBy sizes entry reads)) (scoredBy sizes entry reads)
+abbrev pub Searching : Sizes → Reads → List ℕ → List ℕ → List Float → List Float → ℕ → ℕ → Walked → Type 0
+Searching sizes reads nodes nodes′ distances distances′ words floats r =
+    SearchFits (sizes .n) (sizes .entry .0) (reads .bridges) nodes distances words floats
+    → Searched (farOf sizes reads) (answerOf (farOf sizes reads) (length nodes) (scoredBy sizes reads)) (scoredBy sizes reads)
     nodes nodes′ distances distances′ r

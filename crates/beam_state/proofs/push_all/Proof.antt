@@ -9,20 +9,22 @@ use Rattle.beam_state.proofs.push_all.Statement.{statement}
 use Rattle.beam_state.proofs.push_all.Tie as tie
 
 abbrev Inv-loop : tie.InvT-loop
-Inv-loop words₀ floats nodes₀ size places count many now₀ i₀ words nodes now i =
-    Going size places count many (record { words = words₀; floats = floats; nodes = nodes₀; walk = now₀ }) (record { words = words; floats = floats; nodes = nodes; walk = now }) i
+Inv-loop words₀ floats nodes₀ withdrawn size places count many now₀ i₀ words nodes now i =
+    Going size places count many withdrawn (record { words = words₀; floats = floats; nodes = nodes₀; walk = now₀ })
+    (record { words = words; floats = floats; nodes = nodes; walk = now }) i
 
 abbrev μ-loop : tie.MeasureT-loop
-μ-loop words₀ floats nodes₀ size places count many now₀ i₀ words nodes now i = many - i
+μ-loop words₀ floats nodes₀ withdrawn size places count many now₀ i₀ words nodes now i = many - i
 
 loop-holds : tie.Need-loop-holds Inv-loop μ-loop
-loop-holds c = let a = (c .before .before .before .before .before) .args in going-none (a .size) (a .places) (a .count) (c .lesser .result) _
-
-add-node : tie.Need-add-t16 Inv-loop μ-loop
-add-node c = omega (arith, (c .before .before .before) .if1 .left, (c .before .before) .lesser .ensures, c .loop-test .taken)
+loop-holds c =
+    let a = (c .before .before .before .before .before .before) .args in
+    going-none (a .size) (a .places) (a .count) (c .lesser .result) (a .withdrawn .now) _
 
 push-requires : tie.Need-push-requires Inv-loop μ-loop
-push-requires c κs = let g = c .before .before .before .before .loop .inv .words-kept in omega (arith, (c .before .before .before .before .before .before) .if1 .left)
+push-requires c κs =
+    let at-loop = c .before .before .before .before in
+    omega (arith, at-loop .loop .inv .words-kept, at-loop .before .before .if1 .left)
 
 loop-again : tie.Need-loop-again Inv-loop μ-loop
 loop-again c =
@@ -32,7 +34,8 @@ loop-again c =
     let at-lesser = at-loop .before in
     let p = at-push .push in
     going-more {m′ = record { words = p .last .0; floats = _; nodes = p .last .1 .1 .0; walk = p .result }} (at-loop .loop .inv) refl (at-lesser .lesser .ensures)
-    (at-loop-test .loop-test .taken) (omega (arith, at-lesser .before .if1 .left)) (p .kept .0) (p .kept .1 .1 .0) (p .ensures .0) (p .ensures .1)
+    (at-loop-test .loop-test .taken) (omega (arith, at-lesser .before .if1 .left)) (p .kept .0) (p .kept .1 .1 .0) (p .ensures .0)
+    (p .ensures .1)
 
 returns-2 : tie.Need-returns-2 Inv-loop μ-loop
 returns-2 c = let l = c .before .loop in (l .inv .frame, going-all (l .inv) (c .before .before .lesser .ensures) (c .loop-test .left))
@@ -43,8 +46,9 @@ push-all-spec =
     (tie.spec
     Inv-loop μ-loop (λ c. (refl, λ long. absurd (omega (arith, c .if1 .taken))))
     -- lesser
-    (λ c κs. search needs) loop-holds add-node
+    (λ c κs. search needs) loop-holds
     -- node
+    (λ c. omega (arith, c .before .before .before .if1 .left, c .before .before .lesser .ensures, c .loop-test .taken))
     (λ c. search needs) (λ c. search needs) push-requires
     -- i, the loop measure
     (λ c. search needs) (λ c. search needs) loop-again (λ c. c .before .loop .inv .words-kept) (λ c. c .before .loop .inv .nodes-kept) returns-2)

@@ -1,10 +1,13 @@
 -- What a walk keeps between its steps (scope, part 8), in words and in a struct: the frontier, the held, the cutoff and the first few of what is
 -- scored.
 use mathlib.Core.Path.{_≡_}
+use mathlib.Core.Bool.{Bool}
 use mathlib.Core.List.{List, [], _∷_, _++_, map, reverse, List·Memᴰ as In}
 use Prim.Native.Nat.{ℕ, _+_, _-_, _*_, _≤_, _<_, min}
-use lib.ListN.{length, take, drop}
+use lib.Dec.{eqb}
+use lib.ListN.{length, getD, take, drop}
 use lib.Ieee.{Float}
+use Rattle.basics.specs.Lists.{keep}
 use Rattle.basics.specs.Nodes.{NoDup, Below}
 use Rattle.sorting.specs.Sorting.{firstBy}
 use Rattle.sorting.specs.Inside.Pairs.{pairs, keyIn, both}
@@ -57,34 +60,42 @@ keysPart n words = part (keysAt n) (wordsFor n) words
 abbrev pub pairOf : (ℕ → Float) → ℕ → ℕ × ℕ
 pairOf far v = (keyAt far v, v)
 
+-- which nodes are live, by a word for each: 0 is live, and so is a node past the words
+abbrev pub liveBy : List ℕ → ℕ → Bool
+liveBy withdrawn v = eqb (getD withdrawn v 0) 0
+
 -- The first few of what is scored stand in two slices, the keys and the nodes, in front of what the nodes' slice had before.
-pub record AnswerHeld (far : ℕ → Float) (nodes₀ keys nodes : List ℕ) (kept : ℕ) (seen : List ℕ) : Type 0 where
-  pub pairs-are : pairs (take kept keys) (take kept nodes) ≡ firstBy keyIn (both keys nodes) (map (pairOf far) (reverse seen))
-  pub nodes-are : nodes ≡ firstBy (keyAt far) (both keys nodes) (reverse seen) ++ drop kept nodes₀
-  pub kept-is : kept ≡ min (both keys nodes) (length seen)
+pub record AnswerHeld (far : ℕ → Float) (nodes₀ keys nodes : List ℕ) (kept : ℕ) (scored : List ℕ) : Type 0 where
+  pub pairs-are : pairs (take kept keys) (take kept nodes) ≡ firstBy keyIn (both keys nodes) (map (pairOf far) (reverse scored))
+  pub nodes-are : nodes ≡ firstBy (keyAt far) (both keys nodes) (reverse scored) ++ drop kept nodes₀
+  pub kept-is : kept ≡ min (both keys nodes) (length scored)
   pub long : length nodes ≡ length nodes₀
 
--- The memory of a walk over n nodes with b places that has seen these nodes, and has these in its frontier.
-pub record Standing (far : ℕ → Float) (n b : ℕ) (nodes₀ : List ℕ) (m : Memory) (seen front : List ℕ) : Type 0 where
+-- What the memory of a walk over n nodes with b places has of the nodes scored: the held, the cutoff, the first few, and their number.
+pub record Scored (far : ℕ → Float) (n b : ℕ) (nodes₀ : List ℕ) (m : Memory) (scored : List ℕ) : Type 0 where
+  pub held : Held far (min b n) (heldOf far b scored) (heldPart n b (m .words))
+  pub held-count : m .walk .held ≡ length (heldOf far b scored)
+  pub cutoff-is : m .walk .cutoff ≡ cutoffOf far b scored
+  pub answer : AnswerHeld far nodes₀ (keysPart n (m .words)) (m .nodes) (m .walk .kept) scored
+  pub scored-is : m .walk .scored ≡ length scored
+
+-- The memory of a walk that has seen these nodes, and has these in its frontier. Those of the nodes seen that are live are scored.
+pub record Standing (far : ℕ → Float) (live : ℕ → Bool) (n b : ℕ) (nodes₀ : List ℕ) (m : Memory) (seen front : List ℕ) : Type 0 where
   pub frontier : Queue (frontRank far) n front (frontierPart n (m .words))
-  pub held : Held far (min b n) (heldOf far b seen) (heldPart n b (m .words))
-  pub held-count : m .walk .held ≡ length (heldOf far b seen)
-  pub cutoff-is : m .walk .cutoff ≡ cutoffOf far b seen
-  pub answer : AnswerHeld far nodes₀ (keysPart n (m .words)) (m .nodes) (m .walk .kept) seen
-  pub scored-is : m .walk .scored ≡ length seen
+  pub scored : Scored far n b nodes₀ m (keep live seen)
   pub once : NoDup seen
   pub inside : Below n seen
   pub sub : (x : ℕ) → In x front → In x seen
 
--- one node more
-abbrev pub Pushing : ℕ → ℕ → ℕ → Memory → Memory → Type 0
-Pushing n b v m m′ =
+-- one node more; the words `withdrawn` say whether it is live
+abbrev pub Pushing : ℕ → ℕ → ℕ → List ℕ → Memory → Memory → Type 0
+Pushing n b v withdrawn m m′ =
     (far : ℕ → Float) (nodes₀ seen front : List ℕ)
     → Known far n (v ∷ seen) (m .floats)
     → v < n
     → (In v seen → ⊥)
-    → Standing far n b nodes₀ m seen front
-    → Standing far n b nodes₀ m′ (v ∷ seen) (toFrontier far v front)
+    → Standing far (liveBy withdrawn) n b nodes₀ m seen front
+    → Standing far (liveBy withdrawn) n b nodes₀ m′ (v ∷ seen) (toFrontier far v front)
 
 -- several, one after the other
 unfoldable pub pushed : (ℕ → Float) → List ℕ → State → State
@@ -93,8 +104,8 @@ pushed far [] s = s
 pushed far (v ∷ vs) s = pushed far vs (record { seen = v ∷ s .seen; front = toFrontier far v (s .front) })
 
 -- the first `count` of the fresh nodes, which are all different and all new, and have their distances
-abbrev pub PushingAll : ℕ → ℕ → ℕ → Memory → Memory → Type 0
-PushingAll n b count m m′ =
+abbrev pub PushingAll : ℕ → ℕ → ℕ → List ℕ → Memory → Memory → Type 0
+PushingAll n b count withdrawn m m′ =
     wordsFor n ≤ length (m .words)
     → (far : ℕ → Float) (nodes₀ fresh : List ℕ) (s : State)
     → fresh ≡ take count (drop n (m .words))
@@ -103,5 +114,5 @@ PushingAll n b count m m′ =
     → NoDup (pushed far fresh s .seen)
     → Below n (pushed far fresh s .seen)
     → Known far n (pushed far fresh s .seen) (m .floats)
-    → Standing far n b nodes₀ m (s .seen) (s .front)
-    → Standing far n b nodes₀ m′ (pushed far fresh s .seen) (pushed far fresh s .front)
+    → Standing far (liveBy withdrawn) n b nodes₀ m (s .seen) (s .front)
+    → Standing far (liveBy withdrawn) n b nodes₀ m′ (pushed far fresh s .seen) (pushed far fresh s .front)

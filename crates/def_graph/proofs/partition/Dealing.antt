@@ -1,51 +1,25 @@
 -- Dealing puts each node into as many buckets as the fanout says, or into those of all leaders if there are fewer: any weight is multiplied by that
 -- number. Assumes nothing.
 use mathlib.Core.Path.{_≡_, refl, sym, ap, _∙_}
-use mathlib.Core.Logic.{inl, inr}
 use mathlib.Core.Bool.{Bool, true, false}
 use mathlib.Core.List.{List, [], _∷_, map}
-use mathlib.Core.List.{List·Memᴰ as In, List·Memᴰ·head as here, List·Memᴰ·tail as there, List·Memᴰ·not-nil as in-nil, List·Memᴰ·cases-cons as in-cons}
 use Prim.Native.Nat.{ℕ, _+_, _*_, min}
 use native.Mathlib.Omega.{arith}
 use native.Mathlib.Nat.{add-mul, mul-add}
-use lib.Dec.{T}
 use lib.ListN.{length, length-take}
 use lib.Ieee.{Float}
-use Rattle.basics.specs.Choice.{pick, pick-ind}
+use Rattle.basics.specs.Choice.{pick}
+use Rattle.basics.specs.Lists.{keep}
 use Rattle.basics.specs.Nodes.{has, NoDup, Below}
 use Rattle.basics.proofs.Counting.{has-in, in-has, shorter}
 use Rattle.basics.proofs.Members.{in-take, nodup-take}
+use Rattle.basics.proofs.Keeping.{in-keep, keep-in, nodup-keep}
 use Rattle.sorting.proofs.Laws.{in-sort, length-sort, sort-nodup}
 use Rattle.random.specs.Leaders.{upTo}
 use Rattle.random.proofs.leaders.Draws.{length-upTo}
 use Rattle.random.proofs.leaders.Positions.{in-upTo, upTo-below, nodup-upTo}
-use Rattle.def_graph.specs.Partition.{keep, nearestLeaders, dealt}
+use Rattle.def_graph.specs.Partition.{nearestLeaders, dealt}
 use Rattle.def_graph.specs.Inside.Occurrences.{weigh, weighAll}
-
--- ---- those of a list for which a test holds
-
-pub in-keep : {z : ℕ} (test : ℕ → Bool) (l : List ℕ) → In z (keep test l) → T (test z) × In z l
-unfolding keep
-in-keep test [] = λ m. absurd (in-nil m)
-in-keep {z} test (x ∷ l) =
-    let later : In z (keep test l) → T (test z) × In z (x ∷ l) = λ m. let p = in-keep test l m in (p .0, there (p .1)) in
-    pick-ind (λ (k : List ℕ). In z k → T (test z) × In z (x ∷ l)) (test x)
-    (λ t m. elim (in-cons {b = x} {l = keep test l} m) [ inl e ↦ (rw e t, here e) | inr i ↦ later i ]) (λ _ m. later m)
-
-keep-in : {z : ℕ} (test : ℕ → Bool) (l : List ℕ) → T (test z) → In z l → In z (keep test l)
-unfolding keep
-keep-in test [] t m = m
-keep-in {z} test (x ∷ l) t m =
-    let rec : In z l → In z (keep test l) = keep-in test l t in
-    pick-ind (In z) (test x) (λ _. elim (in-cons m) [ inl e ↦ here e | inr i ↦ there (rec i) ])
-    (λ u. elim (in-cons m) [ inl e ↦ absurd (lib.Dec.T-not (test x) u (rw e at t)) | inr i ↦ rec i ])
-
-nodup-keep : (test : ℕ → Bool) (l : List ℕ) → NoDup l → NoDup (keep test l)
-unfolding keep
-nodup-keep test [] d = tt
-nodup-keep test (x ∷ l) d =
-    let rec : NoDup (keep test l) = nodup-keep test l (d .1) in
-    pick-ind NoDup (test x) (λ _. ((λ m. d .0 (in-keep test l m .1)), rec)) (λ _. rec)
 
 -- of the numbers below m as many are in a list of different ones of them as it has
 members : (m : ℕ) (l : List ℕ) → NoDup l → Below m l → length (keep (λ (x : ℕ). has x l) (upTo m)) ≡ length l

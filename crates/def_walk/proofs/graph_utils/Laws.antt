@@ -226,7 +226,3 @@ module _ (rows : List (List ℕ)) (e : ℕ) (vs : List (List Float)) (e-below : 
   pub repair-few : length (ensureConnectivity rows e vs) < length rows
   unfolding ensureConnectivity
   repair-few = all-turned .fewer e-below
-
-  -- entries of the repaired lists are nodes
-  pub repaired-below : (u v : ℕ) → In v (listOf rows (ensureConnectivity rows e vs) u) → v < length rows
-  repaired-below = inside (ensureConnectivity rows e vs) repair-ends

@@ -52,14 +52,12 @@ pub record Inv (list : ℕ → List ℕ) (n e : ℕ) (seen front : List ℕ) : T
 pub record Grown (s s′ : State) (l : List ℕ) : Type 0 where
   pub keeps : (x : ℕ) → In x (s .seen) → In x (s′ .seen)
   pub takes : (x : ℕ) → In x l → In x (s′ .seen)
-  pub short : length (s′ .seen) ≤ length (s .seen) + length l
   pub alike : length (s′ .seen) + length (s .front) ≡ length (s .seen) + length (s′ .front)
 
 grown-then : {s s′ s″ : State} {v : ℕ} {l : List ℕ} → Grown s s′ (v ∷ []) → Grown s′ s″ l → Grown s s″ (v ∷ l)
 grown-then {s} {s′} {s″} {v} {l} a b = record {
   keeps = λ x m. b .keeps x (a .keeps x m);
   takes = takes′;
-  short = omega (arith, a .short, b .short);
   alike = omega (arith, a .alike, b .alike);
 }
   where
@@ -113,20 +111,28 @@ module _ (list : ℕ → List ℕ) (n e : ℕ) (push : ℕ → List ℕ → List
       pick-ind (λ (s′ : State). Grown s s′ (v ∷ [])) (has v (s .seen)) (λ t. record {
         keeps = λ x m. m;
         takes = λ x m. in-cast (in-one m) (has-in v (s .seen) t);
-        short = omega arith;
         alike = refl;
       })
       (λ t. record {
         keeps = λ x m. there m;
         takes = λ x m. here (in-one m);
-        short = omega arith;
         alike = omega (arith, law .one v (s .front));
       })
 
   pub expand-grown : (l : List ℕ) (s : State) → Grown s (expand push s l) l
   unfolding expand
-  expand-grown [] s = record { keeps = λ x m. m; takes = λ x m. absurd (in-nil m); short = omega arith; alike = refl }
+  expand-grown [] s = record { keeps = λ x m. m; takes = λ x m. absurd (in-nil m); alike = refl }
   expand-grown (v ∷ l) s = grown-then (visit-grown v s) (expand-grown l (visit push v s))
+
+  -- a measure that one node more raises by one at most is raised by the length of the list at most
+  pub expand-short : (m : List ℕ → ℕ) → ((v : ℕ) (seen : List ℕ) → m (v ∷ seen) ≤ suc (m seen)) → (l : List ℕ) (s : State)
+      → m (expand push s l .seen) ≤ m (s .seen) + length l
+  unfolding expand visit
+  expand-short m one [] s = omega arith
+  expand-short m one (v ∷ l) s =
+      let first : m (visit push v s .seen) ≤ suc (m (s .seen)) =
+      pick-ind (λ (s′ : State). m (s′ .seen) ≤ suc (m (s .seen))) (has v (s .seen)) (λ _. omega arith) (λ _. one v (s .seen)) in
+      omega (arith, expand-short m one l (visit push v s))
 
   expand-good : (u : ℕ) (l : List ℕ) (s : State) → Good u s → Below n l → ((x : ℕ) → In x l → Reach list e x) → Good u (expand push s l)
   unfolding expand
@@ -206,16 +212,31 @@ module _ (list : ℕ → List ℕ) (n e : ℕ) (push : ℕ → List ℕ → List
       (λ _. pick-ind (Ended list n e Late seen) (tooMany (s .seen)) (λ t. later (x .grown .keeps) (stopped (x .inv) (many-late (s .seen) t)))
       (λ _. later (x .grown .keeps) (walk-ended f (s .seen) (s .front) (x .inv) (omega (arith, x .grown .alike)))))
 
-  -- the upper bound: at most cap are seen before an expansion, and an expansion adds at most a list's length
-  pub walk-short : (cap L : ℕ) → ((l : List ℕ) → T (not (tooMany l)) → length l ≤ cap) → ((u : ℕ) → u < n → length (list u) ≤ L)
-      → (f : ℕ) (seen front : List ℕ) → Inv list n e seen front → length seen ≤ cap → length (walk list push tooFar tooMany f seen front) ≤ cap + L
+  -- The upper bound, over a measure of what is seen that one node more raises by one at most: it is at most cap before an expansion, and an
+  -- expansion adds at most a list's length.
+  pub walk-short : (m : List ℕ → ℕ) → ((v : ℕ) (seen : List ℕ) → m (v ∷ seen) ≤ suc (m seen))
+      → (cap L : ℕ) → ((l : List ℕ) → T (not (tooMany l)) → m l ≤ cap) → ((u : ℕ) → u < n → length (list u) ≤ L)
+      → (f : ℕ) (seen front : List ℕ) → Inv list n e seen front → m seen ≤ cap → m (walk list push tooFar tooMany f seen front) ≤ cap + L
   unfolding walk
-  walk-short cap L c a zero seen front i h = omega arith
-  walk-short cap L c a (suc f) seen [] i h = omega arith
-  walk-short cap L c a (suc f) seen (u ∷ fr) i h =
-      let s : State = expand push (record { seen = seen; front = fr }) (list u) in
-      let x : Next (record { seen = seen; front = fr }) u s = next seen fr u i in
-      pick-ind (λ (r : List ℕ). length r ≤ cap + L) (tooFar seen u) (λ _. omega arith)
-      (λ _. pick-ind (λ (r : List ℕ). length r ≤ cap + L) (tooMany (s .seen))
-      (λ _. omega (arith, x .grown .short, a u (i .below u (i .sub u (here refl)))))
-      (λ t. walk-short cap L c a f (s .seen) (s .front) (x .inv) (c (s .seen) t)))
+  walk-short m one cap L c a zero seen front i h = omega arith
+  walk-short m one cap L c a (suc f) seen [] i h = omega arith
+  walk-short m one cap L c a (suc f) seen (u ∷ fr) i h =
+      let s₀ : State = record { seen = seen; front = fr } in
+      let s : State = expand push s₀ (list u) in
+      let x : Next s₀ u s = next seen fr u i in
+      pick-ind (λ (r : List ℕ). m r ≤ cap + L) (tooFar seen u) (λ _. omega arith)
+      (λ _. pick-ind (λ (r : List ℕ). m r ≤ cap + L) (tooMany (s .seen))
+      (λ _. omega (arith, expand-short list n e push law m one (list u) s₀, a u (i .below u (i .sub u (here refl)))))
+      (λ t. walk-short m one cap L c a f (s .seen) (s .front) (x .inv) (c (s .seen) t)))
+
+-- ---- two walks with the same stops are the same
+
+pub walk-same : (list : ℕ → List ℕ) (push : ℕ → List ℕ → List ℕ) {tooFar tooFar′ : List ℕ → ℕ → Bool} {tooMany tooMany′ : List ℕ → Bool}
+    → ((seen : List ℕ) (u : ℕ) → tooFar seen u ≡ tooFar′ seen u) → ((seen : List ℕ) → tooMany seen ≡ tooMany′ seen)
+    → (f : ℕ) (seen front : List ℕ) → walk list push tooFar tooMany f seen front ≡ walk list push tooFar′ tooMany′ f seen front
+unfolding walk
+walk-same list push far many zero seen front = refl
+walk-same list push far many (suc f) seen [] = refl
+walk-same list push far many (suc f) seen (u ∷ fr) =
+    let s : State = expand push (record { seen = seen; front = fr }) (list u) in
+    rw (far seen u, many (s .seen), walk-same list push far many f (s .seen) (s .front)) refl

@@ -25,13 +25,14 @@ use Rattle.pipnn.specs.Add.{ownChecks, addChecks, addSpec}
 use Rattle.pipnn.proofs.Answer.{number-is}
 use Rattle.pipnn.proofs.NewLaws.{new-taken}
 use Rattle.pipnn.proofs.AddLaws.{AddTaken, add-taken}
+use Rattle.def_walk.specs.Beam.{usual}
 use Rattle.def_calls.specs.Build.{ownBuildChecks, buildChecks, buildSpec}
 use Rattle.def_calls.specs.Search.{mostNodes, mostBeam, ownSearchChecks, searchChecks, Reply, refused, replyOf, searchWithEfSpec, searchSpec}
 use Rattle.def_calls.proofs.Taken.{build-taken, search-replied}
 use Rattle.theorems.specs.Calls.{Typed, Call, new, add, build, searchWithEf, search, outcome, Index, Past, nothing, opened, built, then}
-use Rattle.theorems.proofs.promise.Made.{Made, open-state, built-state, call-made}
+use Rattle.theorems.proofs.promise.Made.{Shown, Made, open-shown, open-state, built-state, call-made}
 use Rattle.theorems.specs.Acceptance.{Accepted, Scratch, Opens, Adds, Builds, Asks, AsksWithEf, Welcome, Accepts}
-use Rattle.theorems.proofs.acceptance.Sound.{Sound, Kept, Shown, open-shown, built-shown, open-passes, built-passes}
+use Rattle.theorems.proofs.acceptance.Sound.{Sound, Kept, open-passes, built-passes}
 use Rattle.theorems.proofs.acceptance.Keeping.{call-kept}
 
 pass-both : (first second : List Check) → Pass first → Pass second → Pass (first ++ second)
@@ -77,9 +78,9 @@ new-earned d p t c w f e =
 -- ---- add
 
 add-accepted : (doc : ℕ) (v : List Float) (x : Index) (w : List ℕ) (f : List Float) → Made (opened x) w f → Sound x w f → Adds x v → Accepted (add doc v) w f
-unfolding outcome addSpec addChecks ownChecks
+unfolding view outcome addSpec addChecks ownChecks
 add-accepted doc v x w f m s a =
-    let h : Shown x w f = open-shown x w f m in
+    let h : Shown x (view w f) = open-shown x w f m in
     let state : word w stateAt ≡ 0 = open-state x w f m in
     let open-still : eqb (word w stateAt) builtState ≡ false = ne-eqb (word w stateAt) builtState (λ e. omega arith) in
     let components : not (eqb (length v) (word w dimensionAt)) ≡ false = ap not (eq-eqb (length v) (word w dimensionAt) (a .components ∙ sym (h .dimension))) in
@@ -93,8 +94,9 @@ unfolding outcome addSpec
 add-passed doc v w f e = add-taken w f v (sym (number-is (firstRefusal (addChecks w f v)) w f _ _) ∙ e)
 
 add-earned : (doc : ℕ) (v : List Float) (x : Index) (w : List ℕ) (f : List Float) → Made (opened x) w f → Accepted (add doc v) w f → Adds x v
+unfolding view
 add-earned doc v x w f m e =
-    let h : Shown x w f = open-shown x w f m in
+    let h : Shown x (view w f) = open-shown x w f m in
     let t : AddTaken w f v = add-passed doc v w f e in
     record { components = t .components ∙ h .dimension; numbers = t .numbers; free = omega (arith, t .free, h .nodes, h .capacity) }
 
@@ -106,8 +108,8 @@ build-accepted ws fs w f p some =
     let own : Pass (ownBuildChecks w) = (ne-eqb (word w nodesAt) 0 (λ e. omega arith), tt) in
     number-is (firstRefusal (buildChecks ws fs w f)) w f _ f ∙ none (buildChecks ws fs w f) (pass-both (opening (lent ws fs) w f) (ownBuildChecks w) p own)
 
-build-earned : (ws fs : ℕ) (x : Index) (w : List ℕ) (f : List Float) → Shown x w f → Accepted (build ws fs) w f → Builds x ws fs
-unfolding outcome buildSpec
+build-earned : (ws fs : ℕ) (x : Index) (w : List ℕ) (f : List Float) → Shown x (view w f) → Accepted (build ws fs) w f → Builds x ws fs
+unfolding view outcome buildSpec
 build-earned ws fs x w f h e =
     let t = build-taken ws fs w f (sym (number-is (firstRefusal (buildChecks ws fs w f)) w f _ f) ∙ e) in
     record { scratch = scratch-passed (word w capacityAt) (x .capacity) ws fs (h .capacity) (t .stores .scratch); some = omega (arith, t .some, h .nodes) }
@@ -120,9 +122,9 @@ answers refusal reply docs distances e z = pick-ind (λ (r : Reply). r .number �
 
 search-accepted : (ws fs : ℕ) (q : List Float) (k ef : ℕ) (docs : List ℕ) (distances : List Float) (x : Index) (w : List ℕ) (f : List Float)
     → Made (built x) w f → Sound x w f → Asks x ws fs q k docs distances → ef ≤ mostBeam → searchWithEfSpec ws fs w f q k ef docs distances .number ≡ 0
-unfolding searchWithEfSpec searchChecks ownSearchChecks replyOf
+unfolding view searchWithEfSpec searchChecks ownSearchChecks replyOf
 search-accepted ws fs q k ef docs distances x w f m s a within-ef =
-    let h : Shown x w f = built-shown x w f m in
+    let h : Shown x (view w f) = m .shown in
     let state = ap not (eq-eqb (word w stateAt) builtState (built-state x w f m)) in
     let components = ap not (eq-eqb (length q) (word w dimensionAt) (a .components ∙ sym (h .dimension))) in
     let limits = ap₂ _||_ (le-ltb mostNodes k (omega (arith, a .few))) (le-ltb mostBeam ef within-ef) in
@@ -131,13 +133,14 @@ search-accepted ws fs q k ef docs distances x w f m s a within-ef =
     let room = ap₂ _||_ (le-ltb (length docs) _ docs-room) (le-ltb (length distances) _ distances-room) in
     let own : Pass (ownSearchChecks w q k ef docs distances) = (state, (components, (ap not (a .numbers), (limits, (room, tt))))) in
     let begin : Pass (opening (lent ws fs) w f) = built-passes x w f m s (lent ws fs) (scratch-enough (word w capacityAt) (x .capacity) ws fs (h .capacity) (a .scratch)) in
-    answers (firstRefusal (searchChecks w q k ef docs distances ws fs f)) (replyOf (view w f) q k ef docs distances) docs distances
+    answers (firstRefusal (searchChecks w q k ef docs distances ws fs f)) (replyOf usual (view w f) q k ef docs distances) docs distances
     (none (searchChecks w q k ef docs distances ws fs f) (pass-both (opening (lent ws fs) w f) (ownSearchChecks w q k ef docs distances) begin own)) refl
 
 module _ (ws fs : ℕ) (q : List Float) (k ef : ℕ) (docs : List ℕ) (distances : List Float) (x : Index) (w : List ℕ) (f : List Float) where
   search-earned : Made (built x) w f → searchWithEfSpec ws fs w f q k ef docs distances .number ≡ 0 → AsksWithEf x ws fs q k ef docs distances
+  unfolding view
   search-earned m e =
-      let h : Shown x w f = built-shown x w f m in
+      let h : Shown x (view w f) = m .shown in
       let t = search-replied ws fs w f q k ef docs distances e .0 in
       record {
         asks = record {
@@ -156,30 +159,30 @@ module _ (ws fs : ℕ) (q : List Float) (k ef : ℕ) (docs : List ℕ) (distance
 
 -- the store's ef_search is one that `new` has judged
 stored-ef : (x : Index) (w : List ℕ) (f : List Float) → Made (built x) w f → Sound x w f → word w efSearchAt ≤ mostBeam
-unfolding paramsOf
-stored-ef x w f m s = within (paramsOf w) (ap withinLimits (built-shown x w f m .params) ∙ s .limits) .ef-most
+unfolding view paramsOf
+stored-ef x w f m s = within (paramsOf w) (ap withinLimits (m .shown .params) ∙ s .limits) .ef-most
 
 -- ---- one call
 
 pub call-judged : (c : Call) (past : Past) (w : List ℕ) (f : List Float) → Made past w f → Kept past w f → Welcome c past w f
-unfolding outcome searchSpec
+unfolding view outcome searchSpec
 call-judged (new d p t c) past w f m s = record { welcome = new-accepted d p t c w f; earned = new-earned d p t c w f }
 call-judged (add doc v) nothing w f m s = tt
 call-judged (add doc v) (opened x) w f m s = record { welcome = add-accepted doc v x w f m s; earned = add-earned doc v x w f m }
 call-judged (add doc v) (built x) w f m s = record { welcome = λ n. absurd n; earned = λ e. add-passed doc v w f e .state (built-state x w f m) }
 call-judged (build ws fs) nothing w f m s = tt
 call-judged (build ws fs) (opened x) w f m s =
-    let h : Shown x w f = open-shown x w f m in
+    let h : Shown x (view w f) = open-shown x w f m in
     record {
       welcome = λ b. build-accepted ws fs w f
           (open-passes x w f m s (lent ws fs) (scratch-enough (word w capacityAt) (x .capacity) ws fs (h .capacity) (b .scratch))) (omega (arith, h .nodes, b .some));
       earned = build-earned ws fs x w f h;
     }
 call-judged (build ws fs) (built x) w f m s =
-    let h : Shown x w f = built-shown x w f m in
+    let h : Shown x (view w f) = m .shown in
     record {
       welcome = λ enough. build-accepted ws fs w f
-          (built-passes x w f m s (lent ws fs) (scratch-enough (word w capacityAt) (x .capacity) ws fs (h .capacity) enough)) (omega (arith, h .nodes, m .some));
+          (built-passes x w f m s (lent ws fs) (scratch-enough (word w capacityAt) (x .capacity) ws fs (h .capacity) enough)) (omega (arith, m .graph .entry));
       earned = λ e. build-earned ws fs x w f h e .scratch;
     }
 call-judged (searchWithEf ws fs q k ef docs distances) nothing w f m s = tt

@@ -2,7 +2,7 @@
 -- lays rows that fit, and a refused call leaves both stores as they were. Assumes nothing.
 use mathlib.Core.Path.{_≡_, refl, sym, ap, ap₂, _∙_, subst}
 use mathlib.Core.Bool.{Bool, true, _&&_}
-use mathlib.Core.List.{List, [], _∷_, map-append}
+use mathlib.Core.List.{List, [], _∷_}
 use Prim.Native.Nat.{ℕ, suc, _+_, _*_, _≤_, _<_}
 use native.Mathlib.Nat.{add-zero}
 use native.Mathlib.Numerals.{add-one}
@@ -36,10 +36,10 @@ use Rattle.def_calls.specs.Search.{searchWithEfSpec, searchSpec}
 use Rattle.def_calls.proofs.Taken.{BuildTaken, build-taken}
 use Rattle.def_calls.proofs.Views.{Fits, built-word, built-length, built-rows, build-fits}
 use Rattle.theorems.specs.Calls.{Typed, Call, new, add, build, searchWithEf, search, outcome, Added, Index, Past, nothing, opened, built, withNode, accepted, then, vectorsOf, docsOf}
-use Rattle.theorems.proofs.promise.Made.{Made, changes, same-past, open-state, built-state}
+use Rattle.theorems.proofs.promise.Made.{Shown, Made, shown-degree, open-shown, open-state, built-state, changes, same-past, vectors-with}
 use Rattle.theorems.proofs.acceptance.Finite.{scaled-finite}
 use Rattle.theorems.proofs.acceptance.Parts.{every-both, blocks-ok}
-use Rattle.theorems.proofs.acceptance.Sound.{Sound, Kept, Shown, open-shown}
+use Rattle.theorems.proofs.acceptance.Sound.{Sound, Kept}
 
 -- ---- `new`
 
@@ -81,8 +81,12 @@ module _ (x : Index) (w : List ℕ) (f : List Float) (doc : ℕ) (v : List Float
   abbrev w′ : List ℕ
   w′ = set (set w (docsAt + n) doc) nodesAt (n + 1)
 
-  shown : Shown x w f
+  shown : Shown x (view w f)
   shown = open-shown x w f o
+
+  C-is : C ≡ x .capacity
+  unfolding view
+  C-is = shown .capacity
 
   -- the row that the node finds counts 0
   abbrev row : List ℕ
@@ -90,11 +94,11 @@ module _ (x : Index) (w : List ℕ) (f : List Float) (doc : ℕ) (v : List Float
 
   row-blank : getD row 0 0 ≡ 0
   row-blank =
-      let places : rowAt C D n ≡ rowAt (x .capacity) (x .params .«max_degree») n = λ i. rowAt (shown .capacity i) (shown .degree i) n in
+      let places : rowAt C D n ≡ rowAt (x .capacity) (x .params .«max_degree») n = λ i. rowAt (C-is i) (shown-degree x w f shown i) n in
       getD-take (rowSize D) (drop (n * rowSize D) (drop (rowsAt C) w)) 0 0 (omega arith)
       ∙ ap (λ (l : List ℕ). getD l 0 0) (drop-drop (n * rowSize D) (rowsAt C) w)
       ∙ getD-drop (rowAt C D n) w 0 0 ∙ ap (λ (k : ℕ). word w k) (add-zero (rowAt C D n) ∙ places)
-      ∙ o .blank n (subst (λ (k : ℕ). n < k) (shown .capacity) (t .free))
+      ∙ o .blank n (subst (λ (k : ℕ). n < k) C-is (t .free))
 
   counts-more : every (countOk (x .params .«max_degree»)) (rowWords (addedWords w doc)) ≡ true
   unfolding addedWords rowWords every
@@ -109,18 +113,17 @@ module _ (x : Index) (w : List ℕ) (f : List Float) (doc : ℕ) (v : List Float
       ∙ ap (every (countOk most)) (pieces-more (rowSize D) n (drop (rowsAt C) w))
       ∙ every-both (countOk most) (rowWords w) (row ∷ []) (s .counts) last
 
-  vectors-more : every (every finite) (vectorsOf (withNode doc v x)) ≡ true
-  unfolding vectorsOf every
+  vectors-more : every (every finite) (vectorsOf (withNode doc (scaledOf binary32 v) x)) ≡ true
+  unfolding every
   vectors-more =
-      let a : Added = record { doc = doc; vector = v } in
       let last : every (every finite) (scaledOf binary32 v ∷ []) ≡ true = ap (λ (b : Bool). b && true) (scaled-finite v (t .numbers)) in
-      ap (every (every finite)) (map-append (λ (b : Added). scaledOf binary32 (b .vector)) (x .nodes) (a ∷ []))
+      ap (every (every finite)) (vectors-with x doc (scaledOf binary32 v))
       ∙ every-both (every finite) (vectorsOf x) (scaledOf binary32 v ∷ []) (s .vectors) last
 
-  add-sound : Sound (withNode doc v x) (addedWords w doc) (addedFloats w f v)
-  unfolding addedWords
+  add-sound : Sound (withNode doc (scaledOf binary32 v) x) (addedWords w doc) (addedFloats w f v)
+  unfolding view addedWords
   add-sound =
-      let a : Added = record { doc = doc; vector = v } in
+      let a : Added = record { doc = doc; vector = scaledOf binary32 v } in
       let after = add-open (x .dimension) (x .params) (x .capacity) (docsOf x) (vectorsOf x) w f doc v t o in
       let final : word w′ finalPruneAt ≡ word w finalPruneAt = kept w f doc v t finalPruneAt (omega arith) (λ e. omega arith) in
       record {
@@ -151,7 +154,7 @@ build-sound : (ws fs : ℕ) (x : Index) (w : List ℕ) (f : List Float) → Made
     → Sound x (builtWords (graphFor (view w f)) w) f
 unfolding view paramsOf
 build-sound ws fs x w f o s t =
-    let h : Shown x w f = open-shown x w f o in
+    let h : Shown x (view w f) = open-shown x w f o in
     let g : Graph = graphFor (view w f) in
     let fits : Fits g w = build-fits ws fs w f t in
     let final : word (builtWords g w) finalPruneAt ≡ word w finalPruneAt =
@@ -164,8 +167,8 @@ build-sound ws fs x w f o s t =
       vectors = s .vectors;
       final = omega (arith, final, s .final);
       zero-word = built-word g w fits zeroAt (omega arith) (λ e. omega arith) (λ e. omega arith) (λ e. omega arith) ∙ s .zero-word;
-      counts = ap (λ (D : ℕ). every (countOk D) (rowWords (builtWords g w))) (sym (h .degree)) ∙ ap (every (countOk (word w degreeAt))) (built-rows g w fits)
-          ∙ blocks-ok (word w degreeAt) (g .rows) (fits .short);
+      counts = ap (λ (D : ℕ). every (countOk D) (rowWords (builtWords g w))) (sym (shown-degree x w f h))
+          ∙ ap (every (countOk (word w degreeAt))) (built-rows g w fits) ∙ blocks-ok (word w degreeAt) (g .rows) (fits .short);
       words = omega (arith, built-length g w fits, s .words);
       floats = s .floats;
     }

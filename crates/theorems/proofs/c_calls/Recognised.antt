@@ -77,7 +77,7 @@ module _ (ws fs : ℕ) (w : List ℕ) (f query : List Float) (ef : ℕ) (limit :
   recognised-by : (x : Index) → Made (built x) w f → recognised ws fs w f query ef limit .number ≡ 0 → RecognisedBy x ws fs w f query ef limit
   recognised-by x m e =
       let a : AnsweredOne x = call-told (searchWithEf ws fs query 1 ef (0 ∷ []) (+zero ∷ [])) (built x) w f m (search-too e) in
-      let least : min 1 (size x) ≡ 1 = omega (arith, m .some) in
+      let least : min 1 (size x) ≡ 1 = omega (arith, m .graph .entry, m .shown .nodes) in
       let one = one-node (a .nodes) (a .exactly ∙ least) in
       by-node x a (one .0) (one .1) e
 

@@ -29,6 +29,7 @@ use Rattle.basics.specs.Sum.{+zero}
 use Rattle.pipnn.specs.New.{newChecks, newWords, newFloats, newSpec}
 use Rattle.pipnn.specs.Add.{ownChecks, addChecks, addedWords, addedFloats, addSpec}
 use Rattle.def_calls.specs.Graph.{Graph, graphFor}
+use Rattle.def_walk.specs.Beam.{usual}
 use Rattle.def_calls.specs.Build.{ownBuildChecks, buildChecks, builtHeader, builtWords, buildSpec}
 use Rattle.def_calls.specs.Search.{askingChecks, ownSearchChecks, searchChecks, farIn, foundIn, refused, replyOf, searchWithEfSpec, searchSpec}
 use Rattle.recognise.specs.Recognised.{refusedAs}
@@ -149,7 +150,7 @@ module _ (w w′ : List ℕ) (f f′ : List Float) (a : Agree w w′ f f′) whe
     unfolding searchWithEfSpec searchChecks
     on-search-with-ef k ef docs distances =
         searched (firstRefusal (searchChecks w query k ef docs distances ws fs f)) (firstRefusal (searchChecks w′ query k ef docs distances ws′ fs′ f′))
-        (λ (v : View). replyOf v query k ef docs distances) (λ (r : ℕ). refused r docs distances)
+        (λ (v : View). replyOf usual v query k ef docs distances) (λ (r : ℕ). refused r docs distances)
         (numbers-same (Scratch ws fs) (Scratch ws′ fs′) a s (asked-same k ef docs distances))
         (not-opened (Scratch ws fs) (Scratch ws′ fs′) a s (asked-same k ef docs distances))
 
@@ -163,7 +164,7 @@ module _ (w w′ : List ℕ) (f f′ : List Float) (a : Agree w w′ f f′) whe
     on-recognise ef limit =
         let same : (askingChecks w query 1 ef ++ (check (not (finite limit)) limitNotFinite ∷ [])) ≡ (askingChecks w′ query 1 ef ++ (check (not (finite limit)) limitNotFinite ∷ [])) = cc (h .w0, h .w1) in
         searched {X = Values} (firstRefusal (recogniseChecks ws fs w f query ef limit)) (firstRefusal (recogniseChecks ws′ fs′ w′ f′ query ef limit))
-        (λ (v : View). nearestOf (docIn v) (farIn v query) limit (foundIn v query 1 ef)) (λ (r : ℕ). refusedAs r)
+        (λ (v : View). nearestOf (docIn v) (farIn v query) limit (foundIn usual v query 1 ef)) (λ (r : ℕ). refusedAs r)
         (numbers-same (Scratch ws fs) (Scratch ws′ fs′) a s same)
         (not-opened (Scratch ws fs) (Scratch ws′ fs′) a s same)
 

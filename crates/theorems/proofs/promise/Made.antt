@@ -1,20 +1,21 @@
--- What holds between two calls: after an accepted `new` the store is open and has exactly the nodes added since, and after an accepted build its
--- view is that with the graph of parts 1 to 7. Each call keeps it, a refused one because it leaves both stores as they were. Assumes nothing.
+-- What holds between two calls: after an accepted `new` the store is open and has exactly the nodes added since, and after an accepted build it has
+-- these nodes, their lists before repair as rows, and a graph that a search can walk. Each call keeps it, a refused one because it leaves both stores
+-- as they were. Assumes nothing.
 use mathlib.Core.Path.{_≡_, refl, sym, ap, _∙_, subst}
 use mathlib.Core.List.{List, [], _∷_, _++_, map-append}
 use Prim.Native.Nat.{ℕ, zero, suc, _<_}
 use native.Mathlib.Omega.{arith}
 use lib.Dec.{eqb, eqb→eq}
-use lib.ListN.{length, length-map}
-use lib.Ieee.{Float, binary32}
+use lib.ListN.{length, getD, length-map}
+use lib.Ieee.{Float}
 use mir.Facts.{eqb-no, yes-eqb}
 use Rattle.basics.specs.Choice.{pick, pick-ind, pick-yes}
 use Rattle.basics.specs.Refusals.{firstRefusal}
 use Rattle.params.specs.declared.PipnnParams.{PipnnParams}
-use Rattle.norm.specs.Norm.{scaledOf}
-use Rattle.store.specs.Layout.{word, openState, builtState, stateAt, nodesAt}
-use Rattle.store.specs.View.{View, view}
-use Rattle.def_graph.specs.Rows.{Settings}
+use Rattle.store.specs.Layout.{word, openState, builtState, stateAt, degreeAt}
+use Rattle.store.specs.View.{paramsOf, View, view}
+use Rattle.store.proofs.Reading.{vectors-read}
+use Rattle.def_graph.specs.Rows.{rowsOf}
 use Rattle.pipnn.specs.Answer.{Answer, unlessRefused}
 use Rattle.pipnn.specs.New.{newChecks, newWords, newFloats, newSpec}
 use Rattle.pipnn.specs.Add.{addChecks, addedWords, addedFloats, addSpec}
@@ -26,48 +27,61 @@ use Rattle.def_calls.specs.Graph.{settingsOf, graphOf, graphFor}
 use Rattle.def_calls.specs.Build.{buildChecks, builtWords, buildSpec}
 use Rattle.def_calls.specs.Search.{searchWithEfSpec, searchSpec}
 use Rattle.def_calls.proofs.Taken.{BuildTaken, build-taken}
-use Rattle.def_calls.proofs.Views.{viewWith, build-view}
+use Rattle.def_calls.proofs.Graph.{Walkable, viewWith, graph-walkable}
+use Rattle.def_calls.proofs.Views.{build-view}
 use Rattle.theorems.specs.Calls.{Typed, Call, new, add, build, searchWithEf, search, outcome, Added, Index, Past, nothing, opened, built, withNode, accepted, then, vectorsOf, docsOf}
-use Rattle.theorems.specs.Promise.{size}
+use Rattle.theorems.specs.Promise.{size, listBefore}
 
 -- ---- the invariant
 
-abbrev pub settings : Index → Settings
-settings x = settingsOf (x .dimension) (x .params)
+-- what a view shows of an index, open or built
+pub record Shown (x : Index) (v : View) : Type 0 where
+  pub params : v .params ≡ x .params
+  pub dimension : v .dimension ≡ x .dimension
+  pub capacity : v .capacity ≡ x .capacity
+  pub nodes : v .n ≡ size x
+  pub docs : v .docs ≡ docsOf x
+  pub vectors : v .vectors ≡ vectorsOf x
 
--- the view of a built store
-abbrev pub ideal : Index → View
-ideal x = record {
-  params = x .params;
-  dimension = x .dimension;
-  capacity = x .capacity;
-  state = builtState;
-  n = size x;
-  entry = graphOf (settings x) (vectorsOf x) .entry;
-  docs = docsOf x;
-  rows = graphOf (settings x) (vectorsOf x) .rows;
-  bridges = graphOf (settings x) (vectorsOf x) .bridges;
-  vectors = vectorsOf x;
-}
-
-pub record BuiltStore (x : Index) (w : List ℕ) (f : List Float) : Type 0 where
-  pub is : view w f ≡ ideal x
-  pub some : 0 < size x
+-- A built store, by its view. Which entry node and which bridges it has is not said: a search can walk it.
+pub record BuiltStore (x : Index) (v : View) : Type 0 where
+  pub shown : Shown x v
+  pub state : v .state ≡ builtState
+  -- a node's row is its list before repair
+  pub rows : (i : ℕ) → getD (v .rows) i [] ≡ listBefore x i
+  pub graph : Walkable v
 
 abbrev pub Made : Past → List ℕ → List Float → Type 0
 Made nothing w f = Unit
 Made (opened x) w f = OpenStore (x .dimension) (x .params) (x .capacity) (docsOf x) (vectorsOf x) w f
-Made (built x) w f = BuiltStore x w f
+Made (built x) w f = BuiltStore x (view w f)
 
--- ---- as many of each as nodes
-
+-- an open store's doc ids are as many as its nodes
 many-docs : (x : Index) → length (docsOf x) ≡ size x
 unfolding docsOf
 many-docs x = length-map (x .nodes) (λ (a : Added). a .doc)
 
-pub many-vectors : (x : Index) → length (vectorsOf x) ≡ size x
-unfolding vectorsOf
-many-vectors x = length-map (x .nodes) (λ (a : Added). scaledOf binary32 (a .vector))
+pub open-shown : (x : Index) (w : List ℕ) (f : List Float) → Made (opened x) w f → Shown x (view w f)
+open-shown x w f o = record {
+  params = ap (λ (v : View). v .params) (o .is);
+  dimension = ap (λ (v : View). v .dimension) (o .is);
+  capacity = ap (λ (v : View). v .capacity) (o .is);
+  nodes = ap (λ (v : View). v .n) (o .is) ∙ many-docs x;
+  docs = ap (λ (v : View). v .docs) (o .is);
+  vectors = ap (λ (v : View). v .vectors) (o .is);
+}
+
+pub shown-degree : (x : Index) (w : List ℕ) (f : List Float) → Shown x (view w f) → word w degreeAt ≡ x .params .«max_degree»
+unfolding view paramsOf
+shown-degree x w f h = ap (λ (p : PipnnParams). p .«max_degree») (h .params)
+
+pub open-state : (x : Index) (w : List ℕ) (f : List Float) → Made (opened x) w f → word w stateAt ≡ openState
+unfolding view
+open-state x w f o = ap (λ (v : View). v .state) (o .is)
+
+pub built-state : (x : Index) (w : List ℕ) (f : List Float) → Made (built x) w f → word w stateAt ≡ builtState
+unfolding view
+built-state x w f b = b .state
 
 -- ---- a call that changes the stores, accepted or refused
 
@@ -103,50 +117,53 @@ new-made d p t c past w f e = new-open d p c w f (new-taken d p c w f e) (floats
 
 -- ---- add
 
-pub built-state : (x : Index) (w : List ℕ) (f : List Float) → Made (built x) w f → word w stateAt ≡ builtState
-unfolding view
-built-state x w f b = ap (λ (v : View). v .state) (b .is)
+-- one node more
+pub docs-with : (x : Index) (doc : ℕ) (u : List Float) → docsOf (withNode doc u x) ≡ docsOf x ++ (doc ∷ [])
+unfolding docsOf
+docs-with x doc u = map-append (λ (a : Added). a .doc) (x .nodes) (record { doc = doc; vector = u } ∷ [])
+
+pub vectors-with : (x : Index) (doc : ℕ) (u : List Float) → vectorsOf (withNode doc u x) ≡ vectorsOf x ++ (u ∷ [])
+unfolding vectorsOf
+vectors-with x doc u = map-append (λ (a : Added). a .vector) (x .nodes) (record { doc = doc; vector = u } ∷ [])
 
 add-made : (doc : ℕ) (v : List Float) (past : Past) (w : List ℕ) (f : List Float) → Made past w f → firstRefusal (addChecks w f v) ≡ 0
     → Made (accepted (add doc v) past) (addedWords w doc) (addedFloats w f v)
-unfolding accepted docsOf vectorsOf
+unfolding accepted
 add-made doc v nothing w f m e = tt
 add-made doc v (opened x) w f m e =
-    let a : Added = record { doc = doc; vector = v } in
-    let docs : docsOf (withNode doc v x) ≡ docsOf x ++ (doc ∷ []) = map-append (λ (b : Added). b .doc) (x .nodes) (a ∷ []) in
-    let vectors : vectorsOf (withNode doc v x) ≡ vectorsOf x ++ (scaledOf binary32 v ∷ []) =
-    map-append (λ (b : Added). scaledOf binary32 (b .vector)) (x .nodes) (a ∷ []) in
-    rw (docs, vectors) (add-open (x .dimension) (x .params) (x .capacity) (docsOf x) (vectorsOf x) w f doc v (add-taken w f v e) m)
+    rw (docs-with, vectors-with) (add-open (x .dimension) (x .params) (x .capacity) (docsOf x) (vectorsOf x) w f doc v (add-taken w f v e) m)
 add-made doc v (built x) w f m e = absurd (add-taken w f v e .state (built-state x w f m))
 
 -- ---- build
 
-pub open-nodes : (x : Index) (w : List ℕ) (f : List Float) → Made (opened x) w f → word w nodesAt ≡ size x
-unfolding view
-open-nodes x w f o = ap (λ (v : View). v .n) (o .is) ∙ many-docs x
-
-pub open-state : (x : Index) (w : List ℕ) (f : List Float) → Made (opened x) w f → word w stateAt ≡ openState
-unfolding view
-open-state x w f o = ap (λ (v : View). v .state) (o .is)
+-- the graph of parts 1 to 7, in a view that shows an index
+graph-built : (x : Index) (v : View) → Shown x v → length (v .vectors) ≡ v .n → 0 < v .n → BuiltStore x (viewWith (graphFor v) v)
+unfolding graphOf
+graph-built x v h many some = record {
+  shown = record { params = h .params; dimension = h .dimension; capacity = h .capacity; nodes = h .nodes; docs = h .docs; vectors = h .vectors };
+  state = refl;
+  rows = λ i j. getD (rowsOf (settingsOf (h .dimension j) (h .params j)) (h .vectors j)) i [];
+  graph = graph-walkable v many some;
+}
 
 -- an open store, built
 build-open : (ws fs : ℕ) (x : Index) (w : List ℕ) (f : List Float) → Made (opened x) w f → BuildTaken ws fs w f
-    → BuiltStore x (builtWords (graphFor (view w f)) w) f
-build-open ws fs x w f o t = record {
-  is = build-view ws fs w f t ∙ ap (λ (v : View). viewWith (graphFor v) v) (o .is) ∙ rw (many-docs x);
-  some = omega (arith, t .some, open-nodes x w f o);
-}
+    → Made (built x) (builtWords (graphFor (view w f)) w) f
+unfolding view
+build-open ws fs x w f o t =
+    subst (BuiltStore x) (sym (build-view ws fs w f t)) (graph-built x (view w f) (open-shown x w f o) (vectors-read w f) (t .some))
 
 build-made : (ws fs : ℕ) (past : Past) (w : List ℕ) (f : List Float) → Made past w f → firstRefusal (buildChecks ws fs w f) ≡ 0
     → Made (accepted (build ws fs) past) (pick (eqb (word w stateAt) builtState) w (builtWords (graphFor (view w f)) w)) f
 unfolding accepted
 build-made ws fs nothing w f m e = tt
 build-made ws fs (opened x) w f m e =
-    pick-ind (λ (words : List ℕ). BuiltStore x words f) (eqb (word w stateAt) builtState)
+    pick-ind (λ (words : List ℕ). Made (built x) words f) (eqb (word w stateAt) builtState)
     (λ t. absurd (let s = open-state x w f m in let s′ = eqb→eq (word w stateAt) builtState t in omega arith))
     (λ _. build-open ws fs x w f m (build-taken ws fs w f e))
 build-made ws fs (built x) w f m e =
-    subst (λ (words : List ℕ). BuiltStore x words f) (sym (pick-yes (eqb (word w stateAt) builtState) w (builtWords (graphFor (view w f)) w) (yes-eqb (built-state x w f m)))) m
+    subst (λ (words : List ℕ). Made (built x) words f)
+    (sym (pick-yes (eqb (word w stateAt) builtState) w (builtWords (graphFor (view w f)) w) (yes-eqb (built-state x w f m)))) m
 
 -- ---- any call
 

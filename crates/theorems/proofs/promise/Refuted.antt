@@ -10,6 +10,7 @@ use lib.Ieee.{Float, binary32, binary64, fits, ofBits, toBits, add as plus, sub,
 use Rattle.basics.specs.Sum.{+zero, +one}
 use Rattle.basics.specs.Graph.{listOf}
 use Rattle.distance.specs.Order.{before}
+use Rattle.norm.specs.Norm.{scaledOf}
 use Rattle.params.specs.declared.PipnnParams.{PipnnParams}
 use Rattle.store.specs.Layout.{word, bridgeCountAt}
 use Rattle.store.specs.View.{view}
@@ -83,10 +84,10 @@ index = record {
   params = params;
   capacity = 4;
   nodes =
-      record { doc = 10; vector = minusOne ∷ minusOne ∷ [] }
-      ∷ record { doc = 11; vector = minusOne ∷ minusOne ∷ [] }
-      ∷ record { doc = 12; vector = +zero ∷ +one ∷ [] }
-      ∷ record { doc = 13; vector = +one ∷ +zero ∷ [] }
+      record { doc = 10; vector = scaledOf binary32 (minusOne ∷ minusOne ∷ []) }
+      ∷ record { doc = 11; vector = scaledOf binary32 (minusOne ∷ minusOne ∷ []) }
+      ∷ record { doc = 12; vector = scaledOf binary32 (+zero ∷ +one ∷ []) }
+      ∷ record { doc = 13; vector = scaledOf binary32 (+one ∷ +zero ∷ []) }
       ∷ [];
 }
 
@@ -161,7 +162,7 @@ unfolding left outcome then searchWithEfSpec vectorsOf farFrom ofBits toBits plu
 answer = refl
 
 nearer : before (farOf index query 3) (farOf index query 0) ≡ true
-unfolding before vectorsOf farFrom ofBits plus sub mul div lt le eq isNan round
+unfolding before vectorsOf scaledOf farFrom ofBits plus sub mul div lt le eq isNan round
 nearer = refl
 
 unfoldable is-answered : Answered index query 1 1 2 (0 ∷ []) (+zero ∷ []) (asked 1 (0 ∷ []) (+zero ∷ []))

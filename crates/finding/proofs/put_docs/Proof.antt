@@ -8,9 +8,9 @@ use native.Mathlib.Numerals.{add-one}
 use lib.ListN.{length, getD, take, drop, set, length-set, length-map}
 use lib.Seq.{take-suc, length-take-le}
 use Rattle.basics.proofs.Loops.{front-set}
-use Rattle.search.specs.Inside.Docs.{docAt}
-use Rattle.search.proofs.put_docs.Statement.{statement}
-use Rattle.search.proofs.put_docs.Tie as tie
+use Rattle.finding.specs.Inside.Docs.{docAt}
+use Rattle.finding.proofs.put_docs.Statement.{statement}
+use Rattle.finding.proofs.put_docs.Tie as tie
 
 -- the images of the first i elements of xs stand at the front of ys
 abbrev written : (ℕ → ℕ) → List ℕ → List ℕ → ℕ → List ℕ
@@ -23,15 +23,15 @@ one-more g xs ys i h k =
     (sym (map-append g (take i xs) (getD xs i 0 ∷ [])) ∙ ap (map g) (sym (take-suc xs i 0 h) ∙ ap (λ (j : ℕ). take j xs) (sym (add-one i))))
 
 abbrev Inv-loop : tie.InvT-loop
-Inv-loop words nodes docs₀ count i₀ docs i = (i ≤ count) × (length docs ≡ length docs₀) × (docs ≡ written (docAt words) nodes docs₀ i)
+Inv-loop words nodes docs₀ count many i₀ docs i = (i ≤ many) × (length docs ≡ length docs₀) × (docs ≡ written (docAt words) nodes docs₀ i)
 
 abbrev μ-loop : tie.MeasureT-loop
-μ-loop words nodes docs₀ count i₀ docs i = count - i
+μ-loop words nodes docs₀ count many i₀ docs i = many - i
 
 loop-again : tie.Need-loop-again Inv-loop μ-loop
 loop-again c =
     let l = c .before .before .before .loop in
-    let a = c .before .before .before .before .before .before .before .args in
+    let a = c .before .before .before .before .before .before .before .before .before .args in
     let g : ℕ → ℕ = docAt (a .words .now) in (
       omega arith,
       length-set (l .docs) (l .i) _ ∙ l .inv .1,
@@ -41,9 +41,9 @@ loop-again c =
     )
 
 returns : tie.Need-returns Inv-loop μ-loop
-returns c =
+returns c nodes docs =
     let l = c .before .loop in
-    let a = c .before .before .before .before .before .args in
+    let a = c .before .before .before .before .before .before .before .args in
     let e : l .i ≡ a .count = omega arith in
     l .inv .2 ∙ ap (written (docAt (a .words .now)) (a .nodes .now) (a .docs .now)) e
 
@@ -51,7 +51,9 @@ pub put-docs-spec : {M : Type 1} → statement M
 put-docs-spec =
     tie.close
     (tie.spec
-    Inv-loop μ-loop (λ c. (omega arith, refl, refl))
+    Inv-loop μ-loop
+    -- lesser
+    (λ c κs. search needs) (λ c κs. search needs) (λ c. (omega arith, refl, refl))
     -- doc_of, docs, i, the loop measure
     (λ c. search needs) (λ c. search needs) (λ c κs. search needs) (λ c. search needs) (λ c. search needs) (λ c. search needs) (λ c. search needs)
     loop-again

@@ -5,8 +5,8 @@ use Rattle.norm.specs.Norm.{scaledOf}
 use Rattle.words.proofs.slices.Laws.{copied-whole}
 use native.Mathlib.Omega.{arith}
 use borrow.Author.Needs.{needs}
-use Rattle.search.proofs.scale_into.Statement.{statement}
-use Rattle.search.proofs.scale_into.Tie as tie
+use Rattle.finding.proofs.scale_into.Statement.{statement}
+use Rattle.finding.proofs.scale_into.Tie as tie
 
 returns : tie.Need-returns
 returns c =

@@ -1,0 +1,4 @@
+pub mod Inside
+mod Answer
+mod Replying
+mod Scaled
