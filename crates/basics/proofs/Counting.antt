@@ -84,42 +84,37 @@ all-in l m d s h {y} i = elim (in-or-not y l) [ inl k ↦ k | inr f ↦ absurd (
     within x (here e) = in-cast e i
     within x (there k) = s x k
 
-unfoldable pub upTo : ℕ → List ℕ
-upTo zero = []
-upTo (suc n) = n ∷ upTo n
+-- n − 1, .., 1, 0
+unfoldable pub downFrom : ℕ → List ℕ
+downFrom zero = []
+downFrom (suc n) = n ∷ downFrom n
 
-pub length-upTo : (n : ℕ) → length (upTo n) ≡ n
-unfolding upTo
-length-upTo zero = refl
-length-upTo (suc n) = ap suc (length-upTo n)
+pub length-downFrom : (n : ℕ) → length (downFrom n) ≡ n
+unfolding downFrom
+length-downFrom zero = refl
+length-downFrom (suc n) = ap suc (length-downFrom n)
 
-pub in-upTo : (n x : ℕ) → x < n → In x (upTo n)
-unfolding upTo
-in-upTo zero x h = absurd (omega arith)
-in-upTo (suc n) x h = elim (decLt x n) [ yes k ↦ there (in-upTo n x k) | no k ↦ here {x = n} (omega arith) ]
+pub in-downFrom : (n x : ℕ) → x < n → In x (downFrom n)
+unfolding downFrom
+in-downFrom zero x h = absurd (omega arith)
+in-downFrom (suc n) x h = elim (decLt x n) [ yes k ↦ there (in-downFrom n x k) | no k ↦ here {x = n} (omega arith) ]
 
-pub upTo-below : (n x : ℕ) → In x (upTo n) → x < n
-unfolding upTo
-upTo-below zero x m = absurd (in-nil m)
-upTo-below (suc n) x m = elim (in-cons m) [ inl q ↦ omega arith | inr k ↦ let r = upTo-below n x k in omega arith ]
+pub downFrom-below : (n x : ℕ) → In x (downFrom n) → x < n
+unfolding downFrom
+downFrom-below zero x m = absurd (in-nil m)
+downFrom-below (suc n) x m = elim (in-cons m) [ inl q ↦ omega arith | inr k ↦ let r = downFrom-below n x k in omega arith ]
 
 -- at most n nodes below n, without repeats
 pub at-most : (n : ℕ) (l : List ℕ) → NoDup l → Below n l → length l ≤ n
 at-most n l d b =
-    let r = shorter l (upTo n) d (λ x i. in-upTo n x (b x i)) in
-    omega (arith, length-upTo n)
+    let r = shorter l (downFrom n) d (λ x i. in-downFrom n x (b x i)) in
+    omega (arith, length-downFrom n)
 
 -- n of them are all
 pub all-of : (n : ℕ) (l : List ℕ) → NoDup l → Below n l → n ≤ length l → (x : ℕ) → x < n → In x l
-all-of n l d b h x k = all-in l (upTo n) d (λ y i. in-upTo n y (b y i)) (omega (arith, length-upTo n)) (in-upTo n x k)
+all-of n l d b h x k = all-in l (downFrom n) d (λ y i. in-downFrom n y (b y i)) (omega (arith, length-downFrom n)) (in-downFrom n x k)
 
--- a list that holds every node below n has n elements at least
-pub nodup-upTo : (n : ℕ) → NoDup (upTo n)
-unfolding upTo
-nodup-upTo zero = tt
-nodup-upTo (suc n) = ((λ m. let h = upTo-below n n m in omega arith), nodup-upTo n)
-
-pub holds-all : (n : ℕ) (l : List ℕ) → ((x : ℕ) → x < n → In x l) → n ≤ length l
-holds-all n l f =
-    let r = shorter (upTo n) l (nodup-upTo n) (λ x m. f x (upTo-below n x m)) in
-    omega (arith, length-upTo n)
+pub nodup-downFrom : (n : ℕ) → NoDup (downFrom n)
+unfolding downFrom
+nodup-downFrom zero = tt
+nodup-downFrom (suc n) = ((λ m. let h = downFrom-below n n m in omega arith), nodup-downFrom n)

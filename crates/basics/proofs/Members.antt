@@ -1,13 +1,15 @@
--- Membership in a part of a list, in a row that a store replaced, and under a map; tests joined by `&&`. Assumes nothing.
-use mathlib.Core.Path.{refl}
+-- Membership in a part of a list, in a row that a store replaced, and under a map; the first few of a list; tests joined by `&&`. Assumes nothing.
+use mathlib.Core.Path.{_≡_, refl, sym, ap, _∙_}
 use mathlib.Core.Logic.{inl, inr}
 use mathlib.Core.Bool.{Bool, true, false, _&&_}
-use mathlib.Core.List.{List, [], _∷_}
+use mathlib.Core.List.{List, [], _∷_, map}
 use mathlib.Core.List.{List·Memᴰ as In, List·Memᴰ·head as here, List·Memᴰ·tail as there, List·Memᴰ·not-nil as in-nil, List·Memᴰ·cases-cons as in-cons}
-use Prim.Native.Nat.{ℕ, zero, suc, _<_}
+use Prim.Native.Nat.{ℕ, zero, suc, _≤_, _<_, min}
 use native.Mathlib.Omega.{arith}
+use native.Mathlib.Decide.{decLt}
 use lib.Dec.{T}
 use lib.ListN.{length, getD, take, drop}
+use lib.Seq.{take-all}
 use Rattle.basics.specs.Nodes.{NoDup}
 
 module _ {ℓ} {A : Type ℓ} {z : A} where
@@ -31,6 +33,18 @@ pub nodup-take : (k : ℕ) (l : List ℕ) → NoDup l → NoDup (take k l)
 nodup-take zero l d = tt
 nodup-take (suc k) [] d = tt
 nodup-take (suc k) (x ∷ l) d = ((λ m. d .0 (in-take k l m)), nodup-take k l (d .1))
+
+-- two functions that agree on the elements of a list
+pub map-in : {A B : Type 0} (g h : A → B) (l : List A) → ((x : A) → In x l → g x ≡ h x) → map g l ≡ map h l
+map-in g h [] e = refl
+map-in g h (x ∷ l) e = λ i. e x (here refl) i ∷ map-in g h l (λ y m. e y (there m)) i
+
+-- of a list of at most i elements, the first j
+pub take-min : {A : Type 0} (i j : ℕ) (l : List A) → length l ≤ i → take (min i j) l ≡ take j l
+take-min {A} i j l h = elim (decLt i j) [
+  | yes k ↦ take-all (min i j) l (omega arith) ∙ sym (take-all j l (omega arith))
+  | no k ↦ let s : min i j ≡ j = omega arith in ap (λ (x : ℕ). take x l) s
+]
 
 -- ---- two tests
 

@@ -3,19 +3,20 @@
 use mathlib.Core.Path.{_≡_, refl, sym, ap, ap₂, _∙_, subst}
 use mathlib.Core.Bool.{Bool, true, false, _||_}
 use mathlib.Core.List.{List, [], _∷_, _++_, map, map-append, reverse}
-use mathlib.Core.List.{List·Memᴰ as In, List·Memᴰ·head as here, List·Memᴰ·tail as there, List·Memᴰ·not-nil as in-nil}
+use mathlib.Core.List.{List·Memᴰ as In, List·Memᴰ·tail as there, List·Memᴰ·not-nil as in-nil}
 use Prim.Native.Nat.{ℕ, _+_, _-_, _/_, _≤_, _<_, min}
 use native.Mathlib.Omega.{arith}
 use native.Mathlib.Numerals.{add-one}
 use lib.Dec.{T, ltb}
 use borrow.Author.Tests.{lt-ltb, le-ltb, ltb-false}
 use lib.ListN.{length, getD, take, drop, set, replicate, length-take, length-drop, length-map, length-append, length-replicate, length-reverse, getD-replicate, List·getD-append}
-use lib.Seq.{length-take-le, take-all, take-suc, take-nil, take-at}
+use lib.Seq.{length-take-le, take-suc, take-nil, take-at}
 use lib.Ieee.{Float, binary32, fits, inf}
 use Rattle.basics.specs.Choice.{pick, pick-true}
 use Rattle.basics.specs.Lists.{keep}
 use Rattle.basics.specs.Nodes.{has}
 use Rattle.basics.proofs.Loops.{front-set, front-length}
+use Rattle.basics.proofs.Members.{map-in, take-min}
 use Rattle.basics.proofs.Tests.{both-false}
 use Rattle.basics.proofs.Counting.{at-most}
 use Rattle.basics.proofs.Keeping.{in-keep, keep-few}
@@ -32,11 +33,11 @@ use Rattle.beam_state.specs.Inside.Queues.{frontRank}
 use Rattle.beam_state.proofs.queues.Laws.{empty-queue}
 use Rattle.beam_state.proofs.queues.Holding.{none-held}
 use Rattle.neighbours.specs.Inside.Gathering.{freshEnd, GatheringAll}
-use Rattle.beam_state.specs.Inside.State.{part, frontierAt, heldAt, keysAt, wordsFor, heldEnd, frontierPart, heldPart, keysPart, liveBy, Memory, AnswerHeld, Standing}
+use Rattle.beam_state.specs.Inside.State.{part, frontierAt, heldAt, keysAt, wordsFor, heldEnd, frontierPart, heldPart, keysPart, Memory, AnswerHeld, Standing}
 use Rattle.beam_state.specs.declared.Walk.{Walk}
 use Rattle.beam_state.proofs.Parts.{lay, lay-length, part-here, part-before, take-before}
 use Rattle.beam_search.specs.declared.Sizes.{Sizes}
-use Rattle.beam_search.specs.Inside.Search.{within, Reads, farOf, scoredBy, Searched}
+use Rattle.beam_search.specs.Inside.Search.{within, Reads, farOf, liveOf, scoredBy, Searched}
 use Rattle.beam_search.specs.Inside.Steps.{Between, TakingIn, walkOn, Prepared, Starting, PutDistances}
 use Rattle.beam_search.proofs.Taking.{gathered-in, same-mark}
 
@@ -184,12 +185,8 @@ started sizes far live count words between floats nodes m′ f32s long p gather 
 
 -- ---- ended
 
-map-same : (f g : ℕ → Float) (l : List ℕ) → ((x : ℕ) → In x l → f x ≡ g x) → map f l ≡ map g l
-map-same f g [] h = refl
-map-same f g (x ∷ l) h = ap₂ (λ (y : Float) (r : List Float). y ∷ r) (h x (here refl)) (map-same f g l (λ y m. h y (there m)))
-
 module _ (sizes : Sizes) (reads : Reads) (nodes : List ℕ) (m : Memory) (front : List ℕ) (distances distances′ : List Float) (count : ℕ)
-    (t : Between sizes (farOf sizes reads) (liveBy (reads .withdrawn)) nodes m (walkOn sizes reads (sizes .n) (sizes .entry .0 ∷ []) (sizes .entry .0 ∷ [])) front) (long : wordsFor (sizes .n) ≤ length (m .words)) (few : sizes .n ≤ 1024)
+    (t : Between sizes (farOf sizes reads) (liveOf reads) nodes m (walkOn sizes reads (sizes .n) (sizes .entry .0 ∷ []) (sizes .entry .0 ∷ [])) front) (long : wordsFor (sizes .n) ≤ length (m .words)) (few : sizes .n ≤ 1024)
     (room : length nodes ≤ length distances) (put : PutDistances (m .walk .kept) (m .nodes) (m .floats) distances distances′) (count-is : count ≡ min (m .walk .kept) 4294967295) where
   abbrev n : ℕ
   n = sizes .n
@@ -205,13 +202,13 @@ module _ (sizes : Sizes) (reads : Reads) (nodes : List ℕ) (m : Memory) (front 
 
   -- those of them that are live
   abbrev scored : List ℕ
-  scored = keep (liveBy (reads .withdrawn)) seen
+  scored = keep (liveOf reads) seen
 
   a : AnswerHeld far nodes (keysPart n (m .words)) (m .nodes) (r .kept) scored
   a = t .standing .scored .answer
 
   scored-few : length scored ≤ n
-  scored-few = omega (arith, keep-few (liveBy (reads .withdrawn)) seen, at-most n seen (t .standing .once) (t .standing .inside))
+  scored-few = omega (arith, keep-few (liveOf reads) seen, at-most n seen (t .standing .once) (t .standing .inside))
 
   keys-length : length (keysPart n (m .words)) ≡ n
   keys-length =
@@ -226,12 +223,6 @@ module _ (sizes : Sizes) (reads : Reads) (nodes : List ℕ) (m : Memory) (front 
 
   abbrev most : ℕ
   most = both (keysPart n (m .words)) (m .nodes)
-
-  take-min : (i j : ℕ) (l : List ℕ) → length l ≤ i → take (min i j) l ≡ take j l
-  take-min i j l h = elim (native.Mathlib.Decide.decLt i j) [
-    | yes k ↦ take-all (min i j) l (omega arith) ∙ sym (take-all j l (omega arith))
-    | no k ↦ let s : min i j ≡ j = omega arith in ap (λ (x : ℕ). take x l) s
-  ]
 
   first-is : take most sorted ≡ answerOf far (length nodes) (reverse scored)
   unfolding answerOf
@@ -254,7 +245,7 @@ module _ (sizes : Sizes) (reads : Reads) (nodes : List ℕ) (m : Memory) (front 
 
   found-in : (x : ℕ) → In x found → In x seen
   unfolding answerOf
-  found-in x i = in-keep (liveBy (reads .withdrawn)) seen (in-reverse scored (first-in (keyAt far) (length nodes) (reverse scored) i)) .1
+  found-in x i = in-keep (liveOf reads) seen (in-reverse scored (first-in (keyAt far) (length nodes) (reverse scored) i)) .1
 
   pub searched : Searched far (answerOf far (length nodes) (scoredBy sizes reads)) (scoredBy sizes reads) nodes (m .nodes) distances distances′
       (record { count = count; scored = r .scored })
@@ -267,6 +258,6 @@ module _ (sizes : Sizes) (reads : Reads) (nodes : List ℕ) (m : Memory) (front 
         put (omega (arith, kept-few .1, a .long)) (omega (arith, kept-few .1))
         ∙ ap₂ (λ (l : List Float) (k : ℕ). l ++ drop k distances)
         (ap (map (λ v. getD (m .floats) v (inf false))) front-is
-        ∙ map-same (λ v. getD (m .floats) v (inf false)) far found (λ x i. t .known .there x (found-in x i)))
+        ∙ map-in (λ v. getD (m .floats) v (inf false)) far found (λ x i. t .known .there x (found-in x i)))
         (sym found-length);
   }

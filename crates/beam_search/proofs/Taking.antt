@@ -16,19 +16,19 @@ use Rattle.basics.specs.Lists.{keep}
 use Rattle.basics.specs.Nodes.{has, NoDup, Below}
 use Rattle.basics.proofs.Counting.{at-most}
 use Rattle.def_walk.specs.Walk.{State, visit, expand}
-use Rattle.def_walk.specs.KeepClosest.{heldOf}
 use Rattle.def_walk.specs.Beam.{toFrontier}
-use Rattle.beam_state.specs.Inside.Queues.{frontRank, Queue, Held, Known}
+use Rattle.beam_state.specs.Inside.Queues.{frontRank, Queue, Known}
 use Rattle.neighbours.specs.Inside.Scoring.{scoredAt}
 use Rattle.neighbours.proofs.scoring.Laws.{scored-known, scored-keeps}
 use Rattle.lists.specs.Inside.Words.{rowLists, bridgeList}
 use Rattle.neighbours.specs.Inside.Gathering.{Fresh, visitOne, gatherFresh, freshEnd, FreshIn, GatheringAll, Linked, GatheringList}
-use Rattle.beam_state.specs.Inside.State.{part, frontierAt, heldAt, keysAt, wordsFor, heldEnd, liveBy, Memory, AnswerHeld, Standing, PushingAll, pushed}
+use Rattle.beam_state.specs.Inside.State.{part, frontierAt, heldAt, keysAt, wordsFor, heldEnd, liveBy, Memory, Standing, PushingAll, pushed}
 use Rattle.beam_state.specs.declared.Walk.{Walk}
 use Rattle.beam_state.proofs.Parts.{part-behind}
+use Rattle.beam_state.proofs.Moved.{scored-moved}
 use Rattle.beam_state.proofs.Pushed.{pushed-append}
 use Rattle.beam_search.specs.declared.Sizes.{Sizes}
-use Rattle.beam_search.specs.Inside.Search.{within, Reads, farOf, listsOf}
+use Rattle.beam_search.specs.Inside.Search.{within, Reads, farOf, liveOf, listsOf}
 use Rattle.beam_search.specs.Inside.Steps.{Between, TakenIn, TakingIn}
 
 -- the same state in words that are the same behind marks and fresh nodes, whatever the floats
@@ -38,13 +38,7 @@ standing-behind : {far : ℕ → Float} {live : ℕ → Bool} {n b : ℕ} {nodes
     → Standing far live n b nodes₀ (record { words = words′; floats = floats′; nodes = nodes; walk = w }) seen front
 standing-behind {far} {live} {n} {b} {nodes₀} {nodes} {w} {seen} {front} words words′ floats floats′ same t = record {
   frontier = subst (Queue (frontRank far) n front) (moved (frontierAt n) (heldAt n) (omega arith)) (t .frontier);
-  scored = record {
-    held = subst (Held far (min b n) (heldOf far b (keep live seen))) (moved (heldAt n) (heldEnd n b) (omega arith)) (t .scored .held);
-    held-count = t .scored .held-count;
-    cutoff-is = t .scored .cutoff-is;
-    answer = subst (λ (k : List ℕ). AnswerHeld far nodes₀ k nodes (w .kept) (keep live seen)) (moved (keysAt n) (wordsFor n) (omega arith)) (t .scored .answer);
-    scored-is = t .scored .scored-is;
-  };
+  scored = scored-moved words words′ floats floats′ (moved (heldAt n) (heldEnd n b) (omega arith)) (moved (keysAt n) (wordsFor n) (omega arith)) (t .scored);
   once = t .once;
   inside = t .inside;
   sub = t .sub;
@@ -173,14 +167,14 @@ module _ (sizes : Sizes) (far : ℕ → Float) (live : ℕ → Bool) (count : �
 -- a node's list looked at, of linked bridges
 abbrev pub Expanding : Sizes → Reads → List ℕ → ℕ → Memory → Memory → Type 0
 Expanding sizes reads links u m m′ =
-    Linked (sizes .n) (reads .bridges) links → u < sizes .n → (nodes₀ seen front : List ℕ) → Between sizes (farOf sizes reads) (liveBy (reads .withdrawn)) nodes₀ m seen front
-    → Between sizes (farOf sizes reads) (liveBy (reads .withdrawn)) nodes₀ m′ (expand (toFrontier (farOf sizes reads)) (record { seen = seen; front = front }) (listsOf sizes reads u) .seen)
+    Linked (sizes .n) (reads .bridges) links → u < sizes .n → (nodes₀ seen front : List ℕ) → Between sizes (farOf sizes reads) (liveOf reads) nodes₀ m seen front
+    → Between sizes (farOf sizes reads) (liveOf reads) nodes₀ m′ (expand (toFrontier (farOf sizes reads)) (record { seen = seen; front = front }) (listsOf sizes reads u) .seen)
     (expand (toFrontier (farOf sizes reads)) (record { seen = seen; front = front }) (listsOf sizes reads u) .front)
 
 pub expanding : (sizes : Sizes) (reads : Reads) (links : List ℕ) (u count : ℕ) (between : List ℕ) (m m′ : Memory) → wordsFor (sizes .n) ≤ length (m .words)
     → GatheringList (sizes .n) (sizes .degree) (reads .rows) (reads .bridges) links u (m .words) between count
-    → TakingIn sizes (farOf sizes reads) (liveBy (reads .withdrawn)) count (gathered sizes (farOf sizes reads) (liveBy (reads .withdrawn)) count [] between m m′) m′
+    → TakingIn sizes (farOf sizes reads) (liveOf reads) count (gathered sizes (farOf sizes reads) (liveOf reads) count [] between m m′) m′
     → take (frontierAt (sizes .n)) (m′ .words) ≡ take (frontierAt (sizes .n)) between → Expanding sizes reads links u m m′
 expanding sizes reads links u count between m m′ long gather taking frame linked below nodes₀ seen front t =
-    gathered-in sizes (farOf sizes reads) (liveBy (reads .withdrawn)) count (listOf (rowLists (sizes .degree) (reads .rows)) (bridgeList (reads .bridges)) u) between m m′ nodes₀ (record { seen = seen; front = front })
+    gathered-in sizes (farOf sizes reads) (liveOf reads) count (listOf (rowLists (sizes .degree) (reads .rows)) (bridgeList (reads .bridges)) u) between m m′ nodes₀ (record { seen = seen; front = front })
     (omega arith) (gather linked below) taking frame (t .marks) (t .standing) (t .known) (t .room)

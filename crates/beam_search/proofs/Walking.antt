@@ -4,7 +4,7 @@ use mathlib.Core.Path.{_≡_, refl, sym, ap, ap₂, _∙_, subst}
 use mathlib.Core.Logic.{inl, inr}
 use mathlib.Core.Bool.{Bool, true, false, _&&_, _||_}
 use mathlib.Core.List.{List, [], _∷_, List·Memᴰ as In, List·Memᴰ·head as here, List·Memᴰ·tail as there}
-use Prim.Native.Nat.{ℕ, suc, _-_, _*_, _≤_, _<_, min}
+use Prim.Native.Nat.{ℕ, suc, _-_, _*_, _≤_, _<_}
 use native.Mathlib.Omega.{arith}
 use lib.Dec.{T, leb, ltb, leb→le}
 use lib.ListN.{length, drop, length-drop}
@@ -17,18 +17,18 @@ use Rattle.basics.proofs.Keeping.{keep-few}
 use Rattle.basics.proofs.Tests.{one-true, both-false}
 use Rattle.def_walk.specs.declared.Stops.{Stops}
 use Rattle.def_walk.specs.Walk.{State, expand, walk}
-use Rattle.def_walk.specs.KeepClosest.{heldOf}
 use Rattle.def_walk.specs.Beam.{toFrontier, tooFar, tooMany}
-use Rattle.beam_state.specs.Inside.Queues.{frontRank, Queue, Held, Taken, Popping}
+use Rattle.beam_state.specs.Inside.Queues.{frontRank, Queue, Taken, Popping}
 use Rattle.words.specs.declared.ids.Node.{Node}
 use Rattle.beam_state.specs.declared.queues.Popped.{Popped}
 use Rattle.beam_state.specs.declared.queues.Popped.the-variants.{At, Empty}
 use Rattle.neighbours.specs.Inside.Gathering.{Linked}
-use Rattle.beam_state.specs.Inside.State.{part, frontierAt, heldAt, keysAt, wordsFor, heldEnd, frontierPart, liveBy, Memory, AnswerHeld}
+use Rattle.beam_state.specs.Inside.State.{part, frontierAt, heldAt, keysAt, wordsFor, heldEnd, frontierPart, Memory}
 use Rattle.beam_state.specs.declared.Walk.{Walk}
+use Rattle.beam_state.proofs.Moved.{scored-moved}
 use Rattle.beam_state.proofs.Parts.{lay, lay-length, part-here, part-after, take-before}
 use Rattle.beam_search.specs.declared.Sizes.{Sizes}
-use Rattle.beam_search.specs.Inside.Search.{Reads, farOf, listsOf}
+use Rattle.beam_search.specs.Inside.Search.{Reads, farOf, liveOf, listsOf}
 use Rattle.beam_search.specs.Inside.Steps.{Between, walkOn, Stepping, Walking}
 use Rattle.beam_search.proofs.Taking.{same-mark, Expanding}
 use Rattle.beam_search.proofs.Full.{same, walk-full, within-below}
@@ -45,7 +45,7 @@ module _ (sizes : Sizes) (reads : Reads) (links : List ℕ) (m : Memory) (x : Li
   far = farOf sizes reads
 
   abbrev live : ℕ → Bool
-  live = liveBy (reads .withdrawn)
+  live = liveOf reads
 
   abbrev stops : Stops
   stops = sizes .stops
@@ -70,14 +70,8 @@ module _ (sizes : Sizes) (reads : Reads) (links : List ℕ) (m : Memory) (x : Li
     marks = λ v h. same-mark n v (m .words) (popped-to .words) h (take-before (frontierAt n) (heldAt n) x (m .words) (omega arith) (omega arith) size (frontierAt n) (omega arith)) ∙ t .marks v h;
     standing = record {
       frontier = subst (Queue (frontRank far) n rest) (sym (part-here (frontierAt n) (heldAt n) x (m .words) (omega arith) (omega arith) size)) q;
-      scored = record {
-        held = subst (Held far (min b n) (heldOf far b (keep live seen))) (kept (heldAt n) (heldEnd n b) (omega arith)) (t .standing .scored .held);
-        held-count = t .standing .scored .held-count;
-        cutoff-is = t .standing .scored .cutoff-is;
-        answer = subst (λ (k : List ℕ). AnswerHeld far nodes₀ k (m .nodes) (w .kept) (keep live seen)) (kept (keysAt n) (wordsFor n) (omega arith))
-            (t .standing .scored .answer);
-        scored-is = t .standing .scored .scored-is;
-      };
+      scored = scored-moved (m .words) (popped-to .words) (m .floats) (m .floats) (kept (heldAt n) (heldEnd n b) (omega arith)) (kept (keysAt n) (wordsFor n) (omega arith))
+          (t .standing .scored);
       once = t .standing .once;
       inside = t .standing .inside;
       sub = λ y i. t .standing .sub y (s y i);
@@ -179,7 +173,7 @@ module _ (sizes : Sizes) (reads : Reads) (links : List ℕ) (m : Memory) (x : Li
 pub record Along (sizes : Sizes) (reads : Reads) (nodes₀ : List ℕ) (m : Memory) (left : ℕ) (whole : List ℕ) : Type 0 where
   pub seen′ : List ℕ
   pub front′ : List ℕ
-  pub stands : Between sizes (farOf sizes reads) (liveBy (reads .withdrawn)) nodes₀ m seen′ front′
+  pub stands : Between sizes (farOf sizes reads) (liveOf reads) nodes₀ m seen′ front′
   pub same : whole ≡ walkOn sizes reads left seen′ front′
 
 -- from the memory m₀ on, with `left` steps to go
@@ -188,7 +182,7 @@ pub record Onward (sizes : Sizes) (reads : Reads) (links : List ℕ) (m₀ m : M
   pub words-kept : length (m .words) ≡ length (m₀ .words)
   pub floats-kept : length (m .floats) ≡ length (m₀ .floats)
   pub nodes-kept : length (m .nodes) ≡ length (m₀ .nodes)
-  pub so-far : Linked (sizes .n) (reads .bridges) links → (nodes₀ seen front : List ℕ) → Between sizes (farOf sizes reads) (liveBy (reads .withdrawn)) nodes₀ m₀ seen front
+  pub so-far : Linked (sizes .n) (reads .bridges) links → (nodes₀ seen front : List ℕ) → Between sizes (farOf sizes reads) (liveOf reads) nodes₀ m₀ seen front
       → Along sizes reads nodes₀ m left (walkOn sizes reads (sizes .n) seen front)
 
 pub onward-none : (sizes : Sizes) (reads : Reads) (links : List ℕ) (m : Memory) → Onward sizes reads links m m (sizes .n)
@@ -207,7 +201,7 @@ module _ {sizes : Sizes} {reads : Reads} {links : List ℕ} {m₀ m : Memory} {l
       let a = o .so-far linked nodes₀ seen front t in
       let none : left ≡ 0 = omega arith in
       let e : walkOn sizes reads (sizes .n) seen front ≡ a .seen′ = a .same ∙ ap (λ (k : ℕ). walkOn sizes reads k (a .seen′) (a .front′)) none in
-      record { front = a .front′; stands = subst (λ (l : List ℕ). Between sizes (farOf sizes reads) (liveBy (reads .withdrawn)) nodes₀ m l (a .front′)) (sym e) (a .stands) }
+      record { front = a .front′; stands = subst (λ (l : List ℕ). Between sizes (farOf sizes reads) (liveOf reads) nodes₀ m l (a .front′)) (sym e) (a .stands) }
 
   module _ (m′ : Memory) (done : Bool) (more : 0 < left) (step : Stepping sizes reads links m m′ done) where
     one-less : left ≡ suc (left - 1)
@@ -235,4 +229,4 @@ module _ {sizes : Sizes} {reads : Reads} {links : List ℕ} {m₀ m : Memory} {l
         let a = o .so-far linked nodes₀ seen front t in
         let s = step linked nodes₀ (a .seen′) (a .front′) (a .stands) in
         let e : walkOn sizes reads (sizes .n) seen front ≡ s .seen′ = a .same ∙ ap (λ (k : ℕ). walkOn sizes reads k (a .seen′) (a .front′)) one-less ∙ s .ends d (left - 1) in
-        record { front = s .front′; stands = subst (λ (l : List ℕ). Between sizes (farOf sizes reads) (liveBy (reads .withdrawn)) nodes₀ m′ l (s .front′)) (sym e) (s .stands) }
+        record { front = s .front′; stands = subst (λ (l : List ℕ). Between sizes (farOf sizes reads) (liveOf reads) nodes₀ m′ l (s .front′)) (sym e) (s .stands) }

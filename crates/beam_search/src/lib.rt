@@ -1,8 +1,8 @@
 // The walk of a search (scope, part 8): `beam_search` of src/pipnn/mod.rs, with its answer.
 //
-// The walk starts at the entry node and goes on from the nearest node whose list it has not looked at. What
-// is fresh in a list is marked and gathered, then scored eight at a time, then pushed in order: into the
-// frontier, and, if they are live, among the held and into the answer. It ends when everything left is well
+// The walk starts at the entry node and goes on from the nearest node whose list it has not looked at. The fresh
+// nodes of a list are marked and gathered; their distances are computed, eight at a time; then they are pushed in
+// order: into the frontier, and the live ones among the held and into the answer. It ends when everything left is well
 // beyond the cutoff, when many nodes are scored, or when the frontier is empty; and when all nodes are scored,
 // since what is left of the definition's walk then finds nothing. The answer is kept in order from the first
 // node on, so that nothing is sorted at the end.
@@ -140,7 +140,13 @@ fn step(
 ) -> Went
     requires { ⌜ wordsFor (sizes .n) ≤ length (now words) ⌝ }
     ensures { λ r. ⌜ Stepping sizes
-        (record { query = now (query .entry); vectors = now (vectors .entry); rows = now (rows .entry); bridges = now (bridges .entry); withdrawn = now (withdrawn .entry) })
+        (record {
+          query = now (query .entry);
+          vectors = now (vectors .entry);
+          rows = now (rows .entry);
+          bridges = now (bridges .entry);
+          withdrawn = now (withdrawn .entry);
+        })
         (now (links .entry))
         (record { words = now (words .entry); floats = now (floats .entry); nodes = now (nodes .entry); walk = walk })
         (record { words = now (words .exit); floats = now (floats .exit); nodes = now (nodes .exit); walk = r .walk })
@@ -188,7 +194,13 @@ fn walk_on(
 ) -> Walk
     requires { ⌜ wordsFor (sizes .n) ≤ length (now words) ⌝ }
     ensures { λ r. ⌜ Walking sizes
-        (record { query = now (query .entry); vectors = now (vectors .entry); rows = now (rows .entry); bridges = now (bridges .entry); withdrawn = now (withdrawn .entry) })
+        (record {
+          query = now (query .entry);
+          vectors = now (vectors .entry);
+          rows = now (rows .entry);
+          bridges = now (bridges .entry);
+          withdrawn = now (withdrawn .entry);
+        })
         (now (links .entry))
         (record { words = now (words .entry); floats = now (floats .entry); nodes = now (nodes .entry); walk = walk })
         (record { words = now (words .exit); floats = now (floats .exit); nodes = now (nodes .exit); walk = r }) ⌝ }
@@ -235,7 +247,13 @@ fn walk_linked(
     requires { ⌜ wordsFor (sizes .n) ≤ length (now words) ⌝ }
     requires { ⌜ (sizes .n ≤ 1024) × (length (now bridges) / 2 ≤ sizes .n) ⌝ }
     ensures { λ r. ⌜ WalkingLinked sizes
-        (record { query = now (query .entry); vectors = now (vectors .entry); rows = now (rows .entry); bridges = now (bridges .entry); withdrawn = now (withdrawn .entry) })
+        (record {
+          query = now (query .entry);
+          vectors = now (vectors .entry);
+          rows = now (rows .entry);
+          bridges = now (bridges .entry);
+          withdrawn = now (withdrawn .entry);
+        })
         (record { words = now (words .entry); floats = now (floats .entry); nodes = now (nodes .entry); walk = walk })
         (record { words = now (words .exit); floats = now (floats .exit); nodes = now (nodes .exit); walk = r }) ⌝ }
 {
@@ -285,7 +303,7 @@ fn prepare(words: &mut [u32], n: usize, places: u32)
     tournament::clear(&mut words[held..held_end]);
 }
 
-// The entry node is the first that is scored.
+// The entry node is the first that the walk sees.
 fn start(
     words: &mut [u32],
     floats: &mut [f32],
@@ -354,7 +372,13 @@ pub fn beam_search(
     floats: &mut [f32],
 ) -> Walked
     ensures { λ r. ⌜ Searching sizes
-        (record { query = now (query .entry); vectors = now (vectors .entry); rows = now (rows .entry); bridges = now (bridges .entry); withdrawn = now (withdrawn .entry) })
+        (record {
+          query = now (query .entry);
+          vectors = now (vectors .entry);
+          rows = now (rows .entry);
+          bridges = now (bridges .entry);
+          withdrawn = now (withdrawn .entry);
+        })
         (now (nodes .entry)) (now (nodes .exit)) (now (distances .entry)) (now (distances .exit))
         (length (now (words .entry))) (length (now (floats .entry))) r ⌝ }
 {

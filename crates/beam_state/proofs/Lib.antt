@@ -1,4 +1,5 @@
 pub mod Parts
+pub mod Moved
 pub mod Pushed
 mod Answers
 mod Pushing

@@ -26,6 +26,7 @@ use Rattle.beam_state.specs.Inside.State.{part, frontierAt, heldAt, keys
 use Rattle.beam_state.specs.declared.Walk.{Walk}
 use Rattle.beam_state.proofs.Parts.{lay, lay-length, part-here, part-before, part-after, take-before}
 use Rattle.beam_state.proofs.Pushed.{pushed-append, pushed-keeps, pushed-once}
+use Rattle.beam_state.proofs.Moved.{scored-moved}
 use Rattle.beam_state.proofs.Answers.{answer-more}
 
 -- ---- one node
@@ -55,19 +56,19 @@ module _ (n b v : ℕ) (floats : List Float) (walk : Walk) (words nodes withdraw
   module _ (d : Float) (key : ℕ) (enter : Entering v key (frontierPart n words) x) (di : d ≡ getD floats v (inf false)) (ki : key ≡ keyOf binary32 d) (far : ℕ → Float) (live : ℕ → Bool) (nodes₀ seen front : List ℕ) (known : Known far n (v ∷ seen) floats)
       (low : v < n) (out : In v seen → ⊥)
       (s : Standing far live n b nodes₀ (record { words = words; floats = floats; nodes = nodes; walk = walk }) seen front) where
-    pub same-distance : d ≡ far v
+    same-distance : d ≡ far v
     same-distance = di ∙ known .there v (here refl)
 
-    pub same-key : key ≡ keyAt far v
+    same-key : key ≡ keyAt far v
     same-key = ki ∙ ap (keyOf binary32) same-distance
 
     below : Below n (v ∷ seen)
     below u m = elim (in-cons m) [ inl e ↦ omega arith | inr i ↦ s .inside u i ]
 
-    pub few : suc (length (keep live seen)) ≤ n
+    few : suc (length (keep live seen)) ≤ n
     few = omega (arith, keep-few live seen, at-most n (v ∷ seen) (out, s .once) below)
 
-    pub stands-more : (m′ : Memory) → frontierPart n (m′ .words) ≡ x → Scored far n b nodes₀ m′ (keep live (v ∷ seen))
+    stands-more : (m′ : Memory) → frontierPart n (m′ .words) ≡ x → Scored far n b nodes₀ m′ (keep live (v ∷ seen))
         → Standing far live n b nodes₀ m′ (v ∷ seen) (toFrontier far v front)
     stands-more m′ fi scored = record {
       frontier = subst (Queue (frontRank far) n (toFrontier far v front)) (sym fi) (enter far n front (known .few) (known .f32s) same-key low (λ m. out (s .sub v m)) (s .frontier));
@@ -83,15 +84,9 @@ module _ (n b v : ℕ) (floats : List Float) (walk : Walk) (words nodes withdraw
       (record { words = w₁; floats = floats; nodes = nodes; walk = walk })
   push-not d key enter di ki off far nodes₀ seen front known low out s =
       let live : ℕ → Bool = liveBy withdrawn in
-      let c = s .scored in
       stands-more d key enter di ki far live nodes₀ seen front known low out s _ front₁
-      (subst (Scored far n b nodes₀ _) (sym (keep-no live v seen (subst (λ (t : Bool). T (mathlib.Core.Bool.not t)) (sym off) tt))) (record {
-        held = subst (Held far (min b n) (heldOf far b (keep live seen))) (sym (behind₁ (heldAt n) (heldEnd n b) (omega arith))) (c .held);
-        held-count = c .held-count;
-        cutoff-is = c .cutoff-is;
-        answer = subst (λ (k : List ℕ). AnswerHeld far nodes₀ k nodes (walk .kept) (keep live seen)) (sym (behind₁ (keysAt n) (wordsFor n) (omega arith))) (c .answer);
-        scored-is = c .scored-is;
-      }))
+      (subst (Scored far n b nodes₀ _) (sym (keep-no live v seen (subst (λ (t : Bool). T (mathlib.Core.Bool.not t)) (sym off) tt)))
+      (scored-moved words w₁ floats floats (sym (behind₁ (heldAt n) (heldEnd n b) (omega arith))) (sym (behind₁ (keysAt n) (wordsFor n) (omega arith))) (s .scored)))
 
   -- then the held, y, and the answer, z and nodes′
   module _ (e : ℕ) (e-is : e ≡ heldEnd n b) (y z nodes′ : List ℕ) (ly : length y ≡ length (part (heldAt n) e w₁)) where

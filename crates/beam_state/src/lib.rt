@@ -1,5 +1,5 @@
-// What a search's walk keeps between its steps (scope, part 8), and scored nodes pushed into it: into the
-// frontier, among the held, into the answer. The body of the inner loop of `beam_search` in
+// What a search's walk keeps between its steps (scope, part 8), and nodes pushed into it: into the frontier, and
+// the live ones among the held and into the answer. The body of the inner loop of `beam_search` in
 // src/pipnn/mod.rs.
 //
 // One slice of words holds it. For n nodes its parts are, one behind the other:
@@ -36,8 +36,8 @@ pub const KEYS: usize = 10;
 
 pub const WORDS: usize = 11;
 
-// How many nodes are scored, which are the live ones of those seen, how many are held for the cutoff, the cutoff,
-// and how many are in the answer.
+// How many nodes are scored (those seen that are live), how many are held for the cutoff, the cutoff, and how many
+// are in the answer.
 pub struct Walk {
     pub scored: u32,
     pub held: u32,
@@ -55,8 +55,8 @@ fn one_more(count: u32) -> u32
     count + 1
 }
 
-// Whether a node is live: `withdrawn` has a word for each node, 0 where it is live. An empty slice says that all
-// nodes are, and so is a node past its end.
+// Whether a node is live: `withdrawn` has a word for each node, 0 where it is live. A node past its end is live, so
+// an empty slice says that all are.
 fn is_live(withdrawn: &[u32], node: Node) -> bool
     ensures { λ r. ⌜ r ≡ liveBy (now (withdrawn .entry)) (node .0) ⌝ }
 {

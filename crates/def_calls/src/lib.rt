@@ -8,7 +8,8 @@
 // specs/Build      `build`
 // specs/Search     `search_with_ef` and `search`
 // proofs/Taken     what a build and a search that are accepted have passed
-// proofs/Graph     what that graph promises, and a search along its lists
+// proofs/Graph     what that graph promises, and a view that a search can walk (`Walkable`)
+// proofs/AllLive   every node of a store is live: a search scores all that its walk sees
 // proofs/Laid      words laid over others: what stays before and behind them
 // proofs/Views     the view after an accepted build
 // proofs/Examples  the worked example, from `new` to the answers

@@ -16,7 +16,8 @@ use Rattle.def_walk.specs.declared.Stops.{Stops}
 use Rattle.def_walk.specs.Walk.{walk}
 use Rattle.def_walk.specs.KeepClosest.{keyAt, sooner, insertIn, heldOf, cutoffOf}
 
--- What a walk goes over: n nodes with their lists, and the entry node. Every node can be walked through; a node that is not live is not scored.
+-- What a walk goes over: n nodes with their lists, which of them are live, and the entry node. A node that is not live is walked through and not
+-- scored.
 pub record Network : Type 0 where
   pub n : ℕ
   pub list : ℕ → List ℕ
@@ -50,14 +51,17 @@ tooFar stops far b scored u = leb b (length (heldOf far b scored)) && lt (mul bi
 unfoldable pub tooMany : Stops → ℕ → List ℕ → Bool
 tooMany stops b scored = ltb (stops .multiplier * b) (length scored)
 
--- the nodes seen, latest first: of n nodes, so by n expansions at most; those of them that are live are scored
+-- the nodes seen, latest first, by at most `more` expansions from where a walk stands; for both stops those of them that are live count
+abbrev pub walkFrom : Stops → Network → (ℕ → Float) → (b more : ℕ) → (seen front : List ℕ) → List ℕ
+walkFrom stops g far b more seen front =
+    walk (g .list) (toFrontier far) (λ l u. tooFar stops far b (keep (g .live) l) u) (λ l. tooMany stops b (keep (g .live) l)) more seen front
+
+-- from the entry node on: of n nodes, so by n expansions at most
 unfoldable pub walked : Stops → Network → (ℕ → Float) → ℕ → List ℕ
 unfolding walk keep toFrontier tooFar tooMany
-walked stops g far b =
-    walk (g .list) (toFrontier far) (λ seen u. tooFar stops far b (keep (g .live) seen) u) (λ seen. tooMany stops b (keep (g .live) seen))
-    (g .n) (g .entry ∷ []) (g .entry ∷ [])
+walked stops g far b = walkFrom stops g far b (g .n) (g .entry ∷ []) (g .entry ∷ [])
 
--- the nodes scored, in order of scoring
+-- the nodes scored, in order of scoring: those seen that are live
 unfoldable pub beamSearch : Stops → Network → (ℕ → Float) → ℕ → List ℕ
 unfolding walked keep
 beamSearch stops g far b = reverse (keep (g .live) (walked stops g far b))

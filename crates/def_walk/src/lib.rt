@@ -15,8 +15,8 @@
 // at the entry node and always goes on from the nearest node whose list it has not looked at. A live node is
 // scored when its distance to the query is computed, each once. The b closest so far set a cutoff, and the walk ends
 // early where everything left lies well beyond it, or where many nodes are scored: `Stops` below says how far and
-// how many. The answer is the first few of what it scored. The walk goes through every node, and only those that
-// are live count as scored; today every node of a store is live.
+// how many. The answer is the first few of what it scored. The walk goes through nodes that are not live as well,
+// and does not score them; today every node of a store is live.
 //
 // specs/Walk                what an out-edge reaches, and the walk
 // specs/Repair              `mark_reachable` and `ensure_connectivity`, over rows as a list of lists
@@ -24,7 +24,8 @@
 // specs/KeepClosest         the nodes held for the cutoff, and the cutoff
 // specs/Beam                what is walked over, the frontier's order, both stops, the nodes scored in order, the answer
 // proofs/walk/Laws          a walk that ends with an empty frontier has seen all that is reached; each node once;
-//                           how much it can see at most, by any measure that one node more raises by one
+//                           how much it can see at most, by any measure that one node more raises by one at
+//                           most
 // proofs/graph_utils/Laws   every node is reached along out-edges of the lists with bridges; fewer bridges than
 //                           nodes; both ends of one are nodes, and different
 // proofs/graph_utils/Lengths  a bridge makes the lists longer by two entries in total
@@ -33,8 +34,8 @@
 //                           all that is seen is scored
 // proofs/*/Examples         walks and repairs that compute: the worked example, and others that agree with the Rust
 
-// The two stop numbers of a walk: it ends before a node that lies farther than the cutoff times the factor, and
-// after more than the multiplier times b nodes are scored.
+// The two stop numbers of a walk. Once b nodes are held it ends before a node that lies farther than the cutoff
+// times the factor; and it ends after more than the multiplier times b nodes are scored.
 pub struct Stops {
     pub factor: f32,
     pub multiplier: u32,

@@ -1,9 +1,9 @@
 -- What a walk over the parts of a checked store leaves: on a well-formed store the walk's graph is the view's, and both outputs are written as far as
 -- nodes were found. Then the reply of a search, from the doc ids of those nodes. Assumes nothing.
-use mathlib.Core.Path.{_≡_, refl, sym, ap, ap₂, subst, _∙_}
+use mathlib.Core.Path.{_≡_, sym, ap, ap₂, subst, _∙_}
 use mathlib.Core.Logic.{⊎-elim}
 use mathlib.Core.Bool.{true, _&&_}
-use mathlib.Core.List.{List, [], _∷_, _++_, map, append-assoc, List·Memᴰ as In, List·Memᴰ·head as here, List·Memᴰ·tail as there}
+use mathlib.Core.List.{List, [], _++_, map, append-assoc, List·Memᴰ as In}
 use Prim.Native.Nat.{ℕ, _-_, _*_, _≤_, _<_, min}
 use native.Mathlib.Omega.{arith}
 use lib.Dec.{ltb, lt→ltb}
@@ -14,7 +14,7 @@ use borrow.Author.Tests.{ltb-false, leb-true, le-leb}
 use Rattle.basics.specs.Graph.{listOf}
 use Rattle.basics.specs.Nodes.{Below}
 use Rattle.basics.proofs.Keeping.{keep-every}
-use Rattle.basics.proofs.Members.{in-take}
+use Rattle.basics.proofs.Members.{in-take, map-in}
 use Rattle.basics.proofs.Tests.{both-true, both-false}
 use Rattle.sorting.specs.Sorting.{sortBy}
 use Rattle.sorting.proofs.Laws.{in-sort}
@@ -42,10 +42,6 @@ use Rattle.finding.proofs.Answer.{answer-room}
 use Rattle.finding.proofs.Inside.{lists-inside, bridge-words, bridge-nodes}
 
 -- ---- lists
-
-map-in : (g h : ℕ → ℕ) (l : List ℕ) → ((x : ℕ) → In x l → g x ≡ h x) → map g l ≡ map h l
-map-in g h [] e = refl
-map-in g h (x ∷ l) e = ap₂ (λ (y : ℕ) (m : List ℕ). y ∷ m) (e x (here refl)) (map-in g h l (λ y m. e y (there m)))
 
 -- the first m places of l were passed in, and xs was written to their front
 front-written : {A : Type 0} (m : ℕ) (xs l : List A) → length xs ≤ m → m ≤ length l

@@ -37,7 +37,9 @@ module _ (ws fs : ℕ) (w : List ℕ) (f query scaled : List Float) (k : ℕ) (o
     distances-room = checked .distances-room;
   }
 
-  pub found-scaled : (stops : Stops) (places : ℕ)
-      → nodesBy stops (farFrom scaled (view w f .vectors)) (view w f) k places out distances ≡ nodesFound stops (view w f) query k places out distances
-  unfolding nodesFound farIn
-  found-scaled stops places = ap (λ (l : List Float). nodesBy stops (farFrom l (view w f .vectors)) (view w f) k places out distances) e
+pub found-scaled : (w : List ℕ) (f query scaled : List Float) (k : ℕ) (out : List ℕ) (distances : List Float) → scaled ≡ scaledOf binary32 query
+    → (stops : Stops) (places : ℕ)
+    → nodesBy stops (farFrom scaled (view w f .vectors)) (view w f) k places out distances ≡ nodesFound stops (view w f) query k places out distances
+unfolding nodesFound farIn
+found-scaled w f query scaled k out distances e stops places =
+    ap (λ (l : List Float). nodesBy stops (farFrom l (view w f .vectors)) (view w f) k places out distances) e

@@ -5,10 +5,11 @@
 // its caller says how many places the walk has. `find` is that with the places of a search, max(ef, k), and
 // leaves doc ids.
 //
-// It promises one equation for everything that a walk leaves, where the store is checked (`Checked` of
-// specs/Inside/Finding): `nodesFound`, and `replyOf` of `def_calls`. On any other store both end and stay within
-// their slices: they look at the ends of the parts and at the lengths passed in, and where those do not fit they
-// return counts 0. The stores stay as they are, and what scratch held before has no effect.
+// Each promises one equation for everything that a walk leaves, where the caller has checked store, query and
+// outputs (`Checked` of specs/Inside/Finding): `nodesFound`, and `replyOf` of `def_calls`. Otherwise both end and stay
+// within their slices. Where the parts do not lie in the stores, or an answer not in `nodes` and `distances`, they
+// return counts 0 and write nothing; `find` writes only as many doc ids as `docs` has room for. The stores stay as
+// they are, and what scratch held before has no effect.
 //
 // It uses `store` for the layout, `norm` for scaling, and `beam_search` for the walk, which it calls in one place.
 ghost use mathlib.Core.Path.{_≡_};
@@ -77,7 +78,7 @@ fn put_docs(words: &[u32], nodes: &[u32], docs: &mut [u32], count: usize)
     }
 }
 
-// The places of a walk are ef, or k if that is more.
+// The places of a search are ef, or k if that is more.
 fn larger(a: u32, b: u32) -> u32
     ensures { λ r. ⌜ r ≡ max a b ⌝ }
 {
@@ -90,7 +91,10 @@ fn parts_of(words: &[u32], k: u32) -> Parts
 {
     let n = store::word_at(words, store::NODES);
     let capacity = store::word_at(words, store::CAPACITY);
-    let degree = slices::lesser_u32(store::word_at(words, store::DEGREE), 32) as u16;
+    let degree = slices::lesser_u32(
+        store::word_at(words, store::DEGREE),
+        params::MOST_DEGREE,
+    ) as u16;
     let bridges = store::word_at(words, store::BRIDGE_COUNT);
     let dimension = store::word_at(words, store::DIMENSION);
     Parts {
@@ -120,8 +124,8 @@ fn lies_in(parts: Parts, words: usize, floats: usize, nodes: usize, distances: u
         & (parts.answer <= distances)
 }
 
-// The walk of a scaled query over parts that lie in the stores. All nodes are live, so that no word says which
-// are not.
+// The walk of a scaled query over parts that lie in the stores. All nodes are live, so no words are needed to
+// say which are not.
 fn walk(
     words: &[u32],
     floats: &[f32],
@@ -172,7 +176,7 @@ fn walk(
     )
 }
 
-// The nearest k of the nodes that a walk with so many places and these stops scores, all if fewer. They and their distances go to
+// The nearest k of the nodes that a walk with `places` places and these stop numbers scores, all if fewer. They and their distances go to
 // the front of the two outputs, nearest first; what lies past them stays. A checked query has at most 64
 // components.
 pub fn find_nodes(
@@ -193,7 +197,7 @@ pub fn find_nodes(
         ≡ nodesFound stops (view (now (words .entry)) (now (floats .entry))) (now (query .entry)) k places (now (nodes .entry)) (now (distances .entry))) ⌝ }
 {
     let components = query.len();
-    if components > 64 {
+    if components > params::MOST_DIMENSION as usize {
         return Walked {
             count: 0,
             scored: 0,

@@ -1,5 +1,5 @@
 // The distances of a query to several nodes, each written at the node's index in a slice of floats (scope,
-// part 8: a node is scored when its distance to the query is computed). Eight nodes at a time, with the
+// part 8: a live node is scored when its distance to the query is computed). Eight nodes at a time, with the
 // bits of eight single distances.
 ghost use mathlib.Core.Path.{_≡_};
 ghost use Prim.Native.Nat.{_+_, _≤_};

@@ -1,4 +1,4 @@
--- The two cases of what a search leaves, and what a query that is not refused brings. Assumes nothing.
+-- The two cases of what a search leaves, and what a search that is accepted has checked. Assumes nothing.
 use mathlib.Core.Path.{_≡_, sym, ap, _∙_}
 use mathlib.Core.List.{List}
 use Prim.Native.Nat.{ℕ}

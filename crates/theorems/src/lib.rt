@@ -27,6 +27,9 @@
 // specs/CAcceptance acceptance's claim over C calls
 // specs/Footprint   what a call depends on, a field for each call
 //
+// proofs/promise/Made           what holds between two calls, and that every call keeps it
+// proofs/promise/Answers        what a search reports of any view that can be walked
+// proofs/promise/AsGiven        vectors remembered as stored, or as passed in: both come to the same
 // proofs/promise/Promise        the theorem `demand-3`: the claim holds of every list of calls
 // proofs/promise/Refuted        stronger statements that are false, refuted by one index
 // proofs/acceptance/Finite      a finite vector, scaled, is finite

@@ -1,6 +1,7 @@
 -- What a search returns (scope, part 8): the answer of the walk, the distances of its nodes, and two counts. The graph is that of rows and bridges in
 -- words; entries that are no node are not in it, so that a search needs no test of the lists. On a well-formed store every entry is a node.
 use mathlib.Core.Path.{_≡_}
+use mathlib.Core.Bool.{Bool}
 use mathlib.Core.List.{List, _++_, map}
 use Prim.Native.Nat.{ℕ, _*_, _≤_, _<_}
 use lib.Dec.{ltb}
@@ -31,15 +32,18 @@ pub record Reads : Type 0 where
   pub bridges : List ℕ
   pub withdrawn : List ℕ
 
--- the distance of a node, the list of a node, what is walked over, and the nodes that a walk scores
+-- the distance of a node, the list of a node, which nodes are live, what is walked over, and the nodes that a walk scores
 abbrev pub farOf : Sizes → Reads → ℕ → Float
 farOf sizes reads = farFrom (reads .query) (vectorsIn (sizes .dimension) (reads .vectors))
 
 abbrev pub listsOf : Sizes → Reads → ℕ → List ℕ
 listsOf sizes reads = listInWords (sizes .n) (sizes .degree) (reads .rows) (reads .bridges)
 
+abbrev pub liveOf : Reads → ℕ → Bool
+liveOf reads = liveBy (reads .withdrawn)
+
 abbrev pub networkOf : Sizes → Reads → Network
-networkOf sizes reads = record { n = sizes .n; list = listsOf sizes reads; live = liveBy (reads .withdrawn); entry = sizes .entry .0 }
+networkOf sizes reads = record { n = sizes .n; list = listsOf sizes reads; live = liveOf reads; entry = sizes .entry .0 }
 
 abbrev pub scoredBy : Sizes → Reads → List ℕ
 scoredBy sizes reads = beamSearch (sizes .stops) (networkOf sizes reads) (farOf sizes reads) (sizes .places)

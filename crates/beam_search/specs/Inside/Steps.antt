@@ -6,16 +6,15 @@ use Prim.Native.Nat.{ℕ, suc, _*_, _≤_, _<_, min}
 use lib.ListN.{length, getD, take, drop, replicate}
 use lib.Ieee.{Float, inf}
 use Rattle.basics.specs.Choice.{pick}
-use Rattle.basics.specs.Lists.{keep}
 use Rattle.basics.specs.Nodes.{has, NoDup, Below}
 use Rattle.beam_state.specs.Inside.Tournament.{emptyRank, Tournament}
-use Rattle.def_walk.specs.Walk.{State, walk}
-use Rattle.def_walk.specs.Beam.{toFrontier, tooFar, tooMany}
+use Rattle.def_walk.specs.Walk.{State}
+use Rattle.def_walk.specs.Beam.{walkFrom}
 use Rattle.beam_state.specs.Inside.Queues.{Known}
 use Rattle.neighbours.specs.Inside.Gathering.{Linked}
-use Rattle.beam_state.specs.Inside.State.{Memory, frontierPart, heldPart, liveBy, Standing, pushed}
+use Rattle.beam_state.specs.Inside.State.{Memory, frontierPart, heldPart, Standing, pushed}
 use Rattle.beam_search.specs.declared.Sizes.{Sizes}
-use Rattle.beam_search.specs.Inside.Search.{Reads, farOf, listsOf}
+use Rattle.beam_search.specs.Inside.Search.{Reads, farOf, liveOf, networkOf}
 
 -- bridges between nodes linked, where no node had a link
 abbrev pub Linking : ℕ → List ℕ → List ℕ → List ℕ → Type 0
@@ -33,7 +32,7 @@ pub record Between (sizes : Sizes) (far : ℕ → Float) (live : ℕ → Bool) (
   pub known : Known far (sizes .n) seen (m .floats)
   pub room : sizes .n ≤ length (m .floats)
 
--- fresh nodes scored and pushed
+-- fresh nodes with their distances, pushed
 pub record TakenIn (sizes : Sizes) (far : ℕ → Float) (live : ℕ → Bool) (nodes₀ : List ℕ) (m : Memory) (s : State) : Type 0 where
   pub standing : Standing far live (sizes .n) (sizes .places) nodes₀ m (s .seen) (s .front)
   pub known : Known far (sizes .n) (s .seen) (m .floats)
@@ -55,15 +54,13 @@ TakingIn sizes far live count m m′ =
 -- the walk of the definition from where it stands, by at most `more` steps
 abbrev pub walkOn : Sizes → Reads → ℕ → List ℕ → List ℕ → List ℕ
 walkOn sizes reads more seen front =
-    walk (listsOf sizes reads) (toFrontier (farOf sizes reads))
-    (λ l u. tooFar (sizes .stops) (farOf sizes reads) (sizes .places) (keep (liveBy (reads .withdrawn)) l) u)
-    (λ l. tooMany (sizes .stops) (sizes .places) (keep (liveBy (reads .withdrawn)) l)) more seen front
+    walkFrom (sizes .stops) (networkOf sizes reads) (farOf sizes reads) (sizes .places) more seen front
 
 -- one step: the walk ends there, or goes on from there
 pub record Stepped (sizes : Sizes) (reads : Reads) (nodes₀ : List ℕ) (m : Memory) (done : Bool) (seen front : List ℕ) : Type 0 where
   pub seen′ : List ℕ
   pub front′ : List ℕ
-  pub stands : Between sizes (farOf sizes reads) (liveBy (reads .withdrawn)) nodes₀ m seen′ front′
+  pub stands : Between sizes (farOf sizes reads) (liveOf reads) nodes₀ m seen′ front′
   pub ends : done ≡ true → (more : ℕ) → walkOn sizes reads (suc more) seen front ≡ seen′
   pub goes : done ≡ false → (more : ℕ) → walkOn sizes reads (suc more) seen front ≡ walkOn sizes reads more seen′ front′
 
@@ -71,7 +68,7 @@ abbrev pub Stepping : Sizes → Reads → List ℕ → Memory → Memory → Boo
 Stepping sizes reads links m m′ done =
     Linked (sizes .n) (reads .bridges) links
     → (nodes₀ seen front : List ℕ)
-    → Between sizes (farOf sizes reads) (liveBy (reads .withdrawn)) nodes₀ m seen front
+    → Between sizes (farOf sizes reads) (liveOf reads) nodes₀ m seen front
     → Stepped sizes reads nodes₀ m′ done seen front
 
 -- all steps
@@ -83,16 +80,16 @@ abbrev pub Walking : Sizes → Reads → List ℕ → Memory → Memory → Type
 Walking sizes reads links m m′ =
     Linked (sizes .n) (reads .bridges) links
     → (nodes₀ seen front : List ℕ)
-    → Between sizes (farOf sizes reads) (liveBy (reads .withdrawn)) nodes₀ m seen front
-    → Rested sizes (farOf sizes reads) (liveBy (reads .withdrawn)) nodes₀ m′ (walkOn sizes reads (sizes .n) seen front)
+    → Between sizes (farOf sizes reads) (liveOf reads) nodes₀ m seen front
+    → Rested sizes (farOf sizes reads) (liveOf reads) nodes₀ m′ (walkOn sizes reads (sizes .n) seen front)
 
 -- the same of bridges between nodes, which the function links itself
 abbrev pub WalkingLinked : Sizes → Reads → Memory → Memory → Type 0
 WalkingLinked sizes reads m m′ =
     ((i : ℕ) → i < length (reads .bridges) → getD (reads .bridges) i 0 < sizes .n)
     → (nodes₀ seen front : List ℕ)
-    → Between sizes (farOf sizes reads) (liveBy (reads .withdrawn)) nodes₀ m seen front
-    → Rested sizes (farOf sizes reads) (liveBy (reads .withdrawn)) nodes₀ m′ (walkOn sizes reads (sizes .n) seen front)
+    → Between sizes (farOf sizes reads) (liveOf reads) nodes₀ m seen front
+    → Rested sizes (farOf sizes reads) (liveOf reads) nodes₀ m′ (walkOn sizes reads (sizes .n) seen front)
 
 -- nothing is marked, in the frontier or held
 pub record Prepared (n b : ℕ) (words : List ℕ) : Type 0 where
@@ -100,7 +97,7 @@ pub record Prepared (n b : ℕ) (words : List ℕ) : Type 0 where
   pub front : Tournament (replicate n emptyRank) (frontierPart n words)
   pub held : Tournament (replicate (min b n) emptyRank) (heldPart n b words)
 
--- the entry node is scored
+-- the entry node is seen
 abbrev pub Starting : Sizes → (ℕ → Float) → (ℕ → Bool) → List Float → List ℕ → Memory → Type 0
 Starting sizes far live floats nodes m′ =
     sizes .entry .0 < sizes .n

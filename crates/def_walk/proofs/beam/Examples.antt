@@ -164,7 +164,7 @@ no-cutoff : searchedBut (1 ∷ []) (lists ((1 ∷ 2 ∷ []) ∷ [] ∷ (3 ∷ []
 unfolding beamSearch has mul lt isNan toBits
 no-cutoff = refl
 
--- with no place and an entry node that is not live the first expansion scores nothing, so that the walk goes on
+-- with no place, and neither the entry node nor the next one live, the first expansion scores nothing, so that the walk goes on
 none-live-yet : searchedBut (0 ∷ 1 ∷ []) (λ u. (u + 1) ∷ []) 9 0 (λ _. +one) 0 ≡ 2 ∷ []
 unfolding beamSearch has mul lt isNan toBits
 none-live-yet = refl

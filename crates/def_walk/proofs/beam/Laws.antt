@@ -14,7 +14,7 @@ use lib.IntN.{negsuc}
 use lib.Ieee.{Float, fin, binary32, mul, lt}
 use Rattle.basics.specs.Lists.{keep}
 use Rattle.basics.specs.Nodes.{NoDup, Below}
-use Rattle.basics.proofs.Counting.{shorter, all-in, upTo, length-upTo, in-upTo, upTo-below, nodup-upTo}
+use Rattle.basics.proofs.Counting.{shorter, all-in, downFrom, length-downFrom, in-downFrom, downFrom-below, nodup-downFrom}
 use Rattle.basics.proofs.Keeping.{in-keep, keep-in, keep-one, keep-few, keep-every, nodup-keep}
 use Rattle.basics.proofs.Members.{both-left, in-take, nodup-take}
 use Rattle.sorting.specs.Sorting.{sortBy, firstBy}
@@ -31,10 +31,10 @@ use Rattle.def_walk.proofs.beam.Inserting.{frontier-laws, held-length}
 
 -- how many nodes are live
 abbrev pub alive : Network → ℕ
-alive g = length (keep (g .live) (upTo (g .n)))
+alive g = length (keep (g .live) (downFrom (g .n)))
 
 pub alive-few : (g : Network) → alive g ≤ g .n
-alive-few g = omega (arith, keep-few (g .live) (upTo (g .n)), length-upTo (g .n))
+alive-few g = omega (arith, keep-few (g .live) (downFrom (g .n)), length-downFrom (g .n))
 
 -- what a walk with b places over lists of at most L entries promises of the nodes scored, and of the first k of them
 pub record Found (stops : Stops) (g : Network) (L k b : ℕ) (far : ℕ → Float) (scored answer : List ℕ) : Type 0 where
@@ -53,7 +53,7 @@ pub record Found (stops : Stops) (g : Network) (L k b : ℕ) (far : ℕ → Floa
 -- ---- where every node is live, every node seen is scored
 
 pub alive-every : (g : Network) → ((v : ℕ) → T (g .live v)) → alive g ≡ g .n
-alive-every g all = ap length (keep-every (g .live) (upTo (g .n)) (λ v m. all v)) ∙ length-upTo (g .n)
+alive-every g all = ap length (keep-every (g .live) (downFrom (g .n)) (λ v m. all v)) ∙ length-downFrom (g .n)
 
 pub all-live : (stops : Stops) (g : Network) (far : ℕ → Float) (b : ℕ) → ((v : ℕ) → T (g .live v))
     → beamSearch stops g far b ≡ reverse (walk (g .list) (toFrontier far) (tooFar stops far b) (tooMany stops b) (g .n) (g .entry ∷ []) (g .entry ∷ []))
@@ -98,7 +98,7 @@ module _ (stops : Stops) (g : Network) (e-below : g .entry < g .n) (inside : (u 
     closed = λ u m. inl m;
   }
 
-  -- a walk that was stopped has scored b nodes at least, unless the multiplier is 0
+  -- a walk that was stopped has scored b nodes at least; where it was stopped by the count that needs a multiplier of 1 or more
   abbrev Late : List ℕ → Type 0
   Late l = 1 ≤ stops .multiplier → b ≤ length (living l)
 
@@ -146,7 +146,7 @@ module _ (stops : Stops) (g : Network) (e-below : g .entry < g .n) (inside : (u 
   unfolding beamSearch
   scored-seen m = in-keep (g .live) seen (in-reverse (living seen) m)
 
-  pub scored-many : length scored ≡ length (living seen)
+  scored-many : length scored ≡ length (living seen)
   unfolding beamSearch
   scored-many = length-reverse (living seen)
 
@@ -162,11 +162,11 @@ module _ (stops : Stops) (g : Network) (e-below : g .entry < g .n) (inside : (u 
   unfolding beamSearch
   entry-scored t = reverse-in (living seen) (keep-in (g .live) seen t (ended .keeps (g .entry) (here refl)))
 
-  among-live : (x : ℕ) → In x scored → In x (keep (g .live) (upTo (g .n)))
-  among-live x m = keep-in (g .live) (upTo (g .n)) (scored-seen m .0) (in-upTo (g .n) x (scored-nodes x m))
+  among-live : (x : ℕ) → In x scored → In x (keep (g .live) (downFrom (g .n)))
+  among-live x m = keep-in (g .live) (downFrom (g .n)) (scored-seen m .0) (in-downFrom (g .n) x (scored-nodes x m))
 
   pub scored-few : length scored ≤ alive g
-  scored-few = shorter scored (keep (g .live) (upTo (g .n))) scored-once among-live
+  scored-few = shorter scored (keep (g .live) (downFrom (g .n))) scored-once among-live
 
   pub answer-few : (k : ℕ) → length (answerOf far k scored) ≤ min k (alive g)
   unfolding answerOf
@@ -178,9 +178,9 @@ module _ (stops : Stops) (g : Network) (e-below : g .entry < g .n) (inside : (u 
     -- the live nodes, if the walk ends by itself
     holds-live : ((u : ℕ) → In u seen → (v : ℕ) → In v (g .list u) → In v seen) → alive g ≤ length (living seen)
     holds-live c =
-        shorter (keep (g .live) (upTo (g .n))) (living seen) (nodup-keep (g .live) (upTo (g .n)) (nodup-upTo (g .n)))
-        (λ x m. let p = in-keep (g .live) (upTo (g .n)) m in
-        keep-in (g .live) seen (p .0) (reach-in seen (ended .keeps (g .entry) (here refl)) c (reached x (upTo-below (g .n) x (p .1)))))
+        shorter (keep (g .live) (downFrom (g .n))) (living seen) (nodup-keep (g .live) (downFrom (g .n)) (nodup-downFrom (g .n)))
+        (λ x m. let p = in-keep (g .live) (downFrom (g .n)) m in
+        keep-in (g .live) seen (p .0) (reach-in seen (ended .keeps (g .entry) (here refl)) c (reached x (downFrom-below (g .n) x (p .1)))))
 
     scored-enough : min (alive g) b ≤ length scored
     scored-enough = elim (ended .why) [ inl c ↦ omega (arith, holds-live c, scored-many) | inr h ↦ omega (arith, h some, scored-many) ]
@@ -188,8 +188,8 @@ module _ (stops : Stops) (g : Network) (e-below : g .entry < g .n) (inside : (u 
     -- with a place for every live node, every live node is scored
     scored-whole : alive g ≤ b → (y : ℕ) → y < g .n → T (g .live y) → In y scored
     scored-whole h y l t =
-        all-in scored (keep (g .live) (upTo (g .n))) scored-once among-live (omega (arith, scored-enough))
-        (keep-in (g .live) (upTo (g .n)) t (in-upTo (g .n) y l))
+        all-in scored (keep (g .live) (downFrom (g .n))) scored-once among-live (omega (arith, scored-enough))
+        (keep-in (g .live) (downFrom (g .n)) t (in-downFrom (g .n) y l))
 
     -- ---- the search
 

@@ -52,13 +52,14 @@ returns-3 c checked =
     let scaled = room-is _ _ (a .query .now) (at-scale-into .scale-into .ensures) in
     at-walk .walk .ensures (a .k) (at-parts-of .parts-of .ensures (opened .header .degree))
     (checked-scaled _ _ (a .words .now) (a .floats .now) (a .query .now) _ (a .k) (a .nodes .now) (a .distances .now) scaled checked)
-    ∙ found-scaled 0 0 (a .words .now) (a .floats .now) (a .query .now) _ (a .k) (a .nodes .now) (a .distances .now) scaled (a .stops) (a .places)
+    ∙ found-scaled (a .words .now) (a .floats .now) (a .query .now) _ (a .k) (a .nodes .now) (a .distances .now) scaled (a .stops) (a .places)
 
 pub find-nodes-spec : {M : Type 1} → statement M
 find-nodes-spec =
     tie.close
     (tie.spec
-    returns
+    -- the limit of a dimension
+    (λ c. search needs) returns
     -- parts_of, lies_in
     (λ c κs. search needs) (λ c κs. search needs) returns-2
     -- scale_into

@@ -20,7 +20,8 @@ use Rattle.finding.specs.declared.Parts.{Parts}
 
 -- ---- what a caller has checked
 
--- with scratch of ws words and fs floats the store is well formed; it is built, the query has its dimension, and both outputs have room for the answer
+-- the store is well formed and built, scratch of ws words and fs floats is enough for it, the query has its dimension, and both outputs have room for
+-- the answer
 pub record Checked (ws fs : ℕ) (w : List ℕ) (f query : List Float) (k : ℕ) (out : List ℕ) (distances : List Float) : Type 0 where
   pub opens : firstRefusal (opening (Scratch ws fs) w f) ≡ 0
   pub built : word w stateAt ≡ builtState
@@ -37,7 +38,7 @@ pub record NodesReply : Type 0 where
   pub nodes : List ℕ
   pub distances : List Float
 
--- the nearest k of the nodes that a walk with so many places scores, at these distances; nothing is written past them
+-- the nearest k of the nodes that a walk with this many places scores, at these distances; nothing is written past them
 unfoldable pub nodesBy : Stops → (ℕ → Float) → View → ℕ → ℕ → List ℕ → List Float → NodesReply
 unfolding beamSearch answerOf
 nodesBy stops far v k places nodes distances =
@@ -77,7 +78,7 @@ pub record PartsIn (w : List ℕ) (k : ℕ) (p : Parts) : Type 0 where
   pub dimension : p .dimension ≡ word w dimensionAt
   pub entry : p .entry .0 ≡ word w entryAt
 
--- whether the parts lie in stores of so many words and floats, and an answer in outputs of such lengths
+-- whether the parts lie in stores with this many words and floats, and an answer fits outputs of these lengths
 abbrev pub liesIn : Parts → ℕ → ℕ → ℕ → ℕ → Bool
 liesIn p words floats nodes distances =
     leb (p .«rows_from») (p .«rows_to»)

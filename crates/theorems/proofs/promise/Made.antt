@@ -118,7 +118,7 @@ new-made d p t c past w f e = new-open d p c w f (new-taken d p c w f e) (floats
 -- ---- add
 
 -- one node more
-pub docs-with : (x : Index) (doc : ℕ) (u : List Float) → docsOf (withNode doc u x) ≡ docsOf x ++ (doc ∷ [])
+docs-with : (x : Index) (doc : ℕ) (u : List Float) → docsOf (withNode doc u x) ≡ docsOf x ++ (doc ∷ [])
 unfolding docsOf
 docs-with x doc u = map-append (λ (a : Added). a .doc) (x .nodes) (record { doc = doc; vector = u } ∷ [])
 
