@@ -32,7 +32,7 @@ use Rattle.def_walk.proofs.beam.Reverse.{in-reverse}
 use Rattle.beam_state.specs.Inside.Queues.{frontRank}
 use Rattle.beam_state.proofs.queues.Laws.{empty-queue}
 use Rattle.beam_state.proofs.queues.Holding.{none-held}
-use Rattle.neighbours.specs.Inside.Gathering.{freshEnd, GatheringAll}
+use Rattle.neighbours.specs.Inside.Gathering.{freshEnd, Beginning}
 use Rattle.beam_state.specs.Inside.State.{part, frontierAt, heldAt, keysAt, wordsFor, heldEnd, frontierPart, heldPart, keysPart, Memory, AnswerHeld, Standing}
 use Rattle.beam_state.specs.declared.Walk.{Walk}
 use Rattle.beam_state.proofs.Parts.{lay, lay-length, part-here, part-before, take-before}
@@ -174,13 +174,13 @@ unfolding keep expand visit has pick toFrontier insertIn
 first-one far n e h = ap (λ (l : List ℕ). expand (toFrontier far) (record { seen = []; front = [] }) l) (pick-true (e ∷ []) [] (lt-ltb e n h))
 
 pub started : (sizes : Sizes) (far : ℕ → Float) (live : ℕ → Bool) (count : ℕ) (words between : List ℕ) (floats : List Float) (nodes : List ℕ) (m′ : Memory) → ((v : ℕ) → T (fits binary32 (far v)))
-    → freshEnd (sizes .n) ≤ length words → Prepared (sizes .n) (sizes .places) words → GatheringAll (sizes .n) (sizes .entry .0 ∷ []) words between count
+    → freshEnd (sizes .n) ≤ length words → Prepared (sizes .n) (sizes .places) words → Beginning (sizes .n) (sizes .entry .0) words between count
     → TakingIn sizes far live count (record { words = between; floats = floats; nodes = nodes; walk = noWalk }) m′
     → take (frontierAt (sizes .n)) (m′ .words) ≡ take (frontierAt (sizes .n)) between → Starting sizes far live floats nodes m′
 unfolding has pick
-started sizes far live count words between floats nodes m′ f32s long p gather taking frame h few room =
+started sizes far live count words between floats nodes m′ f32s long p begin taking frame h few room =
     subst (λ (s : State). Between sizes far live nodes m′ (s .seen) (s .front)) (first-one far (sizes .n) (sizes .entry .0) h)
-    (gathered-in sizes far live count (sizes .entry .0 ∷ []) between (record { words = words; floats = floats; nodes = nodes; walk = noWalk }) m′ nodes (record { seen = []; front = [] }) long gather taking frame
+    (gathered-in sizes far live count (sizes .entry .0 ∷ []) between (record { words = words; floats = floats; nodes = nodes; walk = noWalk }) m′ nodes (record { seen = []; front = [] }) long (begin (omega arith) h) taking frame
     (p .marks) (none-standing far live (sizes .n) (sizes .places) words floats nodes few p) (record { few = few; f32s = f32s; there = λ v i. absurd (in-nil i) }) room)
 
 -- ---- ended

@@ -1,6 +1,6 @@
 -- Bridges linked one after the other: zeros are the chains of none, and each bridge makes those of one more. Assumes nothing.
 use mathlib.Core.Path.{_≡_, refl, sym, ap, _∙_, subst}
-use mathlib.Core.List.{List, [], _∷_, _++_, map, map-append, List·Memᴰ·not-nil as in-nil}
+use mathlib.Core.List.{List, [], _∷_, _++_, map, map-append}
 use Prim.Native.Nat.{ℕ, _+_, _*_, _/_, _≤_, _<_}
 use native.Mathlib.Omega.{arith}
 use native.Mathlib.Numerals.{add-one}
@@ -12,9 +12,10 @@ use Rattle.store.specs.Layout.{word, bridgeSize}
 use Rattle.store.specs.View.{bridgeIn}
 use Rattle.lists.specs.Inside.Words.{blockAt}
 use Rattle.lists.proofs.Reading.{block-word}
-use Rattle.lists.specs.Inside.Chains.{chainBridge, slotsFrom, Chained, bridgesIn}
+use Rattle.lists.specs.Inside.Chains.{chainBridge, Chained, bridgesIn}
 use Rattle.lists.proofs.chains.Laws.{chain-more}
 use Rattle.neighbours.specs.Inside.Gathering.{Linked}
+use Rattle.neighbours.proofs.gathering.Alone.{no-chain}
 use Rattle.beam_search.specs.Inside.Steps.{Linking}
 
 -- bridge j of some words
@@ -29,15 +30,6 @@ one-more j ws =
 
 many-bridges : (j : ℕ) (ws : List ℕ) → length (bridgesIn j ws) ≡ j
 many-bridges j ws = length-map (pieces 2 j ws) bridgeIn ∙ length-pieces 2 j ws
-
-no-chain : (n : ℕ) (ws links : List ℕ) → ((i : ℕ) → i < 2 * n → getD links i 0 ≡ 0) → Chained n (bridgesIn 0 ws) links
-unfolding slotsFrom pieces
-no-chain n ws links zero = record {
-  paths = λ i k. zero i (omega arith);
-  tails = λ i k. zero (n + i) (omega arith);
-  small = λ i s k. absurd (in-nil k);
-  owned = λ i j s k. absurd (in-nil k);
-}
 
 module _ (n : ℕ) (bridges links₀ : List ℕ) where
   -- the first j bridges are linked
@@ -71,9 +63,3 @@ module _ (n : ℕ) (bridges links₀ : List ℕ) where
     chaining-all h few room zero ends =
         let all : j ≡ length bridges / 2 = omega (arith, p .within) in
         record { few = omega arith; chained = subst (λ (m : ℕ). Chained n (bridgesIn m bridges) links) all (p .so-far few room zero ends) }
-
--- no bridges need no links
-pub none-linked : (n : ℕ) (bridges links : List ℕ) → n ≤ 1024 → length bridges < 2 → ((i : ℕ) → i < 2 * n → getD links i 0 ≡ 0) → Linked n bridges links
-none-linked n bridges links few none zero =
-    let all : 0 ≡ length bridges / 2 = omega arith in
-    record { few = omega arith; chained = subst (λ (m : ℕ). Chained n (bridgesIn m bridges) links) all (no-chain n bridges links zero) }

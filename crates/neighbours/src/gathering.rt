@@ -9,7 +9,7 @@ ghost use mathlib.Core.List.{[], _∷_};
 ghost use Prim.Native.Nat.{_≤_};
 ghost use lib.ListN.{length};
 ghost use Rattle.lists.specs.Inside.Chains.{firstLink, linkedEnds};
-ghost use Rattle.neighbours.specs.Inside.Gathering.{freshEnd, Gathering, GatheringAll, GatheringList};
+ghost use Rattle.neighbours.specs.Inside.Gathering.{freshEnd, Gathering, GatheringList, Beginning};
 use lists::chains;
 use words::ids::Node;
 
@@ -98,12 +98,28 @@ pub fn gather(
     visit_ends(words, size as u32, count, bridges, links, node)
 }
 
-// Marks the one node that a walk starts at: the first fresh node.
-pub fn begin(words: &mut [u32], size: usize, node: Node) -> usize
-    ensures { λ r. ⌜ GatheringAll size (node .0 ∷ []) (now (words .entry)) (now (words .exit)) r ⌝ }
+// Gathers the fresh nodes of node 0's list, of a row for one entry and no bridges.
+fn gather_row(words: &mut [u32], size: usize, row: &[u32]) -> usize
+    ensures { λ r. ⌜ GatheringList size 1 (now (row .entry)) [] [] 0 (now (words .entry)) (now (words .exit)) r ⌝ }
 {
-    if words.len() / WORDS < size {
-        return 0;
-    }
-    visit(words, size, 0, node.0)
+    let none: usize = 0;
+    gather(
+        words,
+        size,
+        row,
+        1,
+        &row[none..none],
+        &row[none..none],
+        Node(0),
+    )
+}
+
+// Marks the one node that a walk starts at: the first fresh node. It is gathered as the list of one node is: so
+// `gather` has two callers, and the compiler makes a function of it, in which the loop over a row has all its
+// numbers in registers (DECISIONS 74).
+pub fn begin(words: &mut [u32], size: usize, node: Node) -> usize
+    ensures { λ r. ⌜ Beginning size (node .0) (now (words .entry)) (now (words .exit)) r ⌝ }
+{
+    let row = [1, node.0];
+    gather_row(words, size, &row[..])
 }

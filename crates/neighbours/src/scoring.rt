@@ -1,12 +1,12 @@
 // The distances of a query to several nodes, each written at the node's index in a slice of floats (scope,
 // part 8: a live node is scored when its distance to the query is computed). Eight nodes at a time, with the
-// bits of eight single distances.
+// bits of eight single distances, and of the rest up to four one by one.
 ghost use mathlib.Core.Path.{_≡_};
-ghost use Prim.Native.Nat.{_+_, _≤_};
+ghost use Prim.Native.Nat.{_<_};
 ghost use lib.ListN.{length, set, take, drop};
 ghost use Rattle.distance.specs.Vectors.{vectorsIn};
 ghost use Rattle.def_walk.specs.Beam.{farFrom};
-ghost use Rattle.neighbours.specs.Inside.Scoring.{scoredAt, scoredEight, placedEight};
+ghost use Rattle.neighbours.specs.Inside.Scoring.{scoredAt, nodeAt, scoredEight, placedEight};
 use distance::vectors;
 use simd::Eight;
 use words::ids::Node;
@@ -28,37 +28,47 @@ fn score_one(floats: &mut [f32], query: &[f32], vectors: &[f32], dimension: u32,
     place(floats, node, d);
 }
 
+// The node that stands `more` places after a place of a list; past its end, the last one.
+fn node_at(nodes: &[u32], at: usize, more: usize) -> Node
+    requires { ⌜ (at < length (now nodes)) × (more < 8) ⌝ }
+    ensures { λ r. ⌜ r .0 ≡ nodeAt (now (nodes .entry)) at more ⌝ }
+{
+    let place = slices::lesser(at + more, nodes.len() - 1);
+    Node(nodes[place])
+}
+
 // The distances of eight of the nodes, from one place of their list on.
 fn eight(query: &[f32], vectors: &[f32], dimension: u32, nodes: &[u32], at: usize) -> Eight
-    requires { ⌜ at + 8 ≤ length (now nodes) ⌝ }
+    requires { ⌜ at < length (now nodes) ⌝ }
     ensures { λ r. ⌜ r
         ≡ scoredEight (farFrom (now (query .entry)) (vectorsIn dimension (now (vectors .entry)))) (now (nodes .entry)) at ⌝ }
 {
-    let a = vectors::get_vector(vectors, dimension, Node(nodes[at]));
-    let b = vectors::get_vector(vectors, dimension, Node(nodes[at + 1]));
-    let c = vectors::get_vector(vectors, dimension, Node(nodes[at + 2]));
-    let d = vectors::get_vector(vectors, dimension, Node(nodes[at + 3]));
-    let e = vectors::get_vector(vectors, dimension, Node(nodes[at + 4]));
-    let f = vectors::get_vector(vectors, dimension, Node(nodes[at + 5]));
-    let g = vectors::get_vector(vectors, dimension, Node(nodes[at + 6]));
-    let h = vectors::get_vector(vectors, dimension, Node(nodes[at + 7]));
+    let a = vectors::get_vector(vectors, dimension, node_at(nodes, at, 0));
+    let b = vectors::get_vector(vectors, dimension, node_at(nodes, at, 1));
+    let c = vectors::get_vector(vectors, dimension, node_at(nodes, at, 2));
+    let d = vectors::get_vector(vectors, dimension, node_at(nodes, at, 3));
+    let e = vectors::get_vector(vectors, dimension, node_at(nodes, at, 4));
+    let f = vectors::get_vector(vectors, dimension, node_at(nodes, at, 5));
+    let g = vectors::get_vector(vectors, dimension, node_at(nodes, at, 6));
+    let h = vectors::get_vector(vectors, dimension, node_at(nodes, at, 7));
     distance::cosine_distance_normalized8(query, a, b, c, d, e, f, g, h)
 }
 
 fn place_eight(floats: &mut [f32], nodes: &[u32], at: usize, distances: Eight)
-    requires { ⌜ at + 8 ≤ length (now nodes) ⌝ }
+    requires { ⌜ at < length (now nodes) ⌝ }
     ensures { λ _. ⌜ now (floats .exit) ≡ placedEight (now (nodes .entry)) at distances (now (floats .entry)) ⌝ }
 {
-    place(floats, Node(nodes[at]), distances.a);
-    place(floats, Node(nodes[at + 1]), distances.b);
-    place(floats, Node(nodes[at + 2]), distances.c);
-    place(floats, Node(nodes[at + 3]), distances.d);
-    place(floats, Node(nodes[at + 4]), distances.e);
-    place(floats, Node(nodes[at + 5]), distances.f);
-    place(floats, Node(nodes[at + 6]), distances.g);
-    place(floats, Node(nodes[at + 7]), distances.h);
+    place(floats, node_at(nodes, at, 0), distances.a);
+    place(floats, node_at(nodes, at, 1), distances.b);
+    place(floats, node_at(nodes, at, 2), distances.c);
+    place(floats, node_at(nodes, at, 3), distances.d);
+    place(floats, node_at(nodes, at, 4), distances.e);
+    place(floats, node_at(nodes, at, 5), distances.f);
+    place(floats, node_at(nodes, at, 6), distances.g);
+    place(floats, node_at(nodes, at, 7), distances.h);
 }
 
+// Eight of the nodes from one place on. Where fewer are left, the last one is scored again, which changes nothing.
 fn score_eight(
     floats: &mut [f32],
     query: &[f32],
@@ -67,7 +77,7 @@ fn score_eight(
     nodes: &[u32],
     at: usize,
 )
-    requires { ⌜ at + 8 ≤ length (now nodes) ⌝ }
+    requires { ⌜ at < length (now nodes) ⌝ }
     ensures { λ _. ⌜ now (floats .exit)
         ≡ scoredAt (farFrom (now (query .entry)) (vectorsIn dimension (now (vectors .entry))))
         (take 8 (drop at (now (nodes .entry)))) (now (floats .entry)) ⌝ }
@@ -96,6 +106,10 @@ fn score_rest(
     }
 }
 
+// A rest of up to this many nodes is scored one by one: their sums do not wait for each other either, and eight at
+// a time would compute sums that no one needs.
+const FEW: usize = 4;
+
 // Works out the distances of all these nodes.
 pub fn score(floats: &mut [f32], query: &[f32], vectors: &[f32], dimension: u32, nodes: &[u32])
     ensures { λ _. ⌜ now (floats .exit)
@@ -103,9 +117,9 @@ pub fn score(floats: &mut [f32], query: &[f32], vectors: &[f32], dimension: u32,
         (now (nodes .entry)) (now (floats .entry)) ⌝ }
 {
     let mut i = 0;
-    while nodes.len() - i >= 8 {
+    while nodes.len() - i > FEW {
         score_eight(floats, query, vectors, dimension, nodes, i);
-        i += 8;
+        i = slices::lesser(i + 8, nodes.len());
     }
     score_rest(floats, query, vectors, dimension, nodes, i);
 }

@@ -2,7 +2,7 @@
 use mathlib.Core.Path.{refl}
 use Prim.Native.Nat.{ℕ}
 use lib.ListN.{length-replicate, getD-replicate}
-use Rattle.beam_search.proofs.Linking.{none-linked}
+use Rattle.neighbours.proofs.gathering.Alone.{none-linked}
 use native.Mathlib.Omega.{arith}
 use borrow.Author.Needs.{needs}
 use Rattle.beam_search.proofs.walk_linked.Statement.{statement}
@@ -14,7 +14,7 @@ returns c ends =
     let at-if1 = at-walk-on .before .before .before .before .before in
     let start = at-if1 .before .before .before .before .before .before .before .before .before in
     let a = start .args in
-    at-walk-on .walk-on .ensures (none-linked (a .sizes .n) (a .bridges .now) _ (start .pre .1 .0) (at-if1 .if1 .taken) (λ i h. refl))
+    at-walk-on .walk-on .ensures (none-linked (a .sizes .n) (a .bridges .now) _ (omega (arith, start .pre .1 .0)) (at-if1 .if1 .taken) (λ i h. refl))
 
 returns-2 : tie.Need-returns-2
 returns-2 c ends =

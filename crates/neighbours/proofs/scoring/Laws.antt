@@ -3,14 +3,15 @@
 use mathlib.Core.Path.{_≡_, refl, sym, ap, _∙_, subst}
 use mathlib.Core.Logic.{_⊎_, inl, inr}
 use mathlib.Core.List.{List, [], _∷_, _++_, List·Memᴰ as In, List·Memᴰ·not-nil as in-nil, List·Memᴰ·cases-cons as in-cons}
-use Prim.Native.Nat.{ℕ, suc, _+_, _≤_, _<_}
+use Prim.Native.Nat.{ℕ, suc, _+_, _-_, _≤_, _<_, min}
 use native.Mathlib.Omega.{arith}
 use native.Mathlib.Numerals.{add-one}
-use native.Mathlib.Decide.{ℕ-discrete}
-use lib.ListN.{length, getD, set, take, drop, length-set}
-use lib.Seq.{drop-cons, getD-set-same, getD-set-other}
+use native.Mathlib.Decide.{ℕ-discrete, decLt}
+use lib.ListN.{length, getD, set, take, drop, length-set, length-drop}
+use lib.Seq.{drop-cons, take-all, take-suc, getD-drop, getD-set-same, getD-set-other, set-out, set-getD}
 use lib.Ieee.{Float}
-use Rattle.neighbours.specs.Inside.Scoring.{scoredAt, scoredEight, placedEight}
+use Rattle.basics.proofs.Members.{in-getD}
+use Rattle.neighbours.specs.Inside.Scoring.{scoredAt, nodeAt, scoredEight, placedEight}
 
 module _ (far : ℕ → Float) where
   pub scored-append : (xs ys : List ℕ) (floats : List Float) → scoredAt far (xs ++ ys) floats ≡ scoredAt far ys (scoredAt far xs floats)
@@ -59,27 +60,72 @@ module _ (far : ℕ → Float) where
   unfolding scoredAt
   scored-end nodes i floats h = rw (lib.ListN.drop-of-length-le nodes h)
 
-  pub eight-step : (nodes : List ℕ) (i : ℕ) (floats floats′ : List Float) → floats′ ≡ scoredAt far (take 8 (drop i nodes)) floats
-      → scoredAt far (drop (i + 8) nodes) floats′ ≡ scoredAt far (drop i nodes) floats
-  eight-step nodes i floats floats′ e =
-      ap (scoredAt far (drop (i + 8) nodes)) e
-      ∙ sym (ap (λ (l : List ℕ). scoredAt far l floats) (sym (lib.ListN.take-append-drop 8 (drop i nodes)))
+  -- a place past the end leaves as much as the end: nothing
+  drop-end : (nodes : List ℕ) (j : ℕ) → drop (min j (length nodes)) nodes ≡ drop j nodes
+  drop-end nodes j = elim (decLt j (length nodes)) [
+    | yes within ↦ let same : min j (length nodes) ≡ j = omega arith in ap (λ (k : ℕ). drop k nodes) same
+    | no past ↦
+        let all : length nodes ≤ min j (length nodes) = omega arith in
+        let beyond : length nodes ≤ j = omega arith in
+        lib.ListN.drop-of-length-le nodes all ∙ sym (lib.ListN.drop-of-length-le nodes beyond)
+  ]
+
+  pub eight-step : (nodes : List ℕ) (i j : ℕ) (floats floats′ : List Float) → j ≡ min (i + 8) (length nodes) → floats′ ≡ scoredAt far (take 8 (drop i nodes)) floats
+      → scoredAt far (drop j nodes) floats′ ≡ scoredAt far (drop i nodes) floats
+  eight-step nodes i j floats floats′ l e =
+      ap (λ (k : ℕ). scoredAt far (drop k nodes) floats′) l
+      ∙ ap (λ (xs : List ℕ). scoredAt far xs floats′) (drop-end nodes (i + 8))
+      ∙ ap (scoredAt far (drop (i + 8) nodes)) e
+      ∙ sym (ap (λ (xs : List ℕ). scoredAt far xs floats) (sym (lib.ListN.take-append-drop 8 (drop i nodes)))
       ∙ scored-append (take 8 (drop i nodes)) (drop 8 (drop i nodes)) floats
-      ∙ ap (λ (l : List ℕ). scoredAt far l (scoredAt far (take 8 (drop i nodes)) floats)) (lib.Seq.drop-drop 8 i nodes))
+      ∙ ap (λ (xs : List ℕ). scoredAt far xs (scoredAt far (take 8 (drop i nodes)) floats)) (lib.Seq.drop-drop 8 i nodes))
 
-  -- eight nodes are one after the other
-  pub eight-are : (nodes : List ℕ) (i : ℕ) (floats : List Float) → i + 8 ≤ length nodes
-      → placedEight nodes i (scoredEight far nodes i) floats ≡ scoredAt far (take 8 (drop i nodes)) floats
-  unfolding scoredAt
-  eight-are nodes i floats h =
-      sym (ap (λ (l : List ℕ). scoredAt far (take 8 l) floats)
-      (first ∙ ap (λ l. getD nodes i 0 ∷ l) (next 1 (omega arith) refl ∙ ap (λ l. at 1 ∷ l) (next 2 (omega arith) refl ∙ ap (λ l. at 2 ∷ l) (next 3 (omega arith) refl ∙ ap (λ l. at 3 ∷ l) (next 4 (omega arith) refl ∙ ap (λ l. at 4 ∷ l) (next 5 (omega arith) refl ∙ ap (λ l. at 5 ∷ l) (next 6 (omega arith) refl ∙ ap (λ l. at 6 ∷ l) (next 7 (omega arith) refl)))))))))
-    where
-      at : ℕ → ℕ
-      at k = getD nodes (i + k) 0
+  -- a node among those that are scored, scored again
+  scored-again : (v : ℕ) (xs : List ℕ) (floats : List Float) → In v xs → set (scoredAt far xs floats) v (far v) ≡ scoredAt far xs floats
+  scored-again v xs floats m = elim (decLt v (length floats)) [
+    | no past ↦ set-out (scoredAt far xs floats) v (far v) (omega (arith, scored-length xs floats))
+    | yes here ↦ ap (set (scoredAt far xs floats) v) (sym (scored-known (far v) v xs floats m here)) ∙ set-getD (scoredAt far xs floats) v (far v)
+  ]
 
-      first : drop i nodes ≡ getD nodes i 0 ∷ drop (i + 1) nodes
-      first = drop-cons nodes i 0 (omega arith) ∙ ap (λ (j : ℕ). getD nodes i 0 ∷ drop j nodes) (sym (add-one i))
+  -- eight nodes are one after the other; past the end the last one is scored again
+  module _ (nodes : List ℕ) (i : ℕ) (floats : List Float) (h : i < length nodes) where
+    -- the first k of them scored
+    abbrev pub first : ℕ → List Float
+    first k = scoredAt far (take k (drop i nodes)) floats
 
-      next : (k : ℕ) → k < 8 → k ≡ k → drop (i + k) nodes ≡ at k ∷ drop (i + suc k) nodes
-      next k l e = let s : suc (i + k) ≡ i + suc k = omega arith in drop-cons nodes (i + k) 0 (omega arith) ∙ ap (λ (j : ℕ). at k ∷ drop j nodes) s
+    -- one more place
+    abbrev put : ℕ → List Float → List Float
+    put k l = set l (nodeAt nodes i k) (far (nodeAt nodes i k))
+
+    one-more : (k : ℕ) → put k (first k) ≡ first (suc k)
+    unfolding scoredAt
+    one-more k = elim (decLt (i + k) (length nodes)) [
+      | no past ↦
+          let last : min (i + k) (length nodes - 1) ≡ i + (length nodes - 1 - i) = omega arith in
+          let all : length (drop i nodes) ≤ k = omega (arith, length-drop i nodes) in
+          let here : nodeAt nodes i k ≡ getD (drop i nodes) (length nodes - 1 - i) 0 =
+          ap (λ (j : ℕ). getD nodes j 0) last ∙ sym (getD-drop i nodes (length nodes - 1 - i) 0) in
+          let among : In (nodeAt nodes i k) (take k (drop i nodes)) =
+          subst (In (nodeAt nodes i k)) (sym (take-all k (drop i nodes) all))
+          (subst (λ (v : ℕ). In v (drop i nodes)) (sym here) (in-getD (drop i nodes) (length nodes - 1 - i) 0 (omega (arith, length-drop i nodes)))) in
+          scored-again (nodeAt nodes i k) (take k (drop i nodes)) floats among
+          ∙ ap (λ (l : List ℕ). scoredAt far l floats) (take-all k (drop i nodes) all ∙ sym (take-all (suc k) (drop i nodes) (omega arith)))
+      | yes within ↦
+          let place : min (i + k) (length nodes - 1) ≡ i + k = omega arith in
+          let here : nodeAt nodes i k ≡ getD (drop i nodes) k 0 =
+          ap (λ (j : ℕ). getD nodes j 0) place ∙ sym (getD-drop i nodes k 0) in
+          ap (λ (v : ℕ). set (first k) v (far v)) here
+          ∙ sym (ap (λ (l : List ℕ). scoredAt far l floats) (take-suc (drop i nodes) k 0 (omega (arith, length-drop i nodes)))
+          ∙ scored-append (take k (drop i nodes)) (getD (drop i nodes) k 0 ∷ []) floats)
+    ]
+
+    pub eight-are : placedEight nodes i (scoredEight far nodes i) floats ≡ first 8
+    unfolding scoredAt
+    eight-are =
+        let e2 = ap (put 1) (one-more 0) ∙ one-more 1 in
+        let e3 = ap (put 2) e2 ∙ one-more 2 in
+        let e4 = ap (put 3) e3 ∙ one-more 3 in
+        let e5 = ap (put 4) e4 ∙ one-more 4 in
+        let e6 = ap (put 5) e5 ∙ one-more 5 in
+        let e7 = ap (put 6) e6 ∙ one-more 6 in
+        ap (put 7) e7 ∙ one-more 7

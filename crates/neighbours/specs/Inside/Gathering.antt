@@ -60,3 +60,7 @@ pub record Linked (n : ℕ) (bridges links : List ℕ) : Type 0 where
 abbrev pub GatheringList : ℕ → ℕ → List ℕ → List ℕ → List ℕ → ℕ → List ℕ → List ℕ → ℕ → Type 0
 GatheringList n degree rows bridges links u words words′ r =
     Linked n bridges links → u < n → GatheringAll n (listOf (rowLists degree rows) (bridgeList bridges) u) words words′ r
+
+-- words in which node u alone has been looked at; a list's chains know nodes by 32 bits
+abbrev pub Beginning : ℕ → ℕ → List ℕ → List ℕ → ℕ → Type 0
+Beginning n u words words′ r = n ≤ 4294967295 → u < n → GatheringAll n (u ∷ []) words words′ r

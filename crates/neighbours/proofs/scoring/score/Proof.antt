@@ -19,10 +19,15 @@ abbrev μ-loop : tie.MeasureT-loop
 
 loop-again : tie.Need-loop-again Inv-loop μ-loop
 loop-again c =
-    let a = (c .before .before .before .before .before .before .before .before .before .before) .args in
-    let l = c .before .before .before .before .before .loop in
-    let s = c .before .before .score-eight in
-    (omega (arith, c .before .before .before .before .loop-test .taken), s .kept .0 ∙ l .inv .1, eight-step (farFrom (a .query .now) (vectorsIn (a .dimension) (a .vectors .now))) (a .nodes .now) (l .i) (l .floats) (s .last .0) (s .ensures) ∙ l .inv .2)
+    let at-score-eight = c .before .before .before in
+    let at-loop = at-score-eight .before .before .before in
+    let a = at-loop .before .before .before .before .before .args in
+    let l = at-loop .loop in
+    let s = at-score-eight .score-eight in (
+      omega (arith, c .lesser .ensures),
+      s .kept .0 ∙ l .inv .1,
+      eight-step (farFrom (a .query .now) (vectorsIn (a .dimension) (a .vectors .now))) (a .nodes .now) (l .i) (c .lesser .result) (l .floats) (s .last .0) (c .lesser .ensures) (s .ensures) ∙ l .inv .2,
+    )
 
 pub score-spec : {M : Type 1} → statement M
 score-spec =
@@ -30,7 +35,7 @@ score-spec =
     (tie.spec
     Inv-loop μ-loop (λ c. (omega arith, refl, refl))
     -- loop, score_eight, i, the loop measure
-    (λ c. search needs) (λ c κs. search needs) (λ c. search needs) (λ c. search needs) loop-again
+    (λ c. search needs) (λ c κs. search needs) (λ c. search needs) (λ c κs. search needs) (λ c. search needs) loop-again
     -- score_rest
     (λ c κs. search needs) (λ c. c .before .before .score-rest .kept .0 ∙ c .before .before .before .before .before .loop .inv .1)
     (λ c. c .before .before .score-rest .ensures ∙ c .before .before .before .before .before .loop .inv .2))
