@@ -1,7 +1,8 @@
 /* Two versions of the library, each behind a prefix (bench/versions), on the same vectors: build, search and recognise by turns.
- * Prints the old version's time, the new one's share of it (the median over rounds) and the share of the old one's second turn in
- * each round, which is the noise. Exits 1 if two answers differ. */
+ * Prints, with tabs between them, the old version's time in microseconds, the new one's share of it (the median over rounds) and the
+ * share of the old one's second turn in each round, which is the noise; and a line for each subject whose answers differ. */
 #define _POSIX_C_SOURCE 199309L
+#include <alloca.h>
 #include <math.h>
 #include <stdint.h>
 #include <stdio.h>
@@ -28,7 +29,7 @@ static uint32_t words[2][PIPNN_WORDS_SIZE(MOST, DEGREE)], open_words[PIPNN_WORDS
 static float floats[2][PIPNN_FLOATS_SIZE(MOST, FEATURES)], open_floats[PIPNN_FLOATS_SIZE(MOST, FEATURES)], scratch_floats[PIPNN_SCRATCH_FLOATS(MOST)];
 static float vectors[MOST * FEATURES], queries[QUERIES * FEATURES];
 static uint32_t nodes;
-static int differ;
+static int swapped; /* the old version works in the second stores, the new one in the first */
 
 static uint64_t state = 1;
 static float number(void) {
@@ -50,7 +51,7 @@ static void make(int grouped) {
 
 #define LENGTH(a) (sizeof(a) / sizeof *(a))
 #define SCRATCH scratch_words, LENGTH(scratch_words), scratch_floats, LENGTH(scratch_floats)
-#define STORES(s) words[s], LENGTH(words[s]), floats[s], LENGTH(floats[s])
+#define STORES(s) words[(s) ^ swapped], LENGTH(words[0]), floats[(s) ^ swapped], LENGTH(floats[0])
 
 static void must(uint32_t number) {
     if (number) {
@@ -69,8 +70,8 @@ static uint64_t answers[2];
 static void add_answer(int s, uint32_t x) { answers[s] = (answers[s] ^ x) * 1099511628211u; }
 
 static void build(int s) {
-    memcpy(words[s], open_words, sizeof open_words);
-    memcpy(floats[s], open_floats, sizeof open_floats);
+    memcpy(words[s ^ swapped], open_words, sizeof open_words);
+    memcpy(floats[s ^ swapped], open_floats, sizeof open_floats);
     must((s ? new_pipnn_build : old_pipnn_build)(STORES(s), SCRATCH));
 }
 
@@ -117,35 +118,37 @@ static double median(double *x) {
     return x[ROUNDS / 2];
 }
 
-static double timed(void (*call)(int), int s, int times) {
+/* `bytes` further down the stack, since where the stack lies has an effect on time too */
+static __attribute__((noinline)) double timed(void (*call)(int), int s, int times, size_t bytes) {
+    volatile char *room = alloca(bytes);
+    room[0] = 0;
     double from = seconds();
     for (int i = 0; i < times; i++) call(s);
     return (seconds() - from) / times;
 }
 
-/* each round: the old version, the new one, the old one again, in an order that changes */
+/* each round: the old version, the new one, the old one again, in an order that changes, at one place of the stack */
 static void measure(const char *what, const char *data, void (*call)(int), double calls) {
-    double once = timed(call, 0, 1), own[ROUNDS], share[ROUNDS], again[ROUNDS];
+    double once = timed(call, 0, 1, 16), own[ROUNDS], share[ROUNDS], again[ROUNDS];
     int times = once > 2e-3 ? 1 : (int)(2e-3 / once) + 1;
     for (int r = 0; r < ROUNDS; r++) {
         double t[3];
+        size_t bytes = 16 + 16 * (size_t)(rand() % 256);
         for (int i = 0; i < 3; i++) {
             int who = (i + r) % 3;
-            t[who] = timed(call, who == 1, times);
+            t[who] = timed(call, who == 1, times, bytes);
         }
         own[r] = t[0], share[r] = t[1] / t[0], again[r] = t[2] / t[0];
     }
-    printf("%-24s %-8s %5u %10.2f us  new %.3f  old again %.3f\n", what, data, nodes, 1e6 * median(own) / calls, median(share), median(again));
+    printf("%s\t%s\t%u\t%.2f\t%.4f\t%.4f\n", what, data, nodes, 1e6 * median(own) / calls, median(share), median(again));
 }
 
 static void same(const char *what) {
-    if (answers[0] != answers[1]) {
-        printf("%s: the answers differ\n", what);
-        differ = 1;
-    }
+    if (answers[0] != answers[1]) printf("differ\t%s\n", what);
 }
 
-int main(void) {
+int main(int count, char **arguments) {
+    swapped = count > 1 && !strcmp(arguments[1], "swapped");
     static const uint32_t sizes[] = {64, 256, 1024};
     for (int grouped = 0; grouped < 2; grouped++)
         for (unsigned i = 0; i < LENGTH(sizes); i++) {
@@ -154,12 +157,12 @@ int main(void) {
             make(grouped);
             fill(1);
             fill(0);
-            if (memcmp(words[0], words[1], sizeof words[0]) || memcmp(floats[0], floats[1], sizeof floats[0])) printf("add: the stores differ\n"), differ = 1;
+            if (memcmp(words[0], words[1], sizeof words[0]) || memcmp(floats[0], floats[1], sizeof floats[0])) printf("differ\tadd\n");
             memcpy(open_words, words[0], sizeof open_words);
             memcpy(open_floats, floats[0], sizeof open_floats);
             measure("build", data, build, 1);
             build(0), build(1);
-            if (memcmp(words[0], words[1], sizeof words[0])) printf("build: the stores differ\n"), differ = 1;
+            if (memcmp(words[0], words[1], sizeof words[0])) printf("differ\tbuild\n");
             static const uint32_t efs[] = {10, 50, 100, 1024};
             for (unsigned e = 0; e < LENGTH(efs); e++) {
                 char what[32];
@@ -176,5 +179,5 @@ int main(void) {
             same("recognise ef 50");
             measure("recognise ef 50", data, recognise, QUERIES);
         }
-    return differ;
+    return 0;
 }
