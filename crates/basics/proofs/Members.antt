@@ -1,4 +1,4 @@
--- Membership in a part of a list, in a row that a store replaced, and under a map; the first few of a list; tests joined by `&&`. Assumes nothing.
+-- Membership in a part of a list, in a row that a store replaced, and under a map; the first few of a list and what follows them; tests joined by `&&`. Assumes nothing.
 use mathlib.Core.Path.{_≡_, refl, sym, ap, _∙_}
 use mathlib.Core.Logic.{inl, inr}
 use mathlib.Core.Bool.{Bool, true, false, _&&_}
@@ -8,7 +8,7 @@ use Prim.Native.Nat.{ℕ, zero, suc, _≤_, _<_, min}
 use native.Mathlib.Omega.{arith}
 use native.Mathlib.Decide.{decLt}
 use lib.Dec.{T}
-use lib.ListN.{length, getD, take, drop}
+use lib.ListN.{length, getD, take, drop, drop-of-length-le}
 use lib.Seq.{take-all}
 use Rattle.basics.specs.Nodes.{NoDup}
 
@@ -44,6 +44,16 @@ pub take-min : {A : Type 0} (i j : ℕ) (l : List A) → length l ≤ i → take
 take-min {A} i j l h = elim (decLt i j) [
   | yes k ↦ take-all (min i j) l (omega arith) ∙ sym (take-all j l (omega arith))
   | no k ↦ let s : min i j ≡ j = omega arith in ap (λ (x : ℕ). take x l) s
+]
+
+-- past the end of a list there is nothing, as at its end
+pub drop-min : {A : Type 0} (j : ℕ) (l : List A) → drop (min j (length l)) l ≡ drop j l
+drop-min {A} j l = elim (decLt j (length l)) [
+  | yes k ↦ let s : min j (length l) ≡ j = omega arith in ap (λ (x : ℕ). drop x l) s
+  | no k ↦
+      let end : length l ≤ min j (length l) = omega arith in
+      let past : length l ≤ j = omega arith in
+      drop-of-length-le l end ∙ sym (drop-of-length-le l past)
 ]
 
 -- ---- two tests

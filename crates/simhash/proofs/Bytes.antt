@@ -2,13 +2,13 @@
 use mathlib.Core.Path.{_≡_, sym, ap, ap₂, _∙_}
 use mathlib.Core.Bool.{Bool}
 use mathlib.Core.List.{List}
-use Prim.Native.Nat.{ℕ, _+_, _-_, _*_, _/_, _%_, _≤_, _<_, min}
+use Prim.Native.Nat.{ℕ, _+_, _-_, _*_, _/_, _%_, _<_, min}
 use native.Mathlib.Nat.{zero-mul, one-mul}
 use native.Mathlib.Omega.{arith}
-use native.Mathlib.Decide.{decLt}
-use lib.ListN.{length, take, drop, length-drop, drop-of-length-le}
+use lib.ListN.{length, take, drop, length-drop}
 use lib.Seq.{take-all}
 use lib.Ieee.{Float}
+use Rattle.basics.proofs.Members.{drop-min}
 use Rattle.simhash.specs.Inside.Blocks.{bitsOf, sideOf, blockHash, bitIn, blocksHash}
 use Rattle.simhash.proofs.Bits.{bits-same, bits-below, bits-join}
 
@@ -23,16 +23,6 @@ low-byte r blocks = bits-same (sideOf r blocks) (bitIn r blocks) 8 at
         let first : b / 8 ≡ 0 = omega arith in
         let same : b ≡ b % 8 = omega arith in
         ap₂ (λ (k j : ℕ). sideOf r (drop k blocks) j) (sym (ap (λ (x : ℕ). x * (8 * length r)) first ∙ zero-mul (8 * length r))) same
-
-drop-min : (k : ℕ) (l : List Float) → drop (min k (length l)) l ≡ drop k l
-drop-min k l = go (decLt k (length l))
-  where
-    go : Dec (k < length l) → drop (min k (length l)) l ≡ drop k l
-    go (yes h) = let e : min k (length l) ≡ k = omega arith in ap (λ (i : ℕ). drop i l) e
-    go (no h) =
-        let past : length l ≤ min k (length l) = omega arith in
-        let all : length l ≤ k = omega arith in
-        drop-of-length-le l past ∙ sym (drop-of-length-le l all)
 
 high-byte : (r blocks : List Float) → blockHash r (drop (min (8 * length r) (length blocks)) blocks) ≡ bitsOf (λ b. bitIn r blocks (8 + b)) 8
 high-byte r blocks = bits-same (sideOf r (drop (min (8 * length r) (length blocks)) blocks)) (λ b. bitIn r blocks (8 + b)) 8 at

@@ -10,7 +10,7 @@ use native.Mathlib.Decide.{ℕ-discrete, decLt}
 use lib.ListN.{length, getD, set, take, drop, length-set, length-drop}
 use lib.Seq.{drop-cons, take-all, take-suc, getD-drop, getD-set-same, getD-set-other, set-out, set-getD}
 use lib.Ieee.{Float}
-use Rattle.basics.proofs.Members.{in-getD}
+use Rattle.basics.proofs.Members.{in-getD, drop-min}
 use Rattle.neighbours.specs.Inside.Scoring.{scoredAt, nodeAt, scoredEight, placedEight}
 
 module _ (far : ℕ → Float) where
@@ -60,21 +60,11 @@ module _ (far : ℕ → Float) where
   unfolding scoredAt
   scored-end nodes i floats h = rw (lib.ListN.drop-of-length-le nodes h)
 
-  -- a place past the end leaves as much as the end: nothing
-  drop-end : (nodes : List ℕ) (j : ℕ) → drop (min j (length nodes)) nodes ≡ drop j nodes
-  drop-end nodes j = elim (decLt j (length nodes)) [
-    | yes within ↦ let same : min j (length nodes) ≡ j = omega arith in ap (λ (k : ℕ). drop k nodes) same
-    | no past ↦
-        let all : length nodes ≤ min j (length nodes) = omega arith in
-        let beyond : length nodes ≤ j = omega arith in
-        lib.ListN.drop-of-length-le nodes all ∙ sym (lib.ListN.drop-of-length-le nodes beyond)
-  ]
-
   pub eight-step : (nodes : List ℕ) (i j : ℕ) (floats floats′ : List Float) → j ≡ min (i + 8) (length nodes) → floats′ ≡ scoredAt far (take 8 (drop i nodes)) floats
       → scoredAt far (drop j nodes) floats′ ≡ scoredAt far (drop i nodes) floats
   eight-step nodes i j floats floats′ l e =
       ap (λ (k : ℕ). scoredAt far (drop k nodes) floats′) l
-      ∙ ap (λ (xs : List ℕ). scoredAt far xs floats′) (drop-end nodes (i + 8))
+      ∙ ap (λ (xs : List ℕ). scoredAt far xs floats′) (drop-min (i + 8) nodes)
       ∙ ap (scoredAt far (drop (i + 8) nodes)) e
       ∙ sym (ap (λ (xs : List ℕ). scoredAt far xs floats) (sym (lib.ListN.take-append-drop 8 (drop i nodes)))
       ∙ scored-append (take 8 (drop i nodes)) (drop 8 (drop i nodes)) floats

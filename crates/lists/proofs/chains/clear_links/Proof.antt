@@ -2,24 +2,14 @@
 use native.Mathlib.Omega.{arith}
 use mathlib.Core.Path.{_≡_, ap, ap₂, _∙_}
 use mathlib.Core.List.{List, _++_}
-use Prim.Native.Nat.{ℕ, _-_, _*_, _≤_, min}
-use native.Mathlib.Decide.{decLe}
-use lib.ListN.{length, take, drop, replicate, drop-of-length-le}
-use lib.Seq.{length-take-le, drop-length}
+use Prim.Native.Nat.{ℕ, _-_, _*_, min}
+use lib.ListN.{length, take, drop, replicate}
+use lib.Seq.{length-take-le}
+use Rattle.basics.proofs.Members.{drop-min}
 use Rattle.lists.specs.Inside.Chains.{clearedLinks}
 use borrow.Author.Needs.{needs}
 use Rattle.lists.proofs.chains.clear_links.Statement.{statement}
 use Rattle.lists.proofs.chains.clear_links.Tie as tie
-
--- past the end there is nothing to keep
-drop-min : (k : ℕ) (l : List ℕ) → drop (min k (length l)) l ≡ drop k l
-drop-min k l = elim (decLe k (length l)) [
-  | yes h ↦ let e : min k (length l) ≡ k = omega arith in ap (λ (i : ℕ). drop i l) e
-  | no h ↦
-      let e : min k (length l) ≡ length l = omega arith in
-      let past : length l ≤ k = omega arith in
-      rw (e, drop-length l, drop-of-length-le l past)
-]
 
 cleared : (n end : ℕ) (links part : List ℕ) → end ≡ min (2 * n) (length links) → part ≡ replicate (length (take (end - 0) links)) 0
     → part ++ drop (end - 0) links ≡ clearedLinks n links
