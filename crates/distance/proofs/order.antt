@@ -1,2 +1,4 @@
+mod Examples
 pub mod Laws
 mod Sizes
+mod Turning

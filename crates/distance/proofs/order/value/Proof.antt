@@ -1,26 +1,22 @@
--- `order::value` meets its contract: its test chooses the pattern as `valueOf` does. Assumes nothing.
+-- `order::value` meets its contract: the arithmetic on the sign bit is the two cases of `valueOf` (`value-turned`). Assumes nothing.
 use borrow.Author.Needs.{needs}
-use mathlib.Core.Path.{sym, ap, _∙_}
-use borrow.Author.Tests.{le-leb, lt-leb}
+use mathlib.Core.Path.{ap, _∙_}
+use native.Mathlib.Omega.{arith}
 use lib.Ieee.{binary32, ofBits}
-use Rattle.basics.specs.Choice.{pick-true, pick-false}
 use Rattle.distance.specs.Order.{valueOf}
+use Rattle.distance.proofs.order.Turning.{value-turned}
 use Rattle.distance.proofs.order.value.Statement.{statement}
 use Rattle.distance.proofs.order.value.Tie as tie
 
+mul-f32-from : tie.Need-mul-f32-from
+mul-f32-from c = omega arith
+
+add-f32-from : tie.Need-add-f32-from
+add-f32-from c = omega arith
+
 returns : tie.Need-returns
 unfolding valueOf
-returns c = c .f32-from .ensures ∙ ap (ofBits binary32) (sym (pick-true _ _ (le-leb _ _ (c .before .if1 .taken))))
-
-returns-2 : tie.Need-returns-2
-unfolding valueOf
-returns-2 c = c .f32-from2 .ensures ∙ ap (ofBits binary32) (sym (pick-false _ _ (lt-leb _ _ (c .before .if1 .left))))
+returns c = c .f32-from .ensures ∙ ap (ofBits binary32) (value-turned binary32 (c .before .args .key) (omega arith))
 
 pub value-spec : {M : Type 1} → statement M
-value-spec =
-    tie.close
-    (tie.spec
-    -- f32_from
-    (λ c κs. search needs) returns
-    -- f32_from
-    (λ c. search needs) (λ c κs. search needs) returns-2)
+value-spec = tie.close (tie.spec (λ c. search needs) mul-f32-from add-f32-from (λ c κs. search needs) returns)
