@@ -10,12 +10,12 @@ use borrow.Author.Tests.{le-leb, lt-leb}
 use lib.Bits.{bitAnd, bitXor, xor-zero-r, xor-add-and, and-mask, xor-block}
 use lib.Dec.{T, leb}
 use lib.Pow.{pow-pos}
-use lib.Ieee.{Format, binary32, binary64, top, isNan, toBits, ofBits, nanBits}
-use lib.Ieee.Bits.{toBits-ofBits, nanBits-is}
+use lib.Ieee.{Float, Format, binary32, binary64, top, isNan, fits, toBits, ofBits, nanBits}
+use lib.Ieee.Bits.{toBits-lt, ofBits-fits, toBits-ofBits, nanBits-is, is-false}
 use Rattle.basics.specs.Choice.{pick, pick-true, pick-false}
 use Rattle.distance.specs.Order.{keyOf}
 
--- The bits b with the sign turned, whose weight is w, and all others too where s is 1 and not 0.
+-- The bits b with the sign turned, whose weight is w, and with all others turned where s is 1; s is 0 or 1.
 abbrev pub turned : ℕ → ℕ → ℕ → ℕ
 turned w s b = bitXor b (w + s * (w - 1))
 
@@ -38,23 +38,23 @@ sign-turned k s m b l e =
 sign-set : (k b : ℕ) → 2 ^ k ≤ b → b < 2 * 2 ^ k → b / 2 ^ k ≡ 1
 sign-set k b h l = div-eq-of-lt-le (2 ^ k) (omega arith) (omega arith)
 
+-- what is computed from the sign is one of two cases
+by-sign : (k b x y : ℕ) (s : ℕ → ℕ) → b < 2 * 2 ^ k → (2 ^ k ≤ b → turned (2 ^ k) (s 1) b ≡ x) → (b < 2 ^ k → turned (2 ^ k) (s 0) b ≡ y)
+    → turned (2 ^ k) (s (b / 2 ^ k)) b ≡ pick (leb (2 ^ k) b) x y
+by-sign k b x y s l set clear = elim (decLt b (2 ^ k)) [
+  | yes p ↦ ap (λ (q : ℕ). turned (2 ^ k) (s q) b) (div-eq-of-lt p) ∙ clear p ∙ sym (pick-false _ _ (lt-leb _ _ p))
+  | no p ↦ let h : 2 ^ k ≤ b = omega arith in ap (λ (q : ℕ). turned (2 ^ k) (s q) b) (sign-set k b h l) ∙ set h ∙ sym (pick-true _ _ (le-leb _ _ h))
+]
+
 -- a key from a pattern
 key-at : (k b : ℕ) → b < 2 * 2 ^ k → turned (2 ^ k) (b / 2 ^ k) b ≡ pick (leb (2 ^ k) b) (2 * 2 ^ k - 1 - b) (2 ^ k + b)
-key-at k b l = elim (decLt b (2 ^ k)) [
-  | yes p ↦ ap (λ (s : ℕ). turned (2 ^ k) s b) (div-eq-of-lt p) ∙ sign-turned k 0 b b p (omega arith) ∙ omega arith ∙ sym (pick-false _ _ (lt-leb _ _ p))
-  | no p ↦
-      let h : 2 ^ k ≤ b = omega arith in
-      ap (λ (s : ℕ). turned (2 ^ k) s b) (sign-set k b h l) ∙ all-turned k 1 (b - 2 ^ k) b (omega arith) (omega arith) ∙ omega arith ∙ sym (pick-true _ _ (le-leb _ _ h))
-]
+key-at k b l =
+    by-sign k b _ _ (λ q. q) l (λ h. all-turned k 1 (b - 2 ^ k) b (omega arith) (omega arith) ∙ omega arith) (λ h. sign-turned k 0 b b h (omega arith) ∙ omega arith)
 
 -- and a pattern from a key
 value-at : (k b : ℕ) → b < 2 * 2 ^ k → turned (2 ^ k) (1 - b / 2 ^ k) b ≡ pick (leb (2 ^ k) b) (b - 2 ^ k) (2 * 2 ^ k - 1 - b)
-value-at k b l = elim (decLt b (2 ^ k)) [
-  | yes p ↦ ap (λ (s : ℕ). turned (2 ^ k) (1 - s) b) (div-eq-of-lt p) ∙ all-turned k 0 b b p (omega arith) ∙ omega arith ∙ sym (pick-false _ _ (lt-leb _ _ p))
-  | no p ↦
-      let h : 2 ^ k ≤ b = omega arith in
-      ap (λ (s : ℕ). turned (2 ^ k) (1 - s) b) (sign-set k b h l) ∙ sign-turned k 1 (b - 2 ^ k) b (omega arith) (omega arith) ∙ omega arith ∙ sym (pick-true _ _ (le-leb _ _ h))
-]
+value-at k b l =
+    by-sign k b _ _ (λ q. 1 - q) l (λ h. sign-turned k 1 (b - 2 ^ k) b (omega arith) (omega arith) ∙ omega arith) (λ h. all-turned k 0 b b h (omega arith) ∙ omega arith)
 
 -- ---- for every format: what is computed is the two cases
 
@@ -66,7 +66,13 @@ pub value-turned : (f : Format) (k : ℕ) → k < 2 * top f → turned (top f) (
 value-turned binary32 k l = value-at 31 k l
 value-turned binary64 k l = value-at 63 k l
 
--- The key of every pattern: the last one where it is a NaN's, of either sign.
+-- ---- the key of every value
+
+pub number-key : (f : Format) (x : Float) → T (fits f x) → T (not (isNan x)) → keyOf f x ≡ turned (top f) (toBits f x / top f) (toBits f x)
+unfolding keyOf
+number-key f x h t = pick-false _ _ (is-false (isNan x) t) ∙ sym (key-turned f (toBits f x) (toBits-lt f x h))
+
+-- and of every pattern: the last key where it is a NaN's, of either sign
 pub pattern-key : (f : Format) (b : ℕ) → b < 2 * top f → keyOf f (ofBits f b) ≡ pick (nanBits f b) (2 * top f - 1) (turned (top f) (b / top f) b)
 unfolding keyOf
 pattern-key f b l = either (isNan (ofBits f b)) refl
@@ -74,7 +80,7 @@ pattern-key f b l = either (isNan (ofBits f b)) refl
     either : (t : Bool) → isNan (ofBits f b) ≡ t → keyOf f (ofBits f b) ≡ pick (nanBits f b) (2 * top f - 1) (turned (top f) (b / top f) b)
     either true e = pick-true _ _ e ∙ sym (pick-true _ _ (nanBits-is f b ∙ e))
     either false e =
-        pick-false _ _ e
-        ∙ ap (λ (n : ℕ). pick (leb (top f) n) (2 * top f - 1 - n) (top f + n)) (toBits-ofBits f b l (subst (λ (t : Bool). T (not t)) (sym e) tt))
-        ∙ sym (key-turned f b l)
+        let number = subst (λ (t : Bool). T (not t)) (sym e) tt in
+        number-key f (ofBits f b) (ofBits-fits f b) number
+        ∙ ap (λ (n : ℕ). turned (top f) (n / top f) n) (toBits-ofBits f b l number)
         ∙ sym (pick-false _ _ (nanBits-is f b ∙ e))

@@ -8,15 +8,9 @@ use Rattle.distance.proofs.order.Turning.{value-turned}
 use Rattle.distance.proofs.order.value.Statement.{statement}
 use Rattle.distance.proofs.order.value.Tie as tie
 
-mul-f32-from : tie.Need-mul-f32-from
-mul-f32-from c = omega arith
-
-add-f32-from : tie.Need-add-f32-from
-add-f32-from c = omega arith
-
 returns : tie.Need-returns
 unfolding valueOf
 returns c = c .f32-from .ensures ∙ ap (ofBits binary32) (value-turned binary32 (c .before .args .key) (omega arith))
 
 pub value-spec : {M : Type 1} → statement M
-value-spec = tie.close (tie.spec (λ c. search needs) mul-f32-from add-f32-from (λ c κs. search needs) returns)
+value-spec = tie.close (tie.spec (λ c. search needs) (λ c. omega arith) (λ c. omega arith) (λ c κs. search needs) returns)
