@@ -16,3 +16,4 @@
 // proofs/Members     membership in a part of a list
 // proofs/Rows        rows stay bounded where one is replaced
 // proofs/Examples    a node's list that computes
+#![tactic(auto)]

@@ -12,6 +12,8 @@
 // node; what it held before has no effect. Before the walk goes on from the entry node, bridges, where there
 // are any, are linked (`lists::chains`) in a local array of 16 KB, so that an expansion looks at its node's own
 // bridges alone.
+#![tactic(auto)]
+
 ghost use Rattle.std.specs.Prelude.{◌≡◌, ◌&&◌, ◌||◌, ◌*◌, ◌/◌, ◌≤◌, min, leb, ltb, length, take};
 ghost use Rattle.std.specs.Float.{binary32};
 ghost use Rattle.std.specs.Float.Ieee.{mul, lt};
@@ -31,7 +33,7 @@ use words::slices;
 
 // The numbers of a walk: how many nodes there are, how many entries a row can have, how many components a
 // vector has, where the walk starts, how many nodes it keeps, and when it stops.
-#[derive(Drop)]
+#[derive(Clone, Copy)]
 pub struct Sizes {
     pub n: usize,
     pub degree: u16,
@@ -42,13 +44,13 @@ pub struct Sizes {
 }
 
 // How many nodes the answer has, and how many were scored.
-#[derive(Drop)]
+#[derive(Clone, Copy)]
 pub struct Walked {
     pub count: u32,
     pub scored: u32,
 }
 
-#[derive(Drop)]
+#[derive(Clone, Copy)]
 struct Went {
     walk: Walk,
     done: bool,

@@ -16,6 +16,8 @@
 // slice that the caller wants them in, nearest first: `keep_first` keeps the first of what it is offered, as
 // many as that slice has room for, so that nothing is sorted at the end. Counts and the cutoff are a struct by
 // value.
+#![tactic(auto)]
+
 pub mod queues;
 pub mod tournament;
 
@@ -37,7 +39,7 @@ pub const WORDS: usize = 11;
 
 // How many nodes are scored (those seen that are live), how many are held for the cutoff, the cutoff, and how many
 // are in the answer.
-#[derive(Drop)]
+#[derive(Clone, Copy)]
 pub struct Walk {
     pub scored: u32,
     pub held: u32,

@@ -24,14 +24,14 @@ use words::ids::Node;
 const NOTHING: u32 = 0xffff_ffff;
 
 // The nearest node of the frontier with its distance, or nothing where the frontier is empty.
-#[derive(Drop)]
+#[derive(Clone, Copy)]
 pub enum Popped {
     At(f32, Node),
     Empty,
 }
 
 // How many nodes are held, and the cutoff.
-#[derive(Drop)]
+#[derive(Clone, Copy)]
 pub struct Closest {
     pub held: u32,
     pub cutoff: f32,

@@ -17,7 +17,7 @@ use words::slices;
 
 const NOTHING: u32 = 0xffff_ffff;
 
-#[derive(Drop)]
+#[derive(Clone, Copy)]
 pub struct Pair {
     pub key: u32,
     pub id: u32,

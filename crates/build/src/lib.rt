@@ -11,6 +11,8 @@
 //   leaf lists      floats   from 0         16·n  eight distances for each place of a leaf
 //   entry node      floats   from 0    dimension  the centroid
 //   repair          words    from 0          4·n  links (crate chains): n heads, n tails, 2·n slots
+#![tactic(auto)]
+
 ghost use Rattle.std.specs.Prelude.{◌≡◌, ◌+◌, ◌≤◌, length, set};
 ghost use Rattle.basics.specs.Refusals.{first_refusal};
 ghost use Rattle.distance.specs.Vectors.{vectors_in};

@@ -9,6 +9,8 @@
 // specs/Inside/Built  what the functions leave of the rows
 // proofs/Rows         one row, one position, eight positions, a leaf
 // proofs/Leaves       leaf after leaf
+#![tactic(auto)]
+
 pub mod leaf_candidates;
 pub mod leaf_distances;
 
@@ -21,7 +23,7 @@ use words::ids::Node;
 use words::slices;
 
 // What leaf lists take from an index and its parameters.
-#[derive(Drop)]
+#[derive(Clone, Copy)]
 pub struct LeafParams {
     pub dimension: u32,
     pub degree: u16,

@@ -8,6 +8,8 @@
 // are nested once for each level, 21 times at most. The arrays that dealing works in are made once, above
 // all levels, and passed down as slices: a level's own frame is small (bindings/stack adds them up). It
 // uses `dealing` for one level and `leaders` for the first segment.
+#![tactic(auto)]
+
 ghost use Rattle.std.specs.Prelude.{◌≡◌, ◌*◌, ◌≤◌, length};
 ghost use Rattle.distance.specs.Vectors.{vectors_in};
 ghost use Rattle.dealing.specs.Inside.Deal.{Holding, buckets_for};

@@ -7,6 +7,8 @@
 // buckets stand in the two slices. It works in two slices of scratch that the caller passes, so that no
 // large array stands in its frame. It uses `leaders` for the draws, on `vectors`, `distance` and `order` for
 // how near a leader is, on `sorting` for the nearest.
+#![tactic(auto)]
+
 ghost use Rattle.std.specs.Prelude.{◌≡◌, ℕ, ◌+◌, ◌≤◌, eqb, length, get_or, take, drop, set};
 ghost use mathlib.Core.List.{map, flatten, ◌++◌};
 ghost use Rattle.basics.specs.Choice.{pick};
@@ -35,7 +37,7 @@ pub fn fan_of(level: u32) -> u32
 }
 
 // What dealing takes from an index and its parameters.
-#[derive(Drop)]
+#[derive(Clone, Copy)]
 pub struct DealParams {
     pub dimension: u32,
     pub min_leaf: u32,
@@ -267,7 +269,7 @@ fn place(bucket: &[u32], nodes: &mut [u32], marks: &mut [u32], at: usize)
 }
 
 // How many nodes are placed, and how many have gathered.
-#[derive(Drop)]
+#[derive(Clone, Copy)]
 struct Held {
     at: usize,
     held: usize,

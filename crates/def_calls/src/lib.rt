@@ -13,3 +13,4 @@
 // proofs/Laid      words laid over others: what stays before and behind them
 // proofs/Views     the view after an accepted build
 // proofs/Examples  the worked example, from `new` to the answers
+#![tactic(auto)]

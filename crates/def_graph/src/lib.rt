@@ -33,3 +33,4 @@
 // proofs/*/Examples         leaves and graphs that compute: the worked example, and others whose outcome is the Rust's
 //
 // It uses `random` for the streams, and `sorting` and `distance` for the nearest.
+#![tactic(auto)]

@@ -33,10 +33,11 @@
 //                           many it returns, in which order, and what it cannot leave out; where all nodes are live,
 //                           all that is seen is scored
 // proofs/*/Examples         walks and repairs that compute: the worked example, and others that agree with the Rust
+#![tactic(auto)]
 
 // The two stop numbers of a walk. Once b nodes are held it ends before a node that lies farther than the cutoff
 // times the factor; and it ends after more than the multiplier times b nodes are scored.
-#[derive(Drop)]
+#[derive(Clone, Copy)]
 pub struct Stops {
     pub factor: f32,
     pub multiplier: u32,

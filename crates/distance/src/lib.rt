@@ -3,6 +3,8 @@
 // 1 − dot, and infinity where the lengths differ: equal to `distance_of` of specs/Distance for slices
 // of any length and floats of any kind. `cosine_distance_normalized8` takes eight rows at once and
 // `cosine_distance_normalized_block` the eight rows of a block, with the bits of eight single distances.
+#![tactic(auto)]
+
 pub mod order;
 pub mod vectors;
 

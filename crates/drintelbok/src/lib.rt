@@ -9,6 +9,8 @@
 // It promises, for each call, the equation of the call behind it: number, stores and outputs, refusals
 // included. What C adds has a definition in specs/: `new_from` (final_prune is a number), the structs
 // returned (specs/Given), and sizes of 0 for what `pipnn_new` refuses (specs/Sizes).
+#![tactic(auto)]
+
 ghost use Rattle.std.specs.Prelude.{◌≡◌, length};
 ghost use Rattle.pipnn.specs.Add.{add_spec};
 ghost use Rattle.def_calls.specs.Build.{build_spec};
@@ -27,7 +29,7 @@ use words::ids::DocId;
 // What a search returns besides its two outputs: 0 or the number of a refusal, how many nodes are in the
 // outputs, how many were scored.
 #[repr(C)]
-#[derive(Drop)]
+#[derive(Clone, Copy)]
 pub struct PipnnFound {
     pub number: u32,
     pub count: u32,
@@ -37,7 +39,7 @@ pub struct PipnnFound {
 // What recognising returns: 0 or the number of a refusal; 1 for Known and 0 for New; the doc id, 0 for New;
 // the score. After a refusal all but the number are 0.
 #[repr(C)]
-#[derive(Drop)]
+#[derive(Clone, Copy)]
 pub struct PipnnRecognised {
     pub number: u32,
     pub known: u32,
@@ -47,7 +49,7 @@ pub struct PipnnRecognised {
 
 // What the household count returns: 0 or the number of a refusal, how many different phones.
 #[repr(C)]
-#[derive(Drop)]
+#[derive(Clone, Copy)]
 pub struct PipnnHousehold {
     pub number: u32,
     pub phones: u32,

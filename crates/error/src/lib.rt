@@ -2,6 +2,7 @@
 // one of these. Each number stands here once for the code and once in specs/Numbers for the definitions; the contracts
 // of the calls say that the two agree. include/pipnn.h and the Rust crate have the same names, and
 // bindings/declarations.py compares all four.
+#![tactic(auto)]
 
 // The dimension is not 1 to 64.
 pub const DIMENSION_OUT_OF_RANGE: u32 = 1;

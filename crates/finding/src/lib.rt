@@ -12,6 +12,8 @@
 // they are, and what scratch held before has no effect.
 //
 // It uses `store` for the layout, `norm` for scaling, and `beam_search` for the walk, which it calls in one place.
+#![tactic(auto)]
+
 ghost use Rattle.std.specs.Prelude.{◌≡◌, true, map, ◌++◌, ℕ, ◌≤◌, min, max, length, take, drop};
 ghost use Rattle.std.specs.Float.{binary32};
 ghost use Rattle.norm.specs.Norm.{scaled_of};
@@ -30,7 +32,7 @@ use words::slices;
 
 // Where the parts of a built store stand that a walk reads, how many nodes an answer can have, and the numbers of
 // the store's header that a walk needs.
-#[derive(Drop)]
+#[derive(Clone, Copy)]
 struct Parts {
     rows_from: usize,
     rows_to: usize,

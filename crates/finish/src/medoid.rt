@@ -56,7 +56,7 @@ fn mean(vectors: &[f32], n: usize, out: &mut [f32])
 }
 
 // The nearest row so far, and how far it is.
-#[derive(Drop)]
+#[derive(Clone, Copy)]
 struct Best {
     node: u32,
     distance: f32,

@@ -29,7 +29,7 @@ fn sizes_at(tokens: &[u64]) -> usize {
 
 // How far the recorded leaves were compared: the next token of the answer, the next node and the next leaf
 // that were found, and whether all were the same.
-#[derive(Drop)]
+#[derive(Clone, Copy)]
 struct Compared {
     token: usize,
     node: usize,
@@ -139,7 +139,7 @@ fn sum_leaves(words: &[u32], sizes: usize, count: usize) -> u64 {
 }
 
 // What came of a line of leaves that are recorded by their checksum.
-#[derive(Drop)]
+#[derive(Clone, Copy)]
 pub enum Outcome {
     Same,
     Differs,

@@ -5,6 +5,8 @@
 // the answer by this project's calls and says whether it is the recorded one. The tokens are those of the
 // line and no more, so that an answer can be compared to its end. All are proved safe on lines and stores
 // of any content, and nothing more.
+#![tactic(auto)]
+
 pub mod leaf_histories;
 
 ghost use Rattle.std.specs.Prelude.{◌≡◌, length};

@@ -16,7 +16,7 @@ use lists::{Shape, chains};
 use words::ids::Node;
 
 // The nearest node so far, and how far it is.
-#[derive(Drop)]
+#[derive(Clone, Copy)]
 pub struct Nearest {
     pub node: Node,
     pub distance: f32,

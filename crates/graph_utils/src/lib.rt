@@ -9,6 +9,8 @@
 // specs/Inside/Connectivity  what it leaves behind
 // specs/Inside/Turns         the turns on words
 // proofs/Refining            they are the definition's turns
+#![tactic(auto)]
+
 pub mod candidates;
 pub mod marking;
 

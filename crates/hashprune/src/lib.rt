@@ -10,6 +10,8 @@
 // `hashprune_insert` is total. That its row is `merged .. (selected ..)` of `def_graph` holds where the
 // caller prepared what `Turn` of specs/Inside/Hashprune says, planes among it. specs/Inside/Steps has what the steps say of
 // each other.
+#![tactic(auto)]
+
 ghost use Rattle.std.specs.Prelude.{◌≡◌, map, ◌+◌, ◌-◌, ◌≤◌, ◌<◌, ◌&&◌, ltb, eqb, length, get_or, set, take, drop};
 ghost use Rattle.std.specs.Float.{binary32};
 ghost use Rattle.distance.specs.Order.{key_of};
@@ -29,7 +31,7 @@ use words::slices;
 
 // The node whose turn it is, and what the index has for it: how long its vectors and how many its hash bits
 // are.
-#[derive(Drop)]
+#[derive(Clone, Copy)]
 pub struct Point {
     pub node: Node,
     pub dimension: u32,

@@ -7,6 +7,8 @@
 // below is for one kind of line, which is shown above it; those whose names end in `_is_same` compute the
 // answer by this project's calls and say whether it is the recorded one. All are proved safe on lines and
 // stores of any content, and nothing more.
+#![tactic(auto)]
+
 ghost use Rattle.std.specs.Prelude.{◌≡◌, length};
 
 use params::PipnnParams;
@@ -17,7 +19,7 @@ use words::{bits, slices};
 // What a history has come to, besides the content of its stores: how many words and floats they have, and
 // how many of them are passed in. A float keeps no pattern of a NaN, so the last one that a line set is kept
 // here, with its place.
-#[derive(Drop)]
+#[derive(Clone, Copy)]
 pub struct History {
     pub words: usize,
     pub floats: usize,

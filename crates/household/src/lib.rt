@@ -5,6 +5,8 @@
 // that takes a comparison for each two of at most 512, without a branch, and no memory of the caller's.
 // `household_count` equals `household_of` of specs/Household, for lists of any length; that this is the
 // number of different doc ids is `counts_each_once` of proofs/Laws.
+#![tactic(auto)]
+
 ghost use Rattle.std.specs.Prelude.{◌≡◌, ◌≤◌, length, take};
 ghost use Rattle.basics.specs.Nodes.{has};
 ghost use Rattle.household.specs.Day.{day_of};
@@ -14,7 +16,7 @@ ghost use Rattle.household.specs.Household.{docs_on, different, household_values
 pub const MOST_SIGHTINGS: usize = 512;
 
 // What the count answers: the number of a refusal, or how many phones.
-#[derive(Drop)]
+#[derive(Clone, Copy)]
 pub enum Household {
     Refused(u32),
     Phones(u32),

@@ -6,6 +6,8 @@
 // one more than the count takes, so that too many are refused and not cut.
 //
 // Everything here is proved safe on every text, and nothing more; `household` has the count.
+#![tactic(auto)]
+
 ghost use Rattle.std.specs.Prelude.{◌≤◌};
 
 use household::Household;
@@ -13,7 +15,7 @@ use libc::{STDIN_FILENO, STDOUT_FILENO};
 use words::ids::DocId;
 
 // A decimal number that was read and where it ends, or that there is none that fits 64 bits.
-#[derive(Drop)]
+#[derive(Clone, Copy)]
 pub enum Number {
     Read(u64, usize),
     Missing,
@@ -54,7 +56,7 @@ fn digit_of(b: u8) -> u64
     }
 }
 
-#[derive(Drop)]
+#[derive(Clone, Copy)]
 pub enum Line {
     Sighting(u64, DocId),
     Other,
@@ -84,7 +86,7 @@ fn line_of(text: &[u8]) -> Line {
 }
 
 // How many sightings and how many other lines there were.
-#[derive(Drop)]
+#[derive(Clone, Copy)]
 pub struct Tally {
     pub sightings: usize,
     pub others: u64,

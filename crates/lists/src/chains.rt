@@ -76,7 +76,7 @@ pub fn other_end(bridges: &[u32], link: u32) -> Node
 }
 
 // Where a reader of a node's list is: at an index of its row and, past the row, at a link.
-#[derive(Drop)]
+#[derive(Clone, Copy)]
 pub struct Cursor {
     pub index: usize,
     pub link: u32,

@@ -16,6 +16,8 @@
 // specs/Inside/Words  a block of words, the rows and bridges that words stand for, the words a build makes of rows
 // proofs/Reading      a word of a block, and a row, from its block
 // proofs/Blocks       rows as a build leaves them: how long, what is read back, one row replaced
+#![tactic(auto)]
+
 pub mod chains;
 
 ghost use Rattle.std.specs.Prelude.{◌≡◌, [], get_or};
@@ -25,7 +27,7 @@ ghost use Rattle.lists.specs.Inside.Words.{block_at, row_lists};
 use words::ids::Node;
 
 // The sizes of an index: n nodes, rows with room for `degree` entries, vectors of `dimension` floats.
-#[derive(Drop)]
+#[derive(Clone, Copy)]
 pub struct Shape {
     pub n: u32,
     pub degree: u16,
@@ -33,7 +35,7 @@ pub struct Shape {
 }
 
 // Blocks of `stride` words each, one after the other: rows, or bridges.
-#[derive(Drop)]
+#[derive(Clone, Copy)]
 pub struct ListView<'a> {
     pub words: &'a [u32],
     pub stride: u32,

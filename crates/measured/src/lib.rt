@@ -1,5 +1,7 @@
 // Distances and roots behind C, for bench/ alone: a loop over rows inside the library, so that a call from
 // outside is paid for once for many rows. Proved safe; the crates that they call say what they compute.
+#![tactic(auto)]
+
 pub mod measured_stores;
 
 ghost use Rattle.std.specs.Prelude.{◌+◌, ◌*◌, ◌≤◌, length};

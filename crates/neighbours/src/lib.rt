@@ -2,5 +2,7 @@
 //
 // gathering  the fresh nodes of a list: marked, and put in order
 // scoring    their distances to the query, eight at a time
+#![tactic(auto)]
+
 pub mod gathering;
 pub mod scoring;

@@ -3,6 +3,8 @@
 //
 // The squares have a sum of their own, apart from the sum of distances. Both functions are equal to
 // their definitions in specs/Norm for slices of any length and floats of any kind.
+#![tactic(auto)]
+
 pub mod root;
 
 ghost use Rattle.std.specs.Prelude.{◌≡◌, map, Float};

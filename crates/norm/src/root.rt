@@ -41,7 +41,7 @@ fn root_bits(b: u32) -> u32
     (((k + 1) / 2 + 51) * 0x80_0000 + m) as u32
 }
 
-#[derive(Drop)]
+#[derive(Clone, Copy)]
 struct Scaled {
     q: u64,
     k: u64,

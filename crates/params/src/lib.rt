@@ -6,6 +6,8 @@
 //
 // It promises: each test is total and says exactly whether the value is within its limits, both ends
 // included. It uses `finite` for alpha.
+#![tactic(auto)]
+
 pub mod finite;
 
 ghost use Rattle.std.specs.Prelude.{◌≡◌};
@@ -26,7 +28,7 @@ pub const MOST_HASH_BITS: u32 = 16;
 
 pub const MOST_EF: u32 = 1024;
 
-#[derive(Drop)]
+#[derive(Clone, Copy)]
 pub struct PipnnParams {
     pub max_leaf_size: u32,
     pub min_leaf_size: u32,

@@ -7,6 +7,8 @@
 //
 // It uses `store` for the layout and the checks that calls begin with, `params` for the limits, and `norm`
 // for scaling.
+#![tactic(auto)]
+
 ghost use Rattle.std.specs.Prelude.{◌≡◌, true, ◌++◌, ◌+◌, ◌≤◌, length, take, drop};
 ghost use Rattle.std.specs.Float.{binary32};
 ghost use Rattle.basics.specs.Refusals.{first_refusal};

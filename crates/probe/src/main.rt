@@ -5,6 +5,8 @@
 // bytes ends the reading, as a line that cannot be read does.
 //
 // Everything here is proved safe on every input, and nothing more; `probe_lines` has what a line means.
+#![tactic(auto)]
+
 ghost use Rattle.std.specs.Prelude.{◌≡◌, length};
 
 use libc::{STDIN_FILENO, STDOUT_FILENO};
@@ -12,7 +14,7 @@ use probe_lines::{Printed, State};
 
 // What lines have come to: the state, whether one of them ended the reading, and where the first line starts
 // that is not whole yet.
-#[derive(Drop)]
+#[derive(Clone, Copy)]
 struct Reached {
     state: State,
     ended: bool,

@@ -8,6 +8,8 @@
 //
 // Everything here is proved safe on every line, state and store, and nothing more: what is printed is
 // compared with recorded runs. It uses `pipnn`, `build` and `search` for the calls.
+#![tactic(auto)]
+
 use params::PipnnParams;
 use probe_text::{CAP, HEADERS, Read};
 use search::Found;
@@ -30,7 +32,7 @@ pub const OUT_SIZE: usize = 4096;
 const MOST_COMPONENTS: usize = 65;
 
 // What stands between two lines: how many header lines there were, and their values.
-#[derive(Drop)]
+#[derive(Clone, Copy)]
 pub struct State {
     pub headers: usize,
     pub values: [u64; 10],
@@ -44,14 +46,14 @@ pub fn start() -> State {
 }
 
 // What came of a line: it ends the reading, or reading goes on and this many bytes are printed.
-#[derive(Drop)]
+#[derive(Clone, Copy)]
 pub enum Printed {
     Ends,
     Bytes(usize),
 }
 
 // That, and the state for the next line.
-#[derive(Drop)]
+#[derive(Clone, Copy)]
 pub struct Told {
     pub state: State,
     pub printed: Printed,

@@ -6,6 +6,8 @@
 //
 // Everything here is proved safe on every line and buffer, and nothing more: what is printed is compared with
 // recorded runs. It uses `replay` and `io` for digits, and `bits` for floats.
+#![tactic(auto)]
+
 ghost use Rattle.std.specs.Prelude.{◌+◌};
 ghost use Rattle.probe_text.specs.Inside.Places.{EndsFrom};
 
@@ -22,7 +24,7 @@ const ALPHA: usize = 7;
 pub const CAP: usize = 9;
 
 // What a line is. Components stand beside it, `count` of them.
-#[derive(Drop)]
+#[derive(Clone, Copy)]
 pub enum Read {
     Header { key: usize, value: u64 },
     Add { doc: DocId, count: usize },
@@ -32,14 +34,14 @@ pub enum Read {
 }
 
 // A number that was read and where it ends, or that none can be read there.
-#[derive(Drop)]
+#[derive(Clone, Copy)]
 pub enum Number {
     Value(u64, usize),
     Missing,
 }
 
 // How many components were kept, or that something else stands among them.
-#[derive(Drop)]
+#[derive(Clone, Copy)]
 pub enum Components {
     Kept(usize),
     Missing,

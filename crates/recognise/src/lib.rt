@@ -12,6 +12,8 @@
 // for the three phones of the worked example.
 //
 // It uses `search` for the checks and the walk, and `score` for the answer at a distance.
+#![tactic(auto)]
+
 pub mod score;
 
 ghost use Rattle.std.specs.Prelude.{◌≡◌, length};

@@ -46,7 +46,7 @@ fn score_bits(b: u32) -> u32
 
 // What recognising a phone answers: the doc id of the phone that it is, or that it is none of those
 // stored, either with the score of the nearest one's distance; or the number of a refusal.
-#[derive(Drop)]
+#[derive(Clone, Copy)]
 pub enum Recognised {
     Known(DocId, u32),
     New(u32),

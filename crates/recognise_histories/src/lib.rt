@@ -5,6 +5,8 @@
 // one kind of line, which is shown above it: it computes the answer by this project's calls and says whether
 // it is the recorded one, to its end. All are proved safe on lines and stores of any content, and nothing
 // more.
+#![tactic(auto)]
+
 use histories::History;
 use household::Household;
 use recognise::score;

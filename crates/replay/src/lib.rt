@@ -3,6 +3,8 @@
 //
 // Everything here is proved safe on every text, and nothing more: what a replay prints is compared with
 // what it should print. A token that is missing counts as 0.
+#![tactic(auto)]
+
 ghost use Rattle.std.specs.Prelude.{◌≡◌, ◌+◌, ◌-◌, ◌<◌, ◌≤◌, length, take};
 ghost use Rattle.replay.specs.Inside.Bounds.{Advanced};
 
@@ -12,7 +14,7 @@ use words::{bits, slices};
 
 // A line that was read: how many tokens it has, of which the first `asked` are the question, whether its
 // end was seen, and where the next line starts.
-#[derive(Drop)]
+#[derive(Clone, Copy)]
 pub struct Line {
     pub asked: usize,
     pub count: usize,
@@ -32,7 +34,7 @@ pub fn digit(b: u8) -> u64
 }
 
 // Where a byte of a line stands: in the kind, between two tokens, or in one.
-#[derive(Drop)]
+#[derive(Clone, Copy)]
 pub enum Place {
     Kind,
     Between,

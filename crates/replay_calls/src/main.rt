@@ -4,6 +4,8 @@
 //
 // It takes all of standard input and prints for each kind of line how many cases there were and how many
 // differ. Everything here is proved safe on every text, and nothing more.
+#![tactic(auto)]
+
 ghost use Rattle.std.specs.Prelude.{◌≡◌, length};
 
 use graph_histories::leaf_histories;
@@ -142,7 +144,7 @@ fn replay_line(
 }
 
 // Where the first line starts that is not replayed yet, and what the history has come to.
-#[derive(Drop)]
+#[derive(Clone, Copy)]
 struct Reached {
     at: usize,
     history: History,

@@ -1,6 +1,8 @@
 // Replays the recorded answers on numbers (recorded/numbers.txt): each case is computed by this project's
 // functions and compared with the oracle's answer, bit for bit. Prints for each kind how many cases there
 // were and how many differ.
+#![tactic(auto)]
+
 mod plane_stream;
 
 ghost use Rattle.std.specs.Prelude.{◌≡◌, ◌≤◌, length};

@@ -1,5 +1,7 @@
 // Replays the recorded runs of the program probe (recorded/README.md, "probe/"), and prints how many there were
 // and how many differ.
+#![tactic(auto)]
+
 mod probe_runs;
 
 ghost use Rattle.std.specs.Prelude.{◌≡◌, length};

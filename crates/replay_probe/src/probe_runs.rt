@@ -10,7 +10,7 @@ use probe_lines::{Printed, State};
 
 // What a line has come to: the state for the next, how much of the output is printed, whether the line ended
 // the reading, and whether it printed what comes next in the output.
-#[derive(Drop)]
+#[derive(Clone, Copy)]
 struct Taken {
     state: State,
     seen: usize,
@@ -98,7 +98,7 @@ pub fn run_is_same(input: &[u8], output: &[u8]) -> bool {
 }
 
 // Where the next run starts, and whether this one is as recorded.
-#[derive(Drop)]
+#[derive(Clone, Copy)]
 struct Run {
     next: usize,
     same: bool,
@@ -134,7 +134,7 @@ fn run_at(text: &[u8], at: usize, tokens: &mut [u64]) -> Run
 }
 
 // How many runs there were, and how many differ.
-#[derive(Drop)]
+#[derive(Clone, Copy)]
 pub struct Tally {
     pub runs: u64,
     pub differ: u64,

@@ -1,6 +1,8 @@
 // Replays the recorded answers on the order of distances (recorded/README.md, sorting): all of them sorted,
 // and the first few, each compared with the oracle's indexes. Prints for each kind how many cases there
 // were and how many differ.
+#![tactic(auto)]
+
 ghost use Rattle.std.specs.Prelude.{◌≡◌, length};
 
 use distance::order;

@@ -10,6 +10,8 @@
 // before has no effect.
 //
 // It uses `store` for the checks that calls begin with, and `finding` for the walk over a checked store.
+#![tactic(auto)]
+
 ghost use Rattle.std.specs.Prelude.{◌≡◌, length};
 ghost use Rattle.basics.specs.Refusals.{first_refusal};
 ghost use Rattle.def_calls.specs.Search.{search_checks, search_with_ef_spec, search_spec};
@@ -20,7 +22,7 @@ use store::Lent;
 
 // What a search returns besides its two outputs: 0 or the number of a refusal, how many nodes are in the
 // outputs, how many were scored.
-#[derive(Drop)]
+#[derive(Clone, Copy)]
 pub struct Found {
     pub number: u32,
     pub count: u32,

@@ -6,6 +6,8 @@
 // in which each component's eight numbers are adjacent, and so loads and multiplies whole vectors. All are
 // equal to `dot_of` of specs/Dot for slices of any length and floats of any kind; where two lengths differ,
 // the sum ends with the shorter one.
+#![tactic(auto)]
+
 ghost use Rattle.std.specs.Prelude.{◌≡◌, ◌+◌, ◌/◌, ◌≤◌, length};
 ghost use Rattle.std.specs.Float.{binary32};
 ghost use Rattle.simd.specs.Dot.{dot_of};
@@ -36,7 +38,7 @@ fn dot_within(a: &[f32], b: &[f32]) -> f32
 }
 
 // One number for each of eight rows.
-#[derive(Drop)]
+#[derive(Clone, Copy)]
 pub struct Eight {
     pub a: f32,
     pub b: f32,

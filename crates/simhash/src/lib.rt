@@ -5,6 +5,8 @@
 // in which each component's eight numbers are adjacent: the bits are those of eight single sums. The sums
 // are the hash's own, and not those of distances: the order of either may change alone. Every function is
 // total and equal to its definition for slices of any length and floats of any kind.
+#![tactic(auto)]
+
 ghost use Rattle.std.specs.Prelude.{◌≡◌, ◌+◌, ◌*◌, ◌/◌, ◌%◌, ◌^◌, ◌≤◌, min, length};
 ghost use Rattle.std.specs.Float.{binary32};
 ghost use Rattle.def_graph.specs.Simhash.{residual};

@@ -10,6 +10,8 @@
 // tests without a branch for each word, since it happens at every call.
 //
 // It uses `params` for the limits, `bits` for the two floats of the header and `finite` for the vectors.
+#![tactic(auto)]
+
 ghost use Rattle.std.specs.Prelude.{◌≡◌, true, ◌+◌, ◌*◌, ◌≤◌, length, drop, set};
 ghost use Rattle.basics.specs.Refusals.{first_refusal};
 ghost use Rattle.basics.specs.Lists.{every, pieces};
@@ -339,7 +341,7 @@ pub fn store_short(
 }
 
 // What a call is passed besides the two stores: nothing, or scratch, by its numbers of words and floats.
-#[derive(Drop)]
+#[derive(Clone, Copy)]
 pub enum Lent {
     Nothing,
     Scratch { words: usize, floats: usize },

@@ -45,3 +45,4 @@
 // proofs/footprint/Stores       stores that agree up to their sizes are opened and read in the same way
 // proofs/footprint/Written      and so is what a call writes into them
 // proofs/footprint/Footprint    the theorem `footprint`
+#![tactic(auto)]
