@@ -1,0 +1,40 @@
+-- `slices::clear_floats` meets its contract: so far the first i are zero, and the rest is what it was. Assumes nothing.
+use mathlib.Core.Path.{◌≡◌, refl, ap, ◌∙◌}
+use Prim.Native.Nat.{◌-◌, ◌≤◌}
+use native.Mathlib.Omega.{arith}
+use lib.ListN.{length}
+use lib.Ieee.{of_bits}
+use Rattle.basics.specs.Sum.{+zero}
+use Rattle.words.proofs.slices.Laws.{filled, filled_more, filled_length, filled_end}
+use Rattle.words.proofs.slices.clear_floats.Goals as goal
+use Rattle.words.proofs.slices.clear_floats.Goals.{At-loop-i}
+
+kept : (c : At-loop-i) → length c.loop-i.s ≡ length c.args.s.now
+kept c = ap length c.loop-i.invariant.1 ∙ filled_length +zero c.args.s.now c.loop-i.i c.loop-i.invariant.0
+
+pub loop-i-preserved : goal.loop-i-preserved
+unfolding of_bits
+loop-i-preserved c =
+    let n = kept c.before in
+    (omega arith, rw c.loop-i.invariant.1 (filled_more +zero c.args.s.now c.loop-i.i (omega arith)))
+
+pub returns : goal.returns
+returns c = let n = kept c.before in c.loop-i.invariant.1 ∙ filled_end +zero c.args.s.now c.loop-i.i (omega arith)
+
+pub loop-i-init : goal.loop-i-init
+loop-i-init c = (omega arith, refl)
+
+pub offset_bounds-s-i : goal.offset_bounds-s-i
+offset_bounds-s-i c = let n = kept c.before in omega arith
+
+pub bounds-s-i : goal.bounds-s-i
+bounds-s-i c = let n = kept c.before in omega arith
+
+pub overflow_add-i : goal.overflow_add-i
+overflow_add-i c = let n = kept c.before in omega arith
+
+pub loop-i-smaller : goal.loop-i-smaller
+loop-i-smaller c = let n = kept c.before in omega arith
+
+pub shape_of-s : goal.shape_of-s
+shape_of-s c = kept c.before

@@ -1,0 +1,14 @@
+-- `slices::copy_floats` meets its contract: so far the first i are copied, and the rest is what it was. Assumes nothing.
+use mathlib.Core.Path.{refl}
+use Prim.Native.Nat.{◌-◌}
+use native.Mathlib.Omega.{arith}
+use lib.ListN.{length}
+use lib.Ieee.{nan}
+use Rattle.words.proofs.slices.Laws.{Copying, copying_length, copying_both, copying_more, copying_end}
+use Rattle.words.proofs.slices.copy_floats.Given as goal
+
+abbrev pub invariant-loop-i : goal.invariant-loop-i
+invariant-loop-i l = Copying l.initial.to l.initial.from l.to l.i
+
+abbrev pub decreases-loop-i : goal.decreases-loop-i
+decreases-loop-i l = length l.initial.to - l.i
