@@ -7,8 +7,7 @@ use lib.Dec.{ltb}
 use lib.Ieee.{Float, nan, inf, fin, Format, binary32, prec, emax, low, up, down, odd, units, round, neg, sum, add, sub, eq, is_nan}
 use lib.Ieee.Scale.{finite}
 use borrow.Author.Tests.{eq-eqb}
-use Rattle.params.proofs.finite.is_finite.Statement.{statement}
-use Rattle.params.proofs.finite.is_finite.Tie as tie
+use Rattle.params.proofs.finite.is_finite.Goals as goal
 
 odd_number : (d : ℕ) (s : Bool) (q k l : ℕ) → is_nan (odd d s q k l) ≡ false
 unfolding odd is_nan
@@ -56,5 +55,5 @@ less_itself f (inf true) = refl
 less_itself f (inf false) = refl
 less_itself f (fin s m e) = eq_self (sum f s _ (not s) _ _) ∙ ap not (sum_number f s _ (not s) _ _)
 
-pub is-finite-spec : {M : Type 1} → statement M
-is-finite-spec = tie.close (tie.spec (λ c. less_itself binary32 c.args.x))
+pub returns : goal.returns
+returns c = less_itself binary32 c.args.x

@@ -1,0 +1,12 @@
+-- `finite::add_to` meets its contract: the first k sums have their components. Assumes nothing.
+use Prim.Native.Nat.{◌-◌}
+use native.Mathlib.Omega.{arith}
+use borrow.Author.Rules.{rules}
+use Rattle.params.proofs.finite.Sums.{Adding, adding_none, adding_more}
+use Rattle.params.proofs.finite.add_to.Given as goal
+
+abbrev pub invariant-loop-k : goal.invariant-loop-k
+invariant-loop-k l = Adding l.initial.sums l.initial.components l.sums l.k
+
+abbrev pub decreases-loop-k : goal.decreases-loop-k
+decreases-loop-k l = 32 - l.k
