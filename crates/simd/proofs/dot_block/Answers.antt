@@ -12,8 +12,7 @@ use Rattle.simd.specs.Dot.{dot_of}
 use Rattle.simd.specs.Inside.Eight.{row_in}
 use Rattle.simd.proofs.Lanes.{length_lane}
 use borrow.Author.Rules.{rules}
-use Rattle.simd.proofs.dot_block.Statement.{statement}
-use Rattle.simd.proofs.dot_block.Tie as tie
+use Rattle.simd.proofs.dot_block.Goals as goal
 
 cut : (q block : List Float) (j : ℕ) → dot_of binary32 (take (length block / 8) q) (row_in block j) ≡ dot_of binary32 q (row_in block j)
 unfolding dot_of
@@ -21,11 +20,11 @@ cut q block j =
     ap (λ (n : ℕ). sum_of binary32 (products binary32 (take n q) (row_in block j))) (sym (length_lane block j (length block / 8)))
     ∙ ap (sum_of binary32) (products-take binary32 q (row_in block j))
 
-returns_2 : tie.Need-returns-2
-returns_2 c =
-    let q = c.before.before.before.before.before.args.q.now in
-    let b = c.before.before.before.before.before.args.block.now in
-    c.dot-block-within2.ensures ∙ (λ i. record {
+pub returns : goal.returns
+returns c =
+    let q = c.args.q.now in
+    let b = c.args.block.now in
+    c.dot_block_within-2.ensures ∙ (λ i. record {
       a = cut q b 0 i;
       b = cut q b 1 i;
       c = cut q b 2 i;
@@ -36,9 +35,8 @@ returns_2 c =
       h = cut q b 7 i;
     })
 
-pub dot-block-spec : {M : Type 1} → statement M
-dot-block-spec =
-    tie.close
-    (tie.spec
-    -- dot_block_within, the return
-    (λ c κs. search rules) (λ c. search rules) (λ c. sym (length-take-le _ _ (omega arith))) (λ c κs. simp length-take (omega arith)) returns_2)
+pub slice_bounds-dot_block_within-end : goal.slice_bounds-dot_block_within-end
+slice_bounds-dot_block_within-end c = sym (length-take-le _ _ (omega arith))
+
+pub dot_block_within-requires-2 : goal.dot_block_within-requires-2
+dot_block_within-requires-2 c = simp length-take (omega arith)
