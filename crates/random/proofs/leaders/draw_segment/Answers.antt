@@ -2,8 +2,7 @@
 use Rattle.std.proofs.Common.{◌≡◌, ℕ, ◌+◌, ◌*◌, ◌^◌, ◌<◌, min, List, ◌++◌, length, drop, sym, refl, ap, ◌∙◌, mod-eq_of_lt, arith, rules}
 use Rattle.random.specs.Leaders.{draw_start, drawn, drawn_into, up_to}
 use Rattle.random.proofs.leaders.Draws.{length-up_to}
-use Rattle.random.proofs.leaders.draw_segment.Statement.{statement}
-use Rattle.random.proofs.leaders.draw_segment.Tie as tie
+use Rattle.random.proofs.leaders.draw_segment.Goals as goal
 
 -- what the draws leave, with each number as the definition has it
 joined : (level n count start : ℕ) (left out : List ℕ) → level < 2 ^ 32 → left ≡ up_to n → count ≡ min (length out) (length left) → start ≡ level * 2654435761 + 42
@@ -17,22 +16,10 @@ joined level n count start left out h e k s =
     ∙ ap (λ (r : ℕ). drawn (min (length out) n) r left ++ drop (min (length out) n) out) t
     ∙ ap (λ (l : List ℕ). drawn (min (length out) n) (draw_start level) l ++ drop (min (length out) n) out) e
 
-returns : tie.Need-returns
+pub returns : goal.returns
 returns c =
-    let at-draw = c.before.before.before.before in
-    let at-lesser = at-draw.before.before.before in
-    let at-count-up = at-lesser.before.before.before in
-    let start = at-count-up.before.before.before.before in
-    let draw = at-draw.draw in
-    let lesser = at-lesser.lesser in
-    let up = at-count-up.count-up in
-    let x = start.args in
-    draw.ensures ∙ joined x.level (length x.left.now) lesser.result _ _ x.out.now start.ranges.level.fits up.ensures lesser.ensures refl
-
-pub draw-segment-spec : {M : Type 1} → statement M
-draw-segment-spec =
-    tie.close
-    (tie.spec
-    -- count_up, lesser, draw, lengths stay
-    (λ c κs. search rules) (λ c κs. search rules) (λ c. search rules) (λ c. search rules) (λ c κs. search rules) (λ c. search rules) (λ c. search rules)
-    returns)
+    let draw = c.draw in
+    let lesser = c.lesser-count in
+    let up = c.count_up in
+    let x = c.args in
+    draw.ensures ∙ joined x.level (length x.left.now) lesser.result _ _ x.out.now c.ranges.level.fits up.ensures lesser.ensures refl

@@ -5,8 +5,7 @@ use lib.Pow.{split}
 use lib.Bits.{bit_and, and_mask, mask_lt}
 use mir.Facts.{Fits-bits}
 use Rattle.random.proofs.lcg.Halves.{halves, below}
-use Rattle.random.proofs.lcg.wrapping_mul.Statement.{statement}
-use Rattle.random.proofs.lcg.wrapping_mul.Tie as tie
+use Rattle.random.proofs.lcg.wrapping_mul.Goals as goal
 
 fits : {x y : ℕ} → x < 2 ^ 32 → y < 2 ^ 32 → Fits w64 (x * y)
 fits hx hy = Fits-bits (32 + 32) tt (below 32 hx hy)
@@ -21,20 +20,19 @@ law a b =
     ∙ halves (2 ^ 32) (a % 2 ^ 32) (a / 2 ^ 32) (b % 2 ^ 32) (b / 2 ^ 32)
     ∙ (λ i. split a 32 i * split b 32 i % 2 ^ 64)
 
-returns : tie.Need-returns
+pub returns : goal.returns
 returns c =
-    let x = c.before.before.args in
+    let x = c.args in
     let low : ℕ → ℕ = λ n. bit_and n 0xffff_ffff in
-    c.wrapping-add-u642.ensures
-    ∙ ap (λ (m : ℕ). (low x.a * low x.b + m * 2 ^ 32 % 2 ^ 64) % 2 ^ 64) c.before.wrapping-add-u64.ensures
+    c.wrapping_add_u64.ensures.value
+    ∙ ap (λ (m : ℕ). (low x.a * low x.b + m * 2 ^ 32 % 2 ^ 64) % 2 ^ 64) c.wrapping_add_u64-cross.ensures.value
     ∙ law x.a x.b
 
-pub wrapping-mul-spec : {M : Type 1} → statement M
-wrapping-mul-spec =
-    tie.close
-    (tie.spec
-    (λ c. fits (shr_lt 32 32 c.ranges.a.fits) (mask_lt c.args.b 32)) (λ c. fits (mask_lt c.args.a 32) (shr_lt 32 32 c.ranges.b.fits))
-    -- wrapping_add_u64
-    (λ c κs. search rules) (λ c. fits (mask_lt c.before.args.a 32) (mask_lt c.before.args.b 32))
-    -- wrapping_add_u64
-    (λ c κs. search rules) returns)
+pub overflow_mul-a_high : goal.overflow_mul-a_high
+overflow_mul-a_high c = fits (shr_lt 32 32 c.ranges.a.fits) (mask_lt c.args.b 32)
+
+pub overflow_mul-a_low : goal.overflow_mul-a_low
+overflow_mul-a_low c = fits (mask_lt c.args.a 32) (shr_lt 32 32 c.ranges.b.fits)
+
+pub overflow_mul-a_low-2 : goal.overflow_mul-a_low-2
+overflow_mul-a_low-2 c = fits (mask_lt c.args.a 32) (mask_lt c.args.b 32)

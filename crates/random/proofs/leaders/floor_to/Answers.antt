@@ -2,8 +2,7 @@
 use Rattle.std.proofs.Common.{◌≡◌, ◌+◌, ◌-◌, ◌*◌, ◌/◌, ◌^◌, ◌≤◌, true, false, T, pos, sym, refl, subst, le-div_iff_mul-le, arith, rules, ltb-false}
 use lib.Ieee.{Float, nan, inf, fin, up, down, lt, neg, of_bits, to_unsigned}
 use lib.Ieee.Fits.{down_pos}
-use Rattle.random.proofs.leaders.floor_to.Statement.{statement}
-use Rattle.random.proofs.leaders.floor_to.Tie as tie
+use Rattle.random.proofs.leaders.floor_to.Goals as goal
 
 -- below the range: nothing is left above zero
 under : (x : Float) → lt (fin true 1 (pos 0)) x ≡ false → to_unsigned 64 x ≡ 0
@@ -25,22 +24,14 @@ over (fin false m e) h k =
     let big : 2 ^ 64 ≤ m * up e / down e = (le-div_iff_mul-le (down_pos e)).1 (omega (arith, ltb-false (m * up e * 1) (2 ^ 64 * down e) k)) in
     omega arith
 
-truncating-f64-to-u64-requires : tie.Need-truncating-f64-to-u64-requires
+pub truncating_f64_to_u64-whole-requires : goal.truncating_f64_to_u64-whole-requires
 unfolding of_bits neg
-truncating-f64-to-u64-requires c κs = (subst T (sym c.before.if1.true) tt, subst T (sym c.if2.true) tt)
+truncating_f64_to_u64-whole-requires c = record { lower_bound = subst T (sym c.if-x.true) tt; upper_bound = subst T (sym c.if-x-2.true) tt }
 
-returns-3 : tie.Need-returns-3
+pub returns-else-x-2 : goal.returns-else-x-2
 unfolding of_bits neg
-returns-3 c = omega (arith, over c.before.before.args.x c.before.if1.true c.if2.false, c.before.before.ranges.top.fits)
+returns-else-x-2 c = omega (arith, over c.args.x c.if-x.true c.if-x-2.false, c.ranges.top.fits)
 
-returns-4 : tie.Need-returns-4
+pub returns : goal.returns
 unfolding of_bits neg
-returns-4 c = omega (arith, under c.before.args.x c.if1.false)
-
-pub floor-to-spec : {M : Type 1} → statement M
-floor-to-spec =
-    tie.close
-    (tie.spec
-    truncating-f64-to-u64-requires
-    -- the return
-    (λ c. search rules) (λ c. search rules) returns-3 returns-4)
+returns c = omega (arith, under c.args.x c.if-x.false)

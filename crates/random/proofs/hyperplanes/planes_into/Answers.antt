@@ -5,8 +5,7 @@ use Rattle.basics.proofs.Loops.{front_set}
 use Rattle.random.specs.Hyperplanes.{plane_number, plane_numbers}
 use Rattle.random.proofs.hyperplanes.Stream.{read}
 use Rattle.random.proofs.hyperplanes.Table.{table, rule}
-use Rattle.random.proofs.hyperplanes.planes_into.Statement.{statement}
-use Rattle.random.proofs.hyperplanes.planes_into.Tie as tie
+use Rattle.random.proofs.hyperplanes.planes_into.Goals as goal
 
 length_planes : (n : ℕ) → length (plane_numbers binary32 n) ≡ n
 unfolding plane_numbers
@@ -26,25 +25,19 @@ written out₀ out k v e h q =
     ∙ ap (λ (x : Float). (plane_numbers binary32 k ++ (x ∷ [])) ++ drop (k + 1) out₀) q
     ∙ ap (λ (l : List Float). l ++ drop (k + 1) out₀) (planes_more k)
 
-abbrev invariant-loop : tie.invariant-loop
-invariant-loop out₀ table n k₀ out k = (k ≤ n) × (n ≤ length out₀) × (n ≤ 1024) × (length out ≡ length out₀) × (out ≡ plane_numbers binary32 k ++ drop k out₀)
-
-abbrev decreases-loop : tie.decreases-loop
-decreases-loop out₀ table n k₀ out k = n - k
-
-loop-holds : tie.Need-loop-init invariant-loop decreases-loop
+pub loop-k-init : goal.loop-k-init
 unfolding plane_numbers
-loop-holds c = (omega arith, omega (arith, c.lesser.ensures), omega (arith, c.lesser.ensures), refl, refl)
+loop-k-init c = (omega arith, omega (arith, c.lesser-n.ensures), omega (arith, c.lesser-n.ensures), refl, refl)
 
-float-from-bits-out : tie.Need-float-from-bits-out invariant-loop decreases-loop
+pub float_from_bits-out : goal.float_from_bits-out
 unfolding table
-float-from-bits-out c = (rule c.before.loop.k (omega arith)).1
+float_from_bits-out c = (rule c.loop-k.k (omega arith)).1
 
-loop-again : tie.Need-loop-preserved invariant-loop decreases-loop
+pub loop-k-preserved : goal.loop-k-preserved
 unfolding table
-loop-again c =
-    let l = c.before.loop in
-    let out₀ = c.before.before.before.before.args.out.now in
+loop-k-preserved c =
+    let l = c.loop-k in
+    let out₀ = c.args.out.now in
     let v : Float = of_bits binary32 (get_or table l.k 0) in (
       omega arith,
       omega arith,
@@ -53,21 +46,12 @@ loop-again c =
       written out₀ l.out l.k v l.invariant.4 (omega arith) (read binary32 l.k (get_or table l.k 0) (rule l.k (omega arith))),
     )
 
-returns : tie.Need-returns invariant-loop decreases-loop
+pub returns : goal.returns
 returns c =
-    let l = c.before.loop in
-    let out₀ = c.before.before.before.before.args.out.now in
-    let e : l.k ≡ min (length out₀) 1024 = omega (arith, c.before.before.lesser.ensures) in
+    let l = c.loop-k in
+    let out₀ = c.args.out.now in
+    let e : l.k ≡ min (length out₀) 1024 = omega (arith, c.lesser-n.ensures) in
     l.invariant.4 ∙ ap (λ (k : ℕ). plane_numbers binary32 k ++ drop k out₀) e
 
-pub planes-into-spec : {M : Type 1} → statement M
-planes-into-spec =
-    tie.close
-    (tie.spec
-    invariant-loop decreases-loop
-    -- lesser
-    (λ c κs. search rules) loop-holds
-    -- out
-    (λ c. search rules) (λ c. search rules) float-from-bits-out
-    -- out, k, the loop measure
-    (λ c. search rules) (λ c. search rules) (λ c. search rules) (λ c. search rules) loop-again (λ c. c.before.loop.invariant.3) returns)
+pub shape_of-out : goal.shape_of-out
+shape_of-out c = c.loop-k.invariant.3
