@@ -12,8 +12,7 @@ use Rattle.simd.specs.declared.Eight.{Eight}
 use Rattle.simd.proofs.Lanes.{length_lane}
 use Rattle.distance.proofs.Laws.{from_dot, unlike_lengths}
 use borrow.Author.Rules.{rules}
-use Rattle.distance.proofs.cosine_distance_normalized_block.Statement.{statement}
-use Rattle.distance.proofs.cosine_distance_normalized_block.Tie as tie
+use Rattle.distance.proofs.cosine_distance_normalized_block.Goals as goal
 
 -- how the query's length compares with a row's
 as_long : (q block : List Float) (j : ℕ) → length q ≡ length block / 8 → eqb (length q) (length (row_in block j)) ≡ true
@@ -22,16 +21,13 @@ as_long q block j e = eq-eqb _ _ (e ∙ sym (length_lane block j (length block /
 not_as_long : (q block : List Float) (j : ℕ) → (length q ≡ length block / 8 → ⊥) → eqb (length q) (length (row_in block j)) ≡ false
 not_as_long q block j n = ne_eqb _ _ (λ e. n (e ∙ length_lane block j (length block / 8)))
 
-returns : tie.Need-returns
+pub returns-then-q-block : goal.returns-then-q-block
 unfolding of_bits
-returns c =
-    let at-dot-block = c.before.before.before.before.before.before.before.before in
-    let at-if1 = at-dot-block.before in
-    let start = at-if1.before.before.before in
-    let q = start.args.q.now in
-    let b = start.args.block.now in
-    let e = at-if1.if1.true in
-    let dots = at-dot-block.dot-block in
+returns-then-q-block c =
+    let q = c.args.q.now in
+    let b = c.args.block.now in
+    let e = c.if-q-block.true in
+    let dots = c.dot_block-dots in
     λ i. record {
       a = from_dot binary32 q (row_in b 0) dots.result.a (ap (λ (r : Eight). r.a) dots.ensures) (as_long q b 0 e) i;
       b = from_dot binary32 q (row_in b 1) dots.result.b (ap (λ (r : Eight). r.b) dots.ensures) (as_long q b 1 e) i;
@@ -43,16 +39,16 @@ returns c =
       h = from_dot binary32 q (row_in b 7) dots.result.h (ap (λ (r : Eight). r.h) dots.ensures) (as_long q b 7 e) i;
     }
 
-float-from-bits-far : tie.Need-float-from-bits-far
+pub float_from_bits-far : goal.float_from_bits-far
 unfolding nan_bits
-float-from-bits-far c = tt
+float_from_bits-far c = tt
 
-returns_2 : tie.Need-returns-2
+pub returns : goal.returns
 unfolding of_bits
-returns_2 c =
-    let q = c.before.before.before.args.q.now in
-    let b = c.before.before.before.args.block.now in
-    let n = c.if1.false in
+returns c =
+    let q = c.args.q.now in
+    let b = c.args.block.now in
+    let n = c.if-q-block.false in
     λ i. record {
       a = unlike_lengths binary32 q (row_in b 0) (not_as_long q b 0 n) i;
       b = unlike_lengths binary32 q (row_in b 1) (not_as_long q b 1 n) i;
@@ -63,6 +59,3 @@ returns_2 c =
       g = unlike_lengths binary32 q (row_in b 6) (not_as_long q b 6 n) i;
       h = unlike_lengths binary32 q (row_in b 7) (not_as_long q b 7 n) i;
     }
-
-pub cosine-distance-normalized-block-spec : {M : Type 1} → statement M
-cosine-distance-normalized-block-spec = tie.close (tie.spec (λ c κs. search rules) returns float-from-bits-far returns_2)

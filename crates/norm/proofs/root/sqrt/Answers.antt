@@ -10,11 +10,11 @@ use lib.Ieee.{Float, nan, binary32, lt, fits, div, of_bits, nan_bits}
 use lib.Ieee.Bits.{of_bits-to_bits, nan_bits_above}
 use Rattle.norm.specs.Root.{root_of}
 use Rattle.norm.proofs.root.Signs.{zero+, zero_is, real, negative, neither, infinite, bits_pos}
-use Rattle.norm.proofs.root.sqrt.Statement.{statement}
-use Rattle.norm.proofs.root.sqrt.Tie as tie
+use Rattle.norm.proofs.root.sqrt.Goals as goal
+use Rattle.norm.proofs.root.sqrt.Goals.{Start}
 
-held : (c : tie.Start) → T (fits binary32 c.args.s)
-held c = subst T (sym c.well-formed.0.1) tt
+held : (c : Start) → T (fits binary32 c.args.s)
+held c = subst T (sym c.well_formed.0.1) tt
 
 -- a test against the literal 0.0, with the literal as a value
 over : (x : Float) {b : Bool} → lt (of_bits binary32 0) x ≡ b → lt zero+ x ≡ b
@@ -30,22 +30,23 @@ nan_is : div binary32 (of_bits binary32 0) (of_bits binary32 0) ≡ nan
 unfolding div of_bits
 nan_is = refl
 
-returns : tie.Need-returns
-returns c = infinite c.before.before.args.s (held c.before.before) (over c.before.before.args.s c.before.if1.true) c.if2.true
+pub returns-then-b-ge2139095040 : goal.returns-then-b-ge2139095040
+returns-then-b-ge2139095040 c = infinite c.args.s (held (goal.at.returns-then-b-ge2139095040 c).Start) (over c.args.s c.if-s.true) c.if-b-ge2139095040.true
 
-root-bits-requires : tie.Need-root-bits-requires
-root-bits-requires c κs = (bits_pos c.before.before.args.s (held c.before.before) (over c.before.before.args.s c.before.if1.true), c.if2.false)
+pub root_bits-requires : goal.root_bits-requires
+root_bits-requires c = (bits_pos c.args.s (held (goal.at.root_bits-requires c).Start) (over c.args.s c.if-s.true), c.if-b-ge2139095040.false)
 
-returns_2 : tie.Need-returns-2
-returns_2 c = c.root-bits.ensures.0 ∙ ap (root_of binary32) (of_bits-to_bits binary32 c.before.before.before.args.s (held c.before.before.before))
+pub returns-then-s : goal.returns-then-s
+returns-then-s c = c.root_bits.ensures.0 ∙ ap (root_of binary32) (of_bits-to_bits binary32 c.args.s (held (goal.at.returns-then-s c).Start))
 
-returns-4 : tie.Need-returns-4
-returns-4 c = neither c.before.before.args.s (over c.before.before.args.s c.before.if1.false) (under c.before.before.args.s c.if3.false)
+pub returns : goal.returns
+returns c = neither c.args.s (over c.args.s c.if-s.false) (under c.args.s c.if-s-2.false)
 
-pub sqrt-spec : {M : Type 1} → statement M
-sqrt-spec =
-    tie.close
-    (tie.spec
-    (λ c. real c.before.args.s (over c.before.args.s c.if1.true)) returns root-bits-requires
-    (λ c. no_nan c.root-bits.result c.root-bits.ensures.1) returns_2
-    (λ c. nan_is ∙ negative c.before.before.args.s (under c.before.before.args.s c.if3.true)) returns-4)
+pub float_to_bits-b : goal.float_to_bits-b
+float_to_bits-b c = real c.args.s (over c.args.s c.if-s.true)
+
+pub float_from_bits-result : goal.float_from_bits-result
+float_from_bits-result c = no_nan c.root_bits.result c.root_bits.ensures.1
+
+pub returns-then-s-2 : goal.returns-then-s-2
+returns-then-s-2 c = nan_is ∙ negative c.args.s (under c.args.s c.if-s-2.true)

@@ -8,8 +8,8 @@ use lib.Pow.{shl_exact}
 use lib.Ieee.{binary32, of_bits}
 use Rattle.norm.specs.Root.{isqrt, nearest_root}
 use Rattle.norm.proofs.root.Law.{N-bounds, m_bounds, root_law}
-use Rattle.norm.proofs.root.root_bits.Statement.{statement}
-use Rattle.norm.proofs.root.root_bits.Tie as tie
+use Rattle.norm.proofs.root.root_bits.Goals as goal
+use Rattle.norm.proofs.root.root_bits.Goals.{After-whole_root}
 
 shifted : (q k : ℕ) → q < 2 ^ 24 → q * 2 ^ (24 - k % 2) % 2 ^ 64 ≡ q * 2 ^ (24 - k % 2)
 shifted q k h = shl_exact {a = q} 24 (24 - k % 2) 64 h (omega arith)
@@ -27,24 +27,30 @@ digits g q k l h e =
     let n = N-bounds q (k % 2) l h (omega arith) in
     subst (λ (m : ℕ). m < 2 ^ 24) (sym (root_is g q k h e)) (m_bounds (q * 2 ^ (24 - k % 2)) n.0 n.1).1
 
-few : (c : tie.After-whole-root) → (c.whole-root.result + 1) / 2 < 2 ^ 24
-few c = digits c.whole-root.result c.before.scale.result.q c.before.scale.result.k (omega arith) (omega arith) c.whole-root.ensures
+few : (c : After-whole_root) → (c.whole_root.result + 1) / 2 < 2 ^ 24
+few c = digits c.whole_root.result c.scale-v.result.q c.scale-v.result.k (omega arith) (omega arith) c.whole_root.ensures
 
-returns : tie.Need-returns
+pub returns : goal.returns
 returns c =
-    let b = c.before.before.args.b in
-    let v = c.before.scale.result in
-    let e = c.before.scale.ensures in (
-      ap (λ (m : ℕ). of_bits binary32 (((v.k + 1) / 2 + 51) * 2 ^ 23 + m)) (root_is c.whole-root.result v.q v.k e.2 c.whole-root.ensures)
-          ∙ root_law b v.q v.k c.before.before.requires.1 e.0 e.1 e.2 e.3,
-      omega (arith, few c),
+    let b = c.args.b in
+    let v = c.scale-v.result in
+    let e = c.scale-v.ensures in (
+      ap (λ (m : ℕ). of_bits binary32 (((v.k + 1) / 2 + 51) * 2 ^ 23 + m)) (root_is c.whole_root.result v.q v.k e.2 c.whole_root.ensures)
+          ∙ root_law b v.q v.k c.requires.1 e.0 e.1 e.2 e.3,
+      omega (arith, few (goal.at.returns c).After-whole_root),
     )
 
-pub root-bits-spec : {M : Type 1} → statement M
-root-bits-spec =
-    tie.close
-    (tie.spec
-    (λ c κs. search rules) (λ c. omega arith) (λ c. omega arith)
-    (λ c. omega (arith, small c.scale.result.q c.scale.result.k (omega arith) (omega arith)))
-    (λ c κs. small c.scale.result.q c.scale.result.k (omega arith) (omega arith)) (λ c. omega (arith, few c))
-    (λ c. omega arith) (λ c. omega arith) (λ c. omega arith) (λ c. omega (arith, few c)) (λ c. omega (arith, few c)) returns)
+pub overflow_mul-n : goal.overflow_mul-n
+overflow_mul-n c = omega (arith, small c.scale-v.result.q c.scale-v.result.k (omega arith) (omega arith))
+
+pub whole_root-requires : goal.whole_root-requires
+whole_root-requires c = small c.scale-v.result.q c.scale-v.result.k (omega arith) (omega arith)
+
+pub overflow_add-m : goal.overflow_add-m
+overflow_add-m c = omega (arith, few (goal.at.overflow_add-m c).After-whole_root)
+
+pub overflow_add-result-3 : goal.overflow_add-result-3
+overflow_add-result-3 c = omega (arith, few (goal.at.overflow_add-result-3 c).After-whole_root)
+
+pub overflow_cast-result : goal.overflow_cast-result
+overflow_cast-result c = omega (arith, few (goal.at.overflow_cast-result c).After-whole_root)

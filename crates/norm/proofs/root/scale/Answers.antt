@@ -7,8 +7,7 @@ use native.Mathlib.Nat.{mul_assoc, add-mul, two-mul, pow-succ', mul-add}
 use lib.Pow.{pow-add}
 use Rattle.norm.specs.Root.{pattern_units}
 use Rattle.norm.proofs.root.Law.{units-low, units_normal}
-use Rattle.norm.proofs.root.scale.Statement.{statement}
-use Rattle.norm.proofs.root.scale.Tie as tie
+use Rattle.norm.proofs.root.scale.Goals as goal
 
 k_pos : (u q k : ℕ) → q * 2 ^ k ≡ u * 2 ^ 23 → 0 < u → q < 2 ^ 23 → 0 < k
 k_pos u q zero e p h = omega arith
@@ -29,38 +28,30 @@ raised a x h =
 normal_is : (b : ℕ) → 0 < b / 2 ^ 23 → (2 ^ 23 + b % 2 ^ 23) * 2 ^ (b / 2 ^ 23 + 22) ≡ pattern_units b * 2 ^ 23
 normal_is b h = raised (2 ^ 23 + b % 2 ^ 23) (b / 2 ^ 23) h ∙ ap (λ (n : ℕ). n * 2 ^ 23) (sym (units_normal b (λ e. omega arith)))
 
-abbrev invariant-loop : tie.invariant-loop
-invariant-loop b x t q₀ k₀ q k = (q * 2 ^ k ≡ pattern_units b * 2 ^ 23) × (0 < pattern_units b) × (q < 2 ^ 24) × (k ≤ 23)
-
-abbrev decreases-loop : tie.decreases-loop
-decreases-loop b x t q₀ k₀ q k = k
-
-loop-holds : tie.Need-loop-init invariant-loop decreases-loop
-loop-holds c =
-    let b = c.before.args.b in
+pub loop-q-init : goal.loop-q-init
+loop-q-init c =
+    let b = c.args.b in
     let e = units-low b (omega arith) in
     (ap (λ (n : ℕ). n * 2 ^ 23) (sym e), omega arith, omega arith, omega arith)
 
-sub-k : tie.Need-overflow-sub-k invariant-loop decreases-loop
-sub-k c =
-    let l = c.before.loop in
-    k_pos (pattern_units c.before.before.before.args.b) l.q l.k l.invariant.0 l.invariant.1 c.loop-test.true
+pub overflow_sub-k : goal.overflow_sub-k
+overflow_sub-k c =
+    let l = c.loop-q in
+    k_pos (pattern_units c.args.b) l.q l.k l.invariant.0 l.invariant.1 c.loop-q-test.true
 
-loop-less : tie.Need-loop-smaller invariant-loop decreases-loop
-loop-less c =
-    let l = c.before.loop in
-    omega (arith, k_pos (pattern_units c.before.before.before.args.b) l.q l.k l.invariant.0 l.invariant.1 c.loop-test.true)
+pub loop-q-smaller : goal.loop-q-smaller
+loop-q-smaller c =
+    let l = c.loop-q in
+    omega (arith, k_pos (pattern_units c.args.b) l.q l.k l.invariant.0 l.invariant.1 c.loop-q-test.true)
 
-loop-again : tie.Need-loop-preserved invariant-loop decreases-loop
-loop-again c =
-    let l = c.before.loop in
-    let p = k_pos (pattern_units c.before.before.before.args.b) l.q l.k l.invariant.0 l.invariant.1 c.loop-test.true in
+pub loop-q-preserved : goal.loop-q-preserved
+loop-q-preserved c =
+    let l = c.loop-q in
+    let p = k_pos (pattern_units c.args.b) l.q l.k l.invariant.0 l.invariant.1 c.loop-q-test.true in
     (double l.q l.k p ∙ l.invariant.0, l.invariant.1, omega arith, omega arith)
 
-pub scale-spec : {M : Type 1} → statement M
-scale-spec =
-    tie.close
-    (tie.spec
-    invariant-loop decreases-loop (λ c. omega arith) (λ c. omega arith) (λ c. omega arith) (λ c. omega arith)
-    (λ c. (normal_is c.before.args.b c.if1.true, omega arith, omega arith, omega arith)) (λ c. omega arith) loop-holds (λ c. omega arith) sub-k
-    loop-less loop-again (λ c. (c.before.loop.invariant.0, omega arith, omega arith, omega arith)))
+pub returns-then-field-gt0 : goal.returns-then-field-gt0
+returns-then-field-gt0 c = (normal_is c.args.b c.if-field-gt0.true, omega arith, omega arith, omega arith)
+
+pub returns : goal.returns
+returns c = (c.loop-q.invariant.0, omega arith, omega arith, omega arith)

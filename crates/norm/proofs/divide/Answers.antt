@@ -7,19 +7,12 @@ use Prim.Native.Nat.{◌-◌, ◌≤◌, ◌<◌}
 use lib.ListN.{length, get_or, set, length-set}
 use lib.Ieee.{Float, nan, binary32, div}
 use Rattle.basics.proofs.Loops.{part, part_get, part_set, part_end}
-use Rattle.norm.proofs.divide.Statement.{statement}
-use Rattle.norm.proofs.divide.Tie as tie
+use Rattle.norm.proofs.divide.Goals as goal
 
-abbrev invariant-loop : tie.invariant-loop
-invariant-loop v₀ by i₀ v i = (i ≤ length v₀) × (length v ≡ length v₀) × (v ≡ part (λ (x : Float). div binary32 x by) v₀ i)
-
-abbrev decreases-loop : tie.decreases-loop
-decreases-loop v₀ by i₀ v i = length v₀ - i
-
-loop-again : tie.Need-loop-preserved invariant-loop decreases-loop
-loop-again c =
-    let l = c.before.before.loop in
-    let x = c.before.before.before.args in
+pub loop-i-preserved : goal.loop-i-preserved
+loop-i-preserved c =
+    let l = c.loop-i in
+    let x = c.args in
     let v₀ = x.v.now in
     let by = x.by in
     let h : l.i < length v₀ = omega arith in (
@@ -30,17 +23,14 @@ loop-again c =
           ∙ part_set (λ (x : Float). div binary32 x by) v₀ nan l.i h,
     )
 
-returns : tie.Need-returns invariant-loop decreases-loop
+pub returns : goal.returns
 returns c =
-    let l = c.before.loop in
-    let x = c.before.before.args in
+    let l = c.loop-i in
+    let x = c.args in
     l.invariant.2 ∙ part_end (λ (y : Float). div binary32 y x.by) x.v.now l.i (omega arith)
 
-pub divide-spec : {M : Type 1} → statement M
-divide-spec =
-    tie.close
-    (tie.spec
-    invariant-loop decreases-loop (λ c. (search rules, refl, refl))
-    -- v, i, the loop measure
-    (λ c. search rules) (λ c. search rules) (λ c. search rules) (λ c. search rules) (λ c. search rules) (λ c. search rules) loop-again
-    (λ c. c.before.loop.invariant.1) returns)
+pub loop-i-init : goal.loop-i-init
+loop-i-init c = (search rules, refl, refl)
+
+pub shape_of-v : goal.shape_of-v
+shape_of-v c = c.loop-i.invariant.1
