@@ -87,7 +87,9 @@ module _ (far : ℕ → Float) (hash : ℕ → ℕ) where
   pub cells_rising : (cells : List Cell) (candidates : List ℕ) → Rising (hashes_in cells) → Rising (hashes_in (cells_from far hash cells candidates))
   unfolding cells_from
   cells_rising cells [] r = r
-  cells_rising cells (c ∷ candidates) r = cells_rising _ candidates (put_rising far (record { hash = hash c; node = c }) cells r)
+  cells_rising cells (c ∷ candidates) r =
+      let new : Cell = record { hash = hash c; node = c } in
+      cells_rising (put_cell far new cells) candidates (put_rising far new cells r)
 
   pub cells_few : (cells : List Cell) (candidates : List ℕ) → length (cells_from far hash cells candidates) ≤ length cells + length candidates
   unfolding cells_from
