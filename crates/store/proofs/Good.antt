@@ -23,6 +23,7 @@ use Rattle.store.specs.WellFormed.{is_node, row_ok, bridge_ok, rest_ok}
 
 all_below : (n : ℕ) (l : List ℕ) → every (is_node n) l ≡ true → Below n l
 unfolding every
+all_below n [] e x m = elim m [ ]
 all_below n (y ∷ l) e x (here q) = let t = both_true _ _ e in subst (λ (z : ℕ). z < n) (sym q) (ltb-true y n t.0)
 all_below n (y ∷ l) e x (there m) = all_below n l (both_true (ltb y n) (every (is_node n) l) e).1 x m
 

@@ -9,8 +9,7 @@ use borrow.Author.Rules.{rules}
 use Rattle.basics.proofs.EqualParts.{EqualParts, parts_none, parts_more, parts_all}
 use Rattle.basics.proofs.Tests.{both_true}
 use Rattle.store.specs.WellFormed.{is_node}
-use Rattle.store.proofs.nodes_by_fours.Statement.{statement}
-use Rattle.store.proofs.nodes_by_fours.Tie as tie
+use Rattle.store.proofs.nodes_by_fours.Goals as goal
 
 -- four entries more, one of each quarter
 more : (ws : List ℕ) (n q i : ℕ) (ok : Bool) → (ok ≡ true → EqualParts (is_node n) ws 0 4 q i)
@@ -31,39 +30,20 @@ more ws n q i ok so t =
     each w x y z (suc (suc (suc zero))) h = z
     each w x y z (suc (suc (suc (suc c)))) h = absurd (omega arith)
 
-abbrev invariant-loop : tie.invariant-loop
-invariant-loop entries n quarter rest ok₀ i₀ ok i = (i ≤ quarter) × (ok ≡ true → EqualParts (is_node n) entries 0 4 quarter i)
-
-abbrev decreases-loop : tie.decreases-loop
-decreases-loop entries n quarter rest ok₀ i₀ ok i = quarter - i
-
-loop-holds : tie.Need-loop-init invariant-loop decreases-loop
-loop-holds c =
-    let a = c.before.before.before.args in
+pub loop-i-init : goal.loop-i-init
+loop-i-init c =
+    let a = c.args in
     let ws = a.entries.now in
-    (omega arith, λ t. parts_none (is_node a.n) ws 0 4 (length ws / 4) (length ws - 4 * (length ws / 4)) (omega arith) (sym c.all-nodes.ensures ∙ t))
+    (omega arith, λ t. parts_none (is_node a.n) ws 0 4 (length ws / 4) (length ws - 4 * (length ws / 4)) (omega arith) (sym c.all_nodes-ok.ensures ∙ t))
 
-loop-again : tie.Need-loop-preserved invariant-loop decreases-loop
-loop-again c =
-    let a = c.before.before.before.before.before.before.before.before.before.args in
-    let l = c.before.before.before.before.before.loop in
+pub loop-i-preserved : goal.loop-i-preserved
+loop-i-preserved c =
+    let a = c.args in
+    let l = c.loop-i in
     (omega arith, more a.entries.now a.n (length a.entries.now / 4) l.i l.ok l.invariant.1)
 
-returns : tie.Need-returns invariant-loop decreases-loop
+pub returns : goal.returns
 returns c =
-    let a = c.before.before.before.before.before.args in
-    let l = c.before.loop in
+    let a = c.args in
+    let l = c.loop-i in
     λ t. parts_all (is_node a.n) a.entries.now 0 4 (length a.entries.now / 4) l.i (omega arith) (l.invariant.1 t)
-
-pub nodes-by-fours-spec : {M : Type 1} → statement M
-nodes-by-fours-spec =
-    tie.close
-    (tie.spec
-    invariant-loop decreases-loop
-    -- the rest past the quarters, and the call that tests it
-    (λ c. search rules) (λ c. search rules) (λ c. search rules) (λ c. search rules) (λ c. search rules) (λ c κs. search rules) loop-holds
-    -- the four entries of a turn
-    (λ c. search rules) (λ c. search rules) (λ c. search rules) (λ c. search rules) (λ c. search rules) (λ c. search rules) (λ c. search rules)
-    (λ c. search rules) (λ c. search rules) (λ c. search rules) (λ c. search rules) (λ c. search rules) (λ c. search rules)
-    -- the step, the measure
-    (λ c. search rules) (λ c. search rules) loop-again returns)
