@@ -1,0 +1,86 @@
+-- `pipnn::add_refusal` meets its contract: the checks that every call begins with, then at each place those before it have passed. Assumes nothing.
+use mathlib.Core.Path.{◌≡◌, sym, ap, ◌∙◌}
+use mathlib.Core.Bool.{not}
+use mathlib.Core.List.{List}
+use Prim.Native.Nat.{ℕ}
+use lib.ListN.{take}
+use borrow.Author.Tests.{eq-eqb, ne_eqb, not-true, not-false}
+use borrow.Author.Rules.{rules}
+use Rattle.basics.specs.Refusals.{Check, first_refusal}
+use Rattle.basics.proofs.Refusals.{Pass, turned_at, none_turned, then_first, then_second}
+use Rattle.store.specs.declared.Lent.TheVariants.{Nothing}
+use Rattle.store.specs.Opening.{opening}
+use Rattle.store.proofs.Opened.{opening_numbered}
+use Rattle.pipnn.specs.Add.{own_checks, add_checks}
+use Rattle.pipnn.proofs.add_refusal.Goals as goal
+use Rattle.pipnn.proofs.add_refusal.Goals.{Else-not-all_finite, Else-refusal-ne0, Else-vector-word_at, Else-word_at-eq-BUILT, Start}
+
+abbrev First : Start → List Check
+First s = opening Nothing s.args.words.now s.args.floats.now
+
+abbrev Own : Start → List Check
+Own s = own_checks s.args.words.now s.args.vector.now
+
+abbrev refusal : Start → ℕ
+refusal s = first_refusal (add_checks s.args.words.now s.args.floats.now s.args.vector.now)
+
+own : (c : Else-refusal-ne0) → first_refusal (own_checks c.args.words.now c.args.vector.now) ≡ (first_refusal (add_checks c.args.words.now c.args.floats.now c.args.vector.now))
+unfolding add_checks
+own c =
+    sym
+    (then_second (opening Nothing c.args.words.now c.args.floats.now) (own_checks c.args.words.now c.args.vector.now) (opening_numbered Nothing c.args.words.now c.args.floats.now)
+    (sym c.opening_refusal-refusal.ensures ∙ c.if-refusal-ne0.false))
+
+-- what has passed at each place
+passed_1 : (c : Else-word_at-eq-BUILT) → Pass (take 1 (own_checks c.args.words.now c.args.vector.now))
+unfolding own_checks
+passed_1 c = (ne_eqb _ _ (λ e. c.if-word_at-eq-BUILT.false (c.word_at.ensures ∙ e)), tt)
+
+passed_2 : (c : Else-vector-word_at) → Pass (take 2 (own_checks c.args.words.now c.args.vector.now))
+unfolding own_checks
+passed_2 c =
+    (ne_eqb _ _ (λ e. c.if-word_at-eq-BUILT.false (c.word_at.ensures ∙ e)), (ap not (eq-eqb _ _ (c.if-vector-word_at.false ∙ c.word_at-2.ensures)), tt))
+
+passed_3 : (c : Else-not-all_finite) → Pass (take 3 (own_checks c.args.words.now c.args.vector.now))
+unfolding own_checks
+passed_3 c =
+    (ne_eqb _ _ (λ e. c.if-word_at-eq-BUILT.false (c.word_at.ensures ∙ e)),
+    (ap not (eq-eqb _ _ (c.if-vector-word_at.false ∙ c.word_at-2.ensures)), (ap not (sym c.all_finite.ensures ∙ c.if-not-all_finite.false), tt)))
+
+pub returns-then-refusal-ne0 : goal.returns-then-refusal-ne0
+unfolding add_checks
+returns-then-refusal-ne0 c =
+    c.opening_refusal-refusal.ensures
+    ∙ sym (then_first (First (goal.at.returns-then-refusal-ne0 c).Start) (Own (goal.at.returns-then-refusal-ne0 c).Start) (λ e. c.if-refusal-ne0.true (c.opening_refusal-refusal.ensures ∙ e)))
+
+pub returns-then-word_at-eq-BUILT : goal.returns-then-word_at-eq-BUILT
+unfolding own_checks
+returns-then-word_at-eq-BUILT c =
+    turned_at 0 (Own (goal.at.returns-then-word_at-eq-BUILT c).Start) tt (eq-eqb _ _ (sym c.word_at.ensures ∙ c.if-word_at-eq-BUILT.true)) ∙ own (goal.at.returns-then-word_at-eq-BUILT c).Else-refusal-ne0
+
+pub returns-then-vector-word_at : goal.returns-then-vector-word_at
+unfolding own_checks
+returns-then-vector-word_at c =
+    turned_at 1 (Own (goal.at.returns-then-vector-word_at c).Start) (passed_1 (goal.at.returns-then-vector-word_at c).Else-word_at-eq-BUILT)
+    (ap not (ne_eqb _ _ (λ e. c.if-vector-word_at.true (e ∙ sym c.word_at-2.ensures))))
+    ∙ own (goal.at.returns-then-vector-word_at c).Else-refusal-ne0
+
+pub returns-then-not-all_finite : goal.returns-then-not-all_finite
+unfolding own_checks
+returns-then-not-all_finite c =
+    turned_at 2 (Own (goal.at.returns-then-not-all_finite c).Start) (passed_2 (goal.at.returns-then-not-all_finite c).Else-vector-word_at) (ap not (sym c.all_finite.ensures ∙ c.if-not-all_finite.true)) ∙ own (goal.at.returns-then-not-all_finite c).Else-refusal-ne0
+
+pub returns-then-word_at : goal.returns-then-word_at
+unfolding own_checks
+returns-then-word_at c =
+    turned_at 3 (Own (goal.at.returns-then-word_at c).Start) (passed_3 (goal.at.returns-then-word_at c).Else-not-all_finite)
+    (eq-eqb _ _ (sym c.word_at-3.ensures ∙ c.if-word_at.true ∙ c.word_at-4.ensures))
+    ∙ own (goal.at.returns-then-word_at c).Else-refusal-ne0
+
+pub returns : goal.returns
+unfolding own_checks
+returns c =
+    let t = passed_3 (goal.at.returns c).Else-not-all_finite in
+    none_turned (Own (goal.at.returns c).Start)
+    (t.0, (t.1.0, (t.1.1.0, (ne_eqb _ _ (λ e. c.if-word_at.false (c.word_at-3.ensures ∙ e ∙ sym c.word_at-4.ensures)), tt))))
+    ∙ own (goal.at.returns c).Else-refusal-ne0
