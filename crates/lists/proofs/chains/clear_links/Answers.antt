@@ -8,8 +8,7 @@ use lib.Seq.{length-take-le}
 use Rattle.basics.proofs.Members.{drop_min}
 use Rattle.lists.specs.Inside.Chains.{cleared_links}
 use borrow.Author.Rules.{rules}
-use Rattle.lists.proofs.chains.clear_links.Statement.{statement}
-use Rattle.lists.proofs.chains.clear_links.Tie as tie
+use Rattle.lists.proofs.chains.clear_links.Goals as goal
 
 cleared : (n end : ℕ) (links part : List ℕ) → end ≡ min (2 * n) (length links) → part ≡ replicate (length (take (end - 0) links)) 0
     → part ++ drop (end - 0) links ≡ cleared_links n links
@@ -18,16 +17,8 @@ cleared n end links part e p =
     let k : length (take (end - 0) links) ≡ min (2 * n) (length links) = length-take-le (end - 0) links (omega arith) ∙ z in
     ap₂ (λ (x : List ℕ) (y : List ℕ). x ++ y) (p ∙ ap (λ (i : ℕ). replicate i 0) k) (ap (λ (i : ℕ). drop i links) z ∙ drop_min (2 * n) links)
 
-returns : tie.Need-returns
+pub returns : goal.returns
 returns c =
-    let a = c.before.before.before.before.before.before.args in
-    let end = c.before.before.before.before.lesser in
-    cleared a.n end.result a.links.now c.before.before.clear-words.new.0 end.ensures c.before.before.clear-words.ensures
-
-pub clear-links-spec : {M : Type 1} → statement M
-clear-links-spec =
-    tie.close
-    (tie.spec
-    -- lesser, clear_words, part-clear-words-start, part-clear-words-end, lengths stay
-    (λ c. search rules) (λ c κs. search rules) (λ c. search rules) (λ c. search rules) (λ c. search rules) (λ c. search rules) (λ c κs. search rules)
-    (λ c. search rules) returns)
+    let a = c.args in
+    let end = c.lesser-end in
+    cleared a.n end.result a.links.now c.clear_words.new.s end.ensures c.clear_words.ensures

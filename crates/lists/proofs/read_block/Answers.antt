@@ -7,8 +7,7 @@ use native.Mathlib.Nat.{mul-le-mul}
 use lib.ListN.{length, take, drop, length-drop, drop_of_length-le}
 use lib.Seq.{take_all, take-nil}
 use borrow.Author.Rules.{rules}
-use Rattle.lists.proofs.read_block.Statement.{statement}
-use Rattle.lists.proofs.read_block.Tie as tie
+use Rattle.lists.proofs.read_block.Goals as goal
 
 small : (a b : ℕ) → a ≤ 4294967295 → b ≤ 4294967295 → a * b ≤ 4294967295 * 4294967295
 small a b h k = mul-le-mul h k
@@ -19,32 +18,25 @@ rest ws at size h =
     let long = length-drop at ws in
     take_all (length ws - at) (drop at ws) (omega arith) ∙ sym (take_all size (drop at ws) (omega arith))
 
-returns : tie.Need-returns
-returns c =
-    let a = c.before.before.args in
+pub returns-then-end-words : goal.returns-then-end-words
+returns-then-end-words c =
+    let a = c.args in
     let at : ℕ = a.i * a.stride in
     let size : at + a.stride - at ≡ a.stride = omega arith in
     ap (λ (k : ℕ). take k (drop at a.words.now)) size
 
-returns_2 : tie.Need-returns-2
-returns_2 c =
-    let a = c.before.before.before.args in
+pub returns-then-at-words : goal.returns-then-at-words
+returns-then-at-words c =
+    let a = c.args in
     rest a.words.now (a.i * a.stride) a.stride (omega arith)
 
-returns-3 : tie.Need-returns-3
-returns-3 c =
-    let a = c.before.before.before.args in
+pub returns : goal.returns
+returns c =
+    let a = c.args in
     sym (ap (take a.stride) (drop_of_length-le a.words.now {i = a.i * a.stride} (omega arith)) ∙ take-nil a.stride)
 
-pub read-block-spec : {M : Type 1} → statement M
-read-block-spec =
-    tie.close
-    (tie.spec
-    (λ c. omega (arith, small c.args.i c.args.stride (omega arith) (omega arith)))
-    (λ c. omega (arith, small c.args.i c.args.stride (omega arith) (omega arith)))
-    -- result, part-result-start, part-result-end
-    (λ c. search rules) (λ c. search rules) (λ c. search rules) (λ c. search rules) returns
-    -- result, part-result-start, part-result-end
-    (λ c. search rules) (λ c. search rules) (λ c. search rules) (λ c. search rules) returns_2
-    -- result, part-result-start, part-result-end
-    (λ c. search rules) (λ c. search rules) (λ c. search rules) (λ c. search rules) returns-3)
+pub overflow_mul-at : goal.overflow_mul-at
+overflow_mul-at c = omega (arith, small c.args.i c.args.stride (omega arith) (omega arith))
+
+pub overflow_add-end : goal.overflow_add-end
+overflow_add-end c = omega (arith, small c.args.i c.args.stride (omega arith) (omega arith))

@@ -9,24 +9,16 @@ use Rattle.lists.specs.Inside.Words.{block_at}
 use Rattle.lists.proofs.Reading.{block_word}
 use Rattle.lists.specs.Inside.Chains.{other_slot, other_end_at}
 use borrow.Author.Rules.{rules}
-use Rattle.lists.proofs.chains.other_end.Statement.{statement}
-use Rattle.lists.proofs.chains.other_end.Tie as tie
+use Rattle.lists.proofs.chains.other_end.Goals as goal
 
 other_word : (s : ℕ) (bridges : List ℕ) → word (block_at bridge_size (s / 2) bridges) (1 - s % 2) ≡ word bridges (other_slot s)
 other_word s bridges =
     let place : s / 2 * bridge_size + (1 - s % 2) ≡ other_slot s = omega arith in
     block_word bridge_size (s / 2) (1 - s % 2) bridges (omega arith) ∙ ap (word bridges) place
 
-returns : tie.Need-returns
+pub returns : goal.returns
 unfolding other_end_at
 returns c =
-    let ws = c.before.before.before.args.bridges.now in
-    let slot = c.before.before2 in
-    c.end_of_lem.ensures ∙ other_word slot.result ws ∙ ap (λ (s : ℕ). get_or ws (other_slot s) 0) slot.ensures
-
-pub other-end-spec : {M : Type 1} → statement M
-other-end-spec =
-    tie.close
-    (tie.spec
-    -- before, bridge, end_of
-    (λ c κs. search rules) (λ c. search rules) (λ c. search rules) (λ c κs. search rules) returns)
+    let ws = c.args.bridges.now in
+    let slot = c.before-slot in
+    c.end_of.ensures ∙ other_word slot.result ws ∙ ap (λ (s : ℕ). get_or ws (other_slot s) 0) slot.ensures
