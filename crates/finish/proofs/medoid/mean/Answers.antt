@@ -11,20 +11,17 @@ use Rattle.basics.specs.Sum.{+zero}
 use Rattle.def_graph.specs.Centroid.{row_sums_from, centroid_of}
 use Rattle.basics.proofs.Pieces.{length_pieces}
 use borrow.Author.Rules.{rules}
-use Rattle.finish.proofs.medoid.mean.Statement.{statement}
-use Rattle.finish.proofs.medoid.mean.Tie as tie
+use Rattle.finish.proofs.medoid.mean.Goals as goal
 
-sum-rows-requires : tie.Need-sum-rows-requires
-sum-rows-requires c κs =
-    let start = c.before.before.before.before.before.before.before in
-    subst (λ (d : ℕ). start.args.n * d ≤ length start.args.vectors.now)
-    (sym (ap length c.before.before.before.clear-floats.ensures ∙ length-replicate (length start.args.out.now) +zero)) start.requires.0
+pub sum_rows-requires : goal.sum_rows-requires
+sum_rows-requires c =
+    subst (λ (d : ℕ). c.args.n * d ≤ length c.args.vectors.now)
+    (sym (ap length c.clear_floats.ensures ∙ length-replicate (length c.args.out.now) +zero)) c.requires.0
 
-int-to-float-divide : tie.Need-int-to-float-divide
+pub int_to_float-n : goal.int_to_float-n
 unfolding in_float
-int-to-float-divide c =
-    let start = c.before.before.before.before.before.before.before.before.before.before.before.before in
-    le→leb start.args.n (2 ^ 24) start.requires.1
+int_to_float-n c =
+    le→leb c.args.n (2 ^ 24) c.requires.1
 
 -- the three steps, one after the other
 joined : (vectors out cleared summed divided : List Float) (n : ℕ) → cleared ≡ replicate (length out) +zero
@@ -39,22 +36,10 @@ joined vectors out cleared summed divided n a b c =
     ∙ ap (λ (k : ℕ). map (λ (x : Float). div binary32 x (of_int binary32 (pos k))) (row_sums_from binary32 (replicate (length out) +zero) (pieces (length out) n vectors)))
     (sym (length_pieces (length out) n vectors))
 
-returns : tie.Need-returns
+pub returns : goal.returns
 returns c =
-    let at-divide = c.before.before in
-    let at-sum-rows = at-divide.before.before.before.before.before in
-    let at-clear-floats = at-sum-rows.before.before.before.before in
-    let x = at-clear-floats.before.before.before.before.args in
+    let x = c.args in
     joined x.vectors.now x.out.now _ _ _ x.n
-    at-clear-floats.clear-floats.ensures
-    at-sum-rows.sum_rows.ensures
-    at-divide.divide.ensures
-
-pub mean-spec : {M : Type 1} → statement M
-mean-spec =
-    tie.close
-    (tie.spec
-    -- clear_floats
-    (λ c κs. search rules) sum-rows-requires int-to-float-divide
-    -- divide, lengths stay
-    (λ c κs. search rules) (λ c. search rules) returns)
+    c.clear_floats.ensures
+    c.sum_rows.ensures
+    c.divide.ensures

@@ -13,8 +13,7 @@ use Rattle.def_graph.specs.Medoid.{nearest_to, compute_medoid}
 use Rattle.finish.proofs.medoid.Rows.{fit}
 use native.Mathlib.Omega.{arith}
 use borrow.Author.Rules.{rules}
-use Rattle.finish.proofs.medoid.compute_medoid.Statement.{statement}
-use Rattle.finish.proofs.medoid.compute_medoid.Tie as tie
+use Rattle.finish.proofs.medoid.compute_medoid.Goals as goal
 
 no_rows : (d n : ℕ) (xs : List Float) → d ≡ 0 → 0 ≡ compute_medoid d (rows_in d n xs)
 unfolding compute_medoid nearest_to pieces
@@ -36,32 +35,19 @@ joined xs centroid₀ centroid n rows node c l r e =
     ∙ ap (λ (v : List Float). (nearest_to v (pieces d k xs) k).node) c
     ∙ ap (λ (j : ℕ). (nearest_to (centroid_of binary32 d (pieces d k xs)) (pieces d k xs) j).node) (sym (length_pieces d k xs))
 
-returns : tie.Need-returns
-returns c =
-    let x = c.before.before.before.before.before.before.before.args in
-    let l : length c.before.before.before.centroid.new.1.1.0 ≡ length x.centroid.now = c.before.before.before.centroid.auto.1.1.0 in
-    no_rows (length x.centroid.now) x.n x.vectors.now (sym l ∙ c.if1.true)
+pub returns-then-dimension-eq0 : goal.returns-then-dimension-eq0
+returns-then-dimension-eq0 c =
+    let x = c.args in
+    let l : length c.centroid.new.out ≡ length x.centroid.now = c.centroid.auto.out in
+    no_rows (length x.centroid.now) x.n x.vectors.now (sym l ∙ c.if-dimension-eq0.true)
 
-nearest-row-requires : tie.Need-nearest-row-requires
-nearest-row-requires c κs =
-    let rows = c.before.lesser in
+pub nearest_row-requires : goal.nearest_row-requires
+nearest_row-requires c =
+    let rows = c.lesser-rows in
     fit rows.result _ _ (omega (arith, rows.ensures))
 
-returns_2 : tie.Need-returns-2
-returns_2 c =
-    let at-lesser = c.before.before in
-    let at-centroid = at-lesser.before.before.before.before in
-    let x = at-centroid.before.before.before.before.args in
-    let mean = at-centroid.centroid in
-    joined x.vectors.now x.centroid.now _ x.n at-lesser.lesser.result _ mean.ensures mean.auto.1.1.0 at-lesser.lesser.ensures c.nearest-row.ensures
-
-pub compute-medoid-spec : {M : Type 1} → statement M
-compute-medoid-spec =
-    tie.close
-    (tie.spec
-    -- centroid, lengths stay
-    (λ c κs. search rules) (λ c. search rules) returns
-    -- lesser, nearest_row
-    (λ c. search rules) (λ c κs. search rules) (λ c. search rules) nearest-row-requires
-    -- lengths stay
-    (λ c. search rules) returns_2)
+pub returns : goal.returns
+returns c =
+    let x = c.args in
+    let mean = c.centroid in
+    joined x.vectors.now x.centroid.now _ x.n c.lesser-rows.result _ mean.ensures mean.auto.out c.lesser-rows.ensures c.nearest_row.ensures

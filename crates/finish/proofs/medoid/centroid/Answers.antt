@@ -10,8 +10,7 @@ use Rattle.finish.proofs.medoid.Rows.{fit}
 use Rattle.def_graph.specs.Centroid.{add_to, row_sums_from, centroid_of}
 use native.Mathlib.Omega.{arith}
 use borrow.Author.Rules.{rules}
-use Rattle.finish.proofs.medoid.centroid.Statement.{statement}
-use Rattle.finish.proofs.medoid.centroid.Tie as tie
+use Rattle.finish.proofs.medoid.centroid.Goals as goal
 
 -- where there are no components there is no sum
 no_sums : (vs : List (List Float)) → row_sums_from binary32 [] vs ≡ []
@@ -24,24 +23,17 @@ unfolding centroid_of
 nothing [] vs e = sym (ap (map (λ (s : Float). div binary32 s (of_int binary32 (pos (length vs))))) (no_sums vs))
 nothing (x ∷ out) vs e = absurd (omega arith)
 
-mean-requires : tie.Need-mean-requires
-mean-requires c κs =
-    let x = c.before.before.before.before.before.args in
-    let rows = c.before.lesser in
+pub mean-requires : goal.mean-requires
+mean-requires c =
+    let x = c.args in
+    let rows = c.lesser-rows in
     (fit rows.result (length x.out.now) (length x.vectors.now) (omega (arith, rows.ensures)), omega (arith, rows.ensures))
 
-returns_2 : tie.Need-returns-2
-returns_2 c =
-    let x = c.before.before.before.before.before.before.before.before.args in
-    c.before.before.mean.ensures
-    ∙ ap (λ (n : ℕ). centroid_of binary32 (length x.out.now) (pieces (length x.out.now) n x.vectors.now)) c.before.before.before.before.lesser.ensures
+pub returns : goal.returns
+returns c =
+    let x = c.args in
+    c.mean.ensures
+    ∙ ap (λ (n : ℕ). centroid_of binary32 (length x.out.now) (pieces (length x.out.now) n x.vectors.now)) c.lesser-rows.ensures
 
-pub centroid-spec : {M : Type 1} → statement M
-centroid-spec =
-    tie.close
-    (tie.spec
-    (λ c. nothing c.before.before.before.args.out.now _ c.if1.true)
-    -- lesser
-    (λ c. search rules) (λ c κs. search rules) mean-requires
-    -- lengths stay
-    (λ c. search rules) returns_2)
+pub returns-then-dimension-eq0 : goal.returns-then-dimension-eq0
+returns-then-dimension-eq0 c = nothing c.args.out.now _ c.if-dimension-eq0.true
