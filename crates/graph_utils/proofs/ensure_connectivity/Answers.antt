@@ -17,8 +17,7 @@ use Rattle.graph_utils.proofs.marking.Refining.{Marked}
 use Rattle.graph_utils.specs.Inside.Turns.{work}
 use Rattle.graph_utils.proofs.Refining.{all_repaired}
 use borrow.Author.Rules.{rules}
-use Rattle.graph_utils.proofs.ensure_connectivity.Statement.{statement}
-use Rattle.graph_utils.proofs.ensure_connectivity.Tie as tie
+use Rattle.graph_utils.proofs.ensure_connectivity.Goals as goal
 
 many_rows : (D : ℕ) (ws : List ℕ) → length (row_lists D ws) ≡ length ws / row_size D
 many_rows D ws = length-map (pieces (row_size D) (length ws / row_size D) ws) entries_in ∙ length_pieces (row_size D) (length ws / row_size D) ws
@@ -33,26 +32,16 @@ none_marked n h = record {
   below = λ x m. absurd (mathlib.Core.List.Memᴰ.not-nil m);
 }
 
-returns : tie.Need-returns
-returns c =
-    let a = c.before.before.before.before.before.args in
+pub returns-then-n-gt1024 : goal.returns-then-n-gt1024
+returns-then-n-gt1024 c =
+    let a = c.args in
     λ g. absurd (omega (arith, g.many, many_rows a.degree a.rows.now))
 
-returns_2 : tie.Need-returns-2
-returns_2 c =
-    let at-repair = c.before.before.before.before.before in
-    let a = at-repair.before.before.before.before.before.before.before.before.before.args in
-    let p = at-repair.repair in
+pub returns : goal.returns
+returns c =
+    let a = c.args in
+    let p = c.repair in
     let n : ℕ = length a.rows.now / row_size a.degree in
     λ g. all_repaired a.degree a.dimension a.rows.now a.entry.0 (vectors_in a.dimension a.vectors.now) a.bridges.now a.words.now g (replicate 2048 0)
     (none_marked (length (row_lists a.degree a.rows.now)) g.many) n (sym (many_rows a.degree a.rows.now))
-    (work p.result p.new.1.1.1.1.0 p.new.1.1.1.1.1.0 p.new.1.1.1.1.1.1.0) p.ensures
-
-pub ensure-connectivity-spec : {M : Type 1} → statement M
-ensure-connectivity-spec =
-    tie.close
-    (tie.spec
-    -- n
-    (λ c. search rules) (λ c. search rules) returns
-    -- repair, lengths stay
-    (λ c. search rules) (λ c. search rules) (λ c κs. search rules) (λ c. search rules) (λ c. search rules) returns_2)
+    (work p.result p.new.bridges p.new.links p.new.state) p.ensures
