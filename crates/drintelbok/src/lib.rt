@@ -1,5 +1,5 @@
-// The library behind C: every public call as a function over plain numbers and slices, for C and Rust to
-// link. `rt staticlib drintelbok` writes the archive; include/pipnn.h is its manual.
+// The library behind C: every public call as a function over plain numbers and slices. `drintelbok_c` exports
+// them for C and Rust to link; include/pipnn.h is their manual.
 //
 // Each function passes its arguments on and returns what it gets, so what a call does is said where it is
 // proved: `pipnn` (new, add), `build`, `search`, `recognise`, `household`, `store` (sizes). A caller has to
@@ -56,8 +56,7 @@ pub struct PipnnHousehold {
 }
 
 // How many words the word store has to have; 0 where a number is beyond its limits. So for the next three.
-#[unsafe(no_mangle)]
-pub extern "C" fn pipnn_words_size(capacity: u32, max_degree: u32) -> usize
+pub fn pipnn_words_size(capacity: u32, max_degree: u32) -> usize
     ensures { result ≡ words_needed capacity max_degree }
 {
     if params::capacity_within(capacity) & (max_degree <= params::MOST_DEGREE) {
@@ -66,8 +65,7 @@ pub extern "C" fn pipnn_words_size(capacity: u32, max_degree: u32) -> usize
     0
 }
 
-#[unsafe(no_mangle)]
-pub extern "C" fn pipnn_floats_size(capacity: u32, dimension: u32) -> usize
+pub fn pipnn_floats_size(capacity: u32, dimension: u32) -> usize
     ensures { result ≡ floats_needed capacity dimension }
 {
     if params::capacity_within(capacity) & params::dimension_within(dimension) {
@@ -76,8 +74,7 @@ pub extern "C" fn pipnn_floats_size(capacity: u32, dimension: u32) -> usize
     0
 }
 
-#[unsafe(no_mangle)]
-pub extern "C" fn pipnn_scratch_words(capacity: u32) -> usize
+pub fn pipnn_scratch_words(capacity: u32) -> usize
     ensures { result ≡ scratch_words_needed capacity }
 {
     if params::capacity_within(capacity) {
@@ -86,8 +83,7 @@ pub extern "C" fn pipnn_scratch_words(capacity: u32) -> usize
     0
 }
 
-#[unsafe(no_mangle)]
-pub extern "C" fn pipnn_scratch_floats(capacity: u32) -> usize
+pub fn pipnn_scratch_floats(capacity: u32) -> usize
     ensures { result ≡ scratch_floats_needed capacity }
 {
     if params::capacity_within(capacity) {
@@ -97,8 +93,7 @@ pub extern "C" fn pipnn_scratch_floats(capacity: u32) -> usize
 }
 
 // `new`. A final_prune that is neither 0 nor 1 is a parameter beyond its limits.
-#[unsafe(no_mangle)]
-pub extern "C" fn pipnn_new(
+pub fn pipnn_new(
     words: &mut [u32],
     floats: &mut [f32],
     dimension: u32,
@@ -133,15 +128,13 @@ pub extern "C" fn pipnn_new(
     pipnn::new(words, floats, dimension, p, capacity)
 }
 
-#[unsafe(no_mangle)]
-pub extern "C" fn pipnn_add(words: &mut [u32], floats: &mut [f32], doc: u32, vector: &[f32]) -> u32
+pub fn pipnn_add(words: &mut [u32], floats: &mut [f32], doc: u32, vector: &[f32]) -> u32
     ensures { (result, words.new, floats.new) ≡ add_spec words.old floats.old doc vector.now }
 {
     pipnn::add_slice(words, floats, DocId(doc), vector)
 }
 
-#[unsafe(no_mangle)]
-pub extern "C" fn pipnn_build(
+pub fn pipnn_build(
     words: &mut [u32],
     floats: &[f32],
     scratch_words: &mut [u32],
@@ -154,8 +147,7 @@ pub extern "C" fn pipnn_build(
     build::build(words, floats, scratch_words, scratch_floats)
 }
 
-#[unsafe(no_mangle)]
-pub extern "C" fn pipnn_search_with_ef(
+pub fn pipnn_search_with_ef(
     words: &[u32],
     floats: &[f32],
     query: &[f32],
@@ -189,8 +181,7 @@ pub extern "C" fn pipnn_search_with_ef(
 }
 
 // With the store's ef_search.
-#[unsafe(no_mangle)]
-pub extern "C" fn pipnn_search(
+pub fn pipnn_search(
     words: &[u32],
     floats: &[f32],
     query: &[f32],
@@ -221,8 +212,7 @@ pub extern "C" fn pipnn_search(
     }
 }
 
-#[unsafe(no_mangle)]
-pub extern "C" fn pipnn_recognise(
+pub fn pipnn_recognise(
     words: &[u32],
     floats: &[f32],
     query: &[f32],
@@ -266,8 +256,7 @@ pub extern "C" fn pipnn_recognise(
     }
 }
 
-#[unsafe(no_mangle)]
-pub extern "C" fn pipnn_household_count(day: u64, seconds: &[u64], docs: &[u32]) -> PipnnHousehold
+pub fn pipnn_household_count(day: u64, seconds: &[u64], docs: &[u32]) -> PipnnHousehold
     ensures { result ≡ counted_as (household_of day seconds.now docs.now) }
 {
     let counted = household::household_count(day, seconds, docs);
