@@ -1,0 +1,14 @@
+-- The invariant: of each of the eight sums, what is left from it on is the whole sum with its plane; component i stands at 8 · i. The measure is
+-- what is left of the residual. Assumes nothing.
+use mathlib.Core.Path.{◌≡◌}
+use Prim.Native.Nat.{◌*◌, ◌-◌, ◌≤◌}
+use lib.ListN.{length}
+use Rattle.simhash.proofs.Sums.{Left}
+use Rattle.simhash.proofs.hash_block_within.Given as goal
+
+abbrev pub invariant-loop-i : goal.invariant-loop-i
+invariant-loop-i l =
+    (l.i ≤ length l.initial.r) × (l.at ≡ 8 * l.i) × Left l.initial.r l.initial.block 0 l.sum_a l.i × Left l.initial.r l.initial.block 1 l.sum_b l.i × Left l.initial.r l.initial.block 2 l.sum_c l.i × Left l.initial.r l.initial.block 3 l.sum_d l.i × Left l.initial.r l.initial.block 4 l.sum_e l.i × Left l.initial.r l.initial.block 5 l.sum_f l.i × Left l.initial.r l.initial.block 6 l.sum_g l.i × Left l.initial.r l.initial.block 7 l.sum_h l.i
+
+abbrev pub decreases-loop-i : goal.decreases-loop-i
+decreases-loop-i l = length l.initial.r - l.i
