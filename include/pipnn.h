@@ -1,6 +1,6 @@
 /* Drintelbok: which phone is this? A nearest-neighbour index for home gateways, over memory that the caller passes in.
  *
- * This header is the manual of the static library libdrintelbok.a ('rt staticlib drintelbok' writes it to
+ * This header is the manual of the static library libdrintelbok.a ('bindings/archive' writes it to
  * target/staticlib). It is for Linux on any 64-bit Intel or AMD processor (x86-64): its code uses SSE2, which all of them
  * have, and no AVX. A program links the archive and a C library, of which it calls memcpy and memset alone. Every function
  * is proved, for every input, to end, to stay within the memory that is passed in and to do exactly what crates/drintelbok

@@ -202,10 +202,12 @@ class File:
             return self.rust_path(word)
         if "." in word and not word.startswith("."):
             first, rest = word.split(".", 1)
-            if word.startswith("Rattle·"):
+            if first == "Rattle":
                 return canonical(word)
             if first in self.aliases:
                 return canonical(f"{self.aliases[first]}.{rest}")
+            # a projection of a definition, as `usual.factor`
+            return self.imports.get(first) or self.own.get(first)
         return None
 
 
@@ -218,12 +220,12 @@ def module_of(path):
 
 
 def canonical(path):
-    """The full name of what `use` calls Rattle·a.specs.B.c, Rattle·a·specs.specs.B.c or Rattle·a.specs.declared.T.c."""
-    path = re.sub(r"^Rattle·(\w+?)(?:·specs|·proofs)?(?=\.|$)", r"\1", path.replace("«", "").replace("»", ""))
+    """The full name of what `use` calls Rattle.a.specs.B.c or Rattle.a.specs.declared.T.c."""
+    path = re.sub(r"^Rattle\.(?=\w)", "", path.replace("«", "").replace("»", ""))
     declared = re.match(r"(\w+)\.specs\.declared\.(.*)", path)
     if not declared:
         return path
-    inner = [x for x in declared[2].split(".") if x != "the-variants"]
+    inner = [x for x in declared[2].split(".") if x != "TheVariants"]
     if len(inner) > 1 and inner[-1] == inner[-2]:
         inner.pop()
     return ".".join([declared[1], "src"] + inner)
@@ -231,7 +233,7 @@ def canonical(path):
 
 def parts(name):
     """The words that a name is written by: an operator's parts too."""
-    return [name] + ([x for x in name.split("_") if x] if "_" in name and name != "_" and not re.fullmatch(r"\w+", name) else [])
+    return [name] + ([x for x in name.split("◌") if x] if "◌" in name else [])
 
 
 def indentation(lines):
@@ -512,10 +514,10 @@ def closure(sources, roots, words_of=lambda d: d.words):
 class Renames:
     """docs/renames.txt: what was renamed or moved, oldest first.
 
-        Rattle·a Rattle·b::a                          crate a is the module a of crate b; its specs lie beside b's
-        Rattle·a.specs.X Rattle·b.specs.Y             a file moved; so for one declaration, Rattle·a.specs.X.name
+        Rattle.a Rattle.b::a                          crate a is the module a of crate b; its specs lie beside b's
+        Rattle.a.specs.X Rattle.b.specs.Y             a file moved; so for one declaration, Rattle.a.specs.X.name
         old new                                       a name, wherever it stands: a field, a variable, a function
-        proved-by Rattle·a.specs.X.name FILE          the text changed by more than names; FILE proves it equivalent
+        proved-by Rattle.a.specs.X.name FILE          the text changed by more than names; FILE proves it equivalent
     """
 
     def __init__(self, text=""):
@@ -528,7 +530,7 @@ class Renames:
                 self.proved[canonical(words[1])] = words[2]
             elif len(words) != 2:
                 raise Unreadable(f"{RENAMES}:{number}: '{line}'")
-            elif words[0].startswith("Rattle·"):
+            elif words[0].startswith("Rattle."):
                 self.add_path(*words)
             else:
                 self.names.setdefault(words[0].strip("«»"), set()).add(words[1].strip("«»"))

@@ -1,4 +1,4 @@
-//! Links libdrintelbok.a: from the folder that the variable DRINTELBOK_LIB_DIR names, or from where `rt staticlib drintelbok` puts it in
+//! Links libdrintelbok.a: from the folder that the variable DRINTELBOK_LIB_DIR names, or from where `bindings/archive` puts it in
 //! this repository. A relative folder starts where cargo is run. What is missing is said before the linker is asked.
 use std::path::{Path, PathBuf};
 use std::{env, fs, process};
@@ -32,7 +32,7 @@ fn link() -> Result<(), String> {
     println!("cargo:rerun-if-changed={}", archive.display());
     let bytes = fs::read(&archive).map_err(|why| {
         format!(
-            "cannot read {} ({why}): run 'rt staticlib drintelbok' in the repository, or set {VARIABLE} to the folder that has it",
+            "cannot read {} ({why}): run 'bindings/archive' in the repository, or set {VARIABLE} to the folder that has it",
             archive.display()
         )
     })?;

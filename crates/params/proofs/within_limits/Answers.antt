@@ -1,6 +1,5 @@
 -- `params::within_limits` meets its contract: the tests are the definition's, in its order. Assumes nothing.
 use lib.Ieee.{of_bits}
-use borrow.Author.Rules.{rules}
 use Rattle.params.specs.Limits.{within_limits}
 use Rattle.params.proofs.within_limits.Goals as goal
 

@@ -7,7 +7,6 @@ use lib.Ieee.{binary32}
 use Rattle.basics.specs.Sum.{sum_of}
 use Rattle.basics.proofs.Sums.{products-take}
 use Rattle.simd.specs.Dot.{dot_of}
-use borrow.Author.Rules.{rules}
 use Rattle.simd.proofs.dot.Goals as goal
 
 pub slice_bounds-dot_within-end : goal.slice_bounds-dot_within-end

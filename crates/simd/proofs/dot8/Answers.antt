@@ -1,7 +1,6 @@
 -- The joined test says that no row is shorter than the query; otherwise eight single sums are the definition itself. Assumes nothing.
 use borrow.Author.Tests.{leb-true}
 use Rattle.simd.proofs.Tests.{eight_true}
-use borrow.Author.Rules.{rules}
 use Rattle.simd.proofs.dot8.Goals as goal
 
 pub dot8_within-requires : goal.dot8_within-requires

@@ -1,15 +1,12 @@
 -- The invariant: of each of the eight sums, what is left from it on is what was left at the start. The measure is what is left of the query.
 -- Assumes nothing.
-use borrow.Author.Rules.{rules}
-use native.Mathlib.Omega.{arith}
-use mathlib.Core.Path.{refl}
 use mathlib.Core.List.{List}
-use Prim.Native.Nat.{◌-◌, ◌≤◌, ◌<◌}
+use Prim.Native.Nat.{◌-◌, ◌≤◌}
 use lib.ListN.{length, drop}
 use lib.Ieee.{Float, binary32}
 use Rattle.basics.specs.Sum.{sum_from, products}
 use Rattle.simd.specs.Inside.Eight.{fours}
-use Rattle.simd.proofs.Left.{Rest, left_step, left_end}
+use Rattle.simd.proofs.Left.{Rest}
 use Rattle.simd.proofs.dot8_rest.Given as goal
 
 -- the sum that a row's last components make of what its sum was before

@@ -1,12 +1,8 @@
 -- The invariant: of each of the eight sums, what is left from it on is the whole dot. The measure is what is left of the query. Assumes nothing.
-use borrow.Author.Rules.{rules}
-use native.Mathlib.Omega.{arith}
-use mathlib.Core.Path.{◌≡◌, refl, subst, ◌∙◌}
-use Prim.Native.Nat.{◌+◌, ◌-◌, ◌%◌, ◌≤◌}
+use mathlib.Core.Path.{◌≡◌}
+use Prim.Native.Nat.{◌-◌, ◌%◌, ◌≤◌}
 use lib.ListN.{length}
-use lib.Ieee.{of_bits}
-use Rattle.simd.specs.Inside.Eight.{fours}
-use Rattle.simd.proofs.Left.{Left, left_start, left_four}
+use Rattle.simd.proofs.Left.{Left}
 use Rattle.simd.proofs.dot8_within.Given as goal
 
 abbrev pub invariant-loop-i : goal.invariant-loop-i

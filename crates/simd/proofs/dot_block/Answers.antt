@@ -11,7 +11,6 @@ use Rattle.basics.proofs.Sums.{products-take}
 use Rattle.simd.specs.Dot.{dot_of}
 use Rattle.simd.specs.Inside.Eight.{row_in}
 use Rattle.simd.proofs.Lanes.{length_lane}
-use borrow.Author.Rules.{rules}
 use Rattle.simd.proofs.dot_block.Goals as goal
 
 cut : (q block : List Float) (j : ℕ) → dot_of binary32 (take (length block / 8) q) (row_in block j) ≡ dot_of binary32 q (row_in block j)

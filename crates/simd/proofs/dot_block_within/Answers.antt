@@ -1,13 +1,11 @@
 -- The invariant: of each of the eight sums, what is left from it on is the whole dot with its row; component i stands at 8 · i. The measure is
 -- what is left of the query. Assumes nothing.
-use borrow.Author.Rules.{rules}
 use native.Mathlib.Omega.{arith}
-use mathlib.Core.Path.{◌≡◌}
-use Prim.Native.Nat.{◌*◌, ◌-◌, ◌+◌, ◌≤◌, ◌<◌}
+use Prim.Native.Nat.{◌+◌, ◌≤◌, ◌<◌}
 use lib.ListN.{length}
 use lib.Ieee.{of_bits}
 use Rattle.simd.specs.Inside.Eight.{row_in}
-use Rattle.simd.proofs.Left.{Left, left_start, left_end}
+use Rattle.simd.proofs.Left.{left_start, left_end}
 use Rattle.simd.proofs.Lanes.{block_step}
 use Rattle.simd.proofs.dot_block_within.Goals as goal
 

@@ -1,10 +1,7 @@
 -- The invariant: what is left of the sum from `sum` on is the whole dot. The measure is what is left of `a`. Assumes nothing.
-use borrow.Author.Rules.{rules}
 use Prim.Native.Nat.{◌-◌, ◌≤◌}
 use lib.ListN.{length}
-use lib.Ieee.{of_bits}
-use Rattle.simd.proofs.Left.{Left, left_start, left_step, left_end}
-use native.Mathlib.Omega.{arith}
+use Rattle.simd.proofs.Left.{Left}
 use Rattle.simd.proofs.dot_within.Given as goal
 
 abbrev pub invariant-loop-i : goal.invariant-loop-i

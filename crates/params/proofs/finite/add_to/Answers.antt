@@ -1,8 +1,6 @@
 -- `finite::add_to` meets its contract: the first k sums have their components. Assumes nothing.
-use Prim.Native.Nat.{◌-◌}
 use native.Mathlib.Omega.{arith}
-use borrow.Author.Rules.{rules}
-use Rattle.params.proofs.finite.Sums.{Adding, adding_none, adding_more}
+use Rattle.params.proofs.finite.Sums.{adding_none, adding_more}
 use Rattle.params.proofs.finite.add_to.Goals as goal
 
 pub bounds-sums-k : goal.bounds-sums-k

@@ -1,12 +1,7 @@
 -- `finite::each_finite` meets its contract: what is gathered so far, and the components left, make the whole test. Assumes nothing.
-use mathlib.Core.Path.{◌≡◌}
-use mathlib.Core.Bool.{◌&&◌}
-use Prim.Native.Nat.{◌-◌, ◌≤◌}
 use native.Mathlib.Omega.{arith}
-use lib.ListN.{length, drop}
 use lib.Ieee.{nan}
 use lib.Ieee.Scale.{finite}
-use borrow.Author.Rules.{rules}
 use Rattle.basics.specs.Lists.{every}
 use Rattle.basics.proofs.Every.{gather_step, gather_end}
 use Rattle.params.proofs.finite.each_finite.Goals as goal

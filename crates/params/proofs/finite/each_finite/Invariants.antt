@@ -2,13 +2,9 @@
 use mathlib.Core.Path.{◌≡◌}
 use mathlib.Core.Bool.{◌&&◌}
 use Prim.Native.Nat.{◌-◌, ◌≤◌}
-use native.Mathlib.Omega.{arith}
 use lib.ListN.{length, drop}
-use lib.Ieee.{nan}
 use lib.Ieee.Scale.{finite}
-use borrow.Author.Rules.{rules}
 use Rattle.basics.specs.Lists.{every}
-use Rattle.basics.proofs.Every.{gather_step, gather_end}
 use Rattle.params.proofs.finite.each_finite.Given as goal
 
 abbrev pub invariant-loop-i : goal.invariant-loop-i

@@ -1,12 +1,7 @@
 -- `finite::sum_of` meets its contract: a sum so far that is finite is of finite components. Assumes nothing.
 use Prim.Native.Nat.{◌-◌, ◌≤◌}
-use native.Mathlib.Omega.{arith}
 use lib.ListN.{length}
-use lib.Ieee.{nan}
-use lib.Ieee.Scale.{finite}
-use borrow.Author.Rules.{rules}
-use Rattle.basics.proofs.Pieces.{every_of}
-use Rattle.params.proofs.finite.Sums.{Told, told_more}
+use Rattle.params.proofs.finite.Sums.{Told}
 use Rattle.params.proofs.finite.sum_of.Given as goal
 
 abbrev pub invariant-loop-i : goal.invariant-loop-i

@@ -1,5 +1,5 @@
 -- The invariant: the first k numbers stand at the front, what was there follows. The measure is what is left of n. Assumes nothing.
-use Rattle.std.proofs.Common.{◌≡◌, ℕ, zero, suc, ◌+◌, ◌-◌, ◌<◌, ◌≤◌, min, List, [], ◌∷◌, ◌++◌, length, get_or, drop, set, sym, refl, ap, ◌∙◌, add-one, arith, length-append, length-set, rules}
+use Rattle.std.proofs.Common.{◌≡◌, ℕ, zero, suc, ◌+◌, ◌<◌, min, List, [], ◌∷◌, ◌++◌, length, get_or, drop, set, sym, refl, ap, ◌∙◌, add-one, arith, length-append, length-set}
 use lib.Ieee.{Float, binary32, of_bits}
 use Rattle.basics.proofs.Loops.{front_set}
 use Rattle.random.specs.Hyperplanes.{plane_number, plane_numbers}

@@ -1,10 +1,7 @@
 -- The invariant: the first k numbers stand at the front, what was there follows. The measure is what is left of n. Assumes nothing.
-use Rattle.std.proofs.Common.{◌≡◌, ℕ, zero, suc, ◌+◌, ◌-◌, ◌<◌, ◌≤◌, min, List, [], ◌∷◌, ◌++◌, length, get_or, drop, set, sym, refl, ap, ◌∙◌, add-one, arith, length-append, length-set, rules}
-use lib.Ieee.{Float, binary32, of_bits}
-use Rattle.basics.proofs.Loops.{front_set}
-use Rattle.random.specs.Hyperplanes.{plane_number, plane_numbers}
-use Rattle.random.proofs.hyperplanes.Stream.{read}
-use Rattle.random.proofs.hyperplanes.Table.{table, rule}
+use Rattle.std.proofs.Common.{◌≡◌, ◌-◌, ◌≤◌, ◌++◌, length, drop}
+use lib.Ieee.{binary32}
+use Rattle.random.specs.Hyperplanes.{plane_numbers}
 use Rattle.random.proofs.hyperplanes.planes_into.Given as goal
 
 abbrev pub invariant-loop-k : goal.invariant-loop-k

@@ -1,5 +1,5 @@
 -- The product is reduced before the addend is added, which the sum's own reduction makes no difference to. Assumes nothing.
-use Rattle.std.proofs.Common.{ℕ, ◌+◌, ◌*◌, ◌%◌, ◌^◌, ap, ◌∙◌, rules}
+use Rattle.std.proofs.Common.{ℕ, ◌+◌, ◌*◌, ◌%◌, ◌^◌, ap, ◌∙◌}
 use native.Mathlib.Nat.{mod-add-mod}
 use Rattle.random.specs.Lcg.{next_of}
 use Rattle.random.proofs.lcg.next.Goals as goal

@@ -1,6 +1,6 @@
 -- The low halves are masked, the high ones shifted down; with both in base 2^32 the law `halves` says that the steps, each taken modulo 2^64,
 -- make the product. The three products of halves fit, by `below`. Assumes nothing.
-use Rattle.std.proofs.Common.{◌≡◌, ℕ, ◌+◌, ◌*◌, ◌/◌, ◌%◌, ◌^◌, ◌<◌, ap, ◌∙◌, shr_lt, w64, Fits, rules}
+use Rattle.std.proofs.Common.{◌≡◌, ℕ, ◌+◌, ◌*◌, ◌/◌, ◌%◌, ◌^◌, ◌<◌, ap, ◌∙◌, shr_lt, w64, Fits}
 use lib.Pow.{split}
 use lib.Bits.{bit_and, and_mask, mask_lt}
 use mir.Facts.{Fits-bits}

@@ -1,5 +1,5 @@
 -- The part that is passed on is as long as the lesser of n and the room. Assumes nothing.
-use Rattle.std.proofs.Common.{ℕ, List, ◌++◌, drop, sym, ap, ◌∙◌, ap₂, arith, length-take, length-take-le, rules}
+use Rattle.std.proofs.Common.{ℕ, List, ◌++◌, drop, sym, ap, ◌∙◌, ap₂, arith, length-take, length-take-le}
 use Rattle.random.specs.Leaders.{up_to}
 use Rattle.random.proofs.leaders.all_positions.Goals as goal
 

@@ -1,5 +1,5 @@
 -- The invariant: the first i positions stand at the front, what was there follows. The measure is what is left. Assumes nothing.
-use Rattle.std.proofs.Common.{◌≡◌, ℕ, ◌+◌, ◌-◌, ◌<◌, ◌≤◌, List, ◌++◌, length, drop, set, sym, refl, ap, ◌∙◌, append-nil, add-one, arith, length-set, rules}
+use Rattle.std.proofs.Common.{◌≡◌, ℕ, ◌+◌, ◌<◌, List, ◌++◌, length, drop, set, sym, refl, ap, ◌∙◌, append-nil, add-one, arith, length-set}
 use lib.Seq.{drop-length}
 use Rattle.basics.proofs.Loops.{front_set}
 use Rattle.random.specs.Leaders.{up_to}

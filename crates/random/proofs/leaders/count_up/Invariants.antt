@@ -1,9 +1,6 @@
 -- The invariant: the first i positions stand at the front, what was there follows. The measure is what is left. Assumes nothing.
-use Rattle.std.proofs.Common.{◌≡◌, ℕ, ◌+◌, ◌-◌, ◌<◌, ◌≤◌, List, ◌++◌, length, drop, set, sym, refl, ap, ◌∙◌, append-nil, add-one, arith, length-set, rules}
-use lib.Seq.{drop-length}
-use Rattle.basics.proofs.Loops.{front_set}
+use Rattle.std.proofs.Common.{◌≡◌, ◌-◌, ◌≤◌, ◌++◌, length, drop}
 use Rattle.random.specs.Leaders.{up_to}
-use Rattle.random.proofs.leaders.Draws.{length-up_to}
 use Rattle.random.proofs.leaders.count_up.Given as goal
 
 abbrev pub invariant-loop-i : goal.invariant-loop-i

@@ -1,7 +1,7 @@
 -- The invariant is `Drawing`; the measure is how many are left to draw. A position is below those left, being a remainder by their number.
 -- Assumes nothing.
 use Rattle.std.proofs.Common.{◌-◌, ◌/◌, ◌%◌, ◌<◌, length, mod-lt, arith, rules}
-use Rattle.random.proofs.leaders.Draws.{Drawing, drawing_none, drawing_turn, drawing_done}
+use Rattle.random.proofs.leaders.Draws.{drawing_none, drawing_turn, drawing_done}
 use Rattle.random.proofs.leaders.draw.Goals as goal
 use Rattle.random.proofs.leaders.draw.Goals.{After-next_draw-r}
 

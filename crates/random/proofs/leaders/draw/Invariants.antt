@@ -1,7 +1,7 @@
 -- The invariant is `Drawing`; the measure is how many are left to draw. A position is below those left, being a remainder by their number.
 -- Assumes nothing.
-use Rattle.std.proofs.Common.{◌-◌, ◌/◌, ◌%◌, ◌<◌, length, mod-lt, arith, rules}
-use Rattle.random.proofs.leaders.Draws.{Drawing, drawing_none, drawing_turn, drawing_done}
+use Rattle.std.proofs.Common.{◌-◌}
+use Rattle.random.proofs.leaders.Draws.{Drawing}
 use Rattle.random.proofs.leaders.draw.Given as goal
 
 abbrev pub invariant-loop-i : goal.invariant-loop-i

@@ -1,5 +1,5 @@
 -- The part that is passed on is as long as the lesser of n and the room. Assumes nothing.
-use Rattle.std.proofs.Common.{ℕ, sym, ap, ◌∙◌, arith, length-take, length-take-le, rules}
+use Rattle.std.proofs.Common.{ℕ, sym, ap, ◌∙◌, arith, length-take, length-take-le}
 use Rattle.random.specs.Leaders.{drawn_into}
 use Rattle.random.proofs.leaders.draw_leaders.Goals as goal
 

@@ -1,5 +1,5 @@
 -- After `count_up` those left are all positions, and the start does not reach 2^64 from a level of 32 bits. Assumes nothing.
-use Rattle.std.proofs.Common.{◌≡◌, ℕ, ◌+◌, ◌*◌, ◌^◌, ◌<◌, min, List, ◌++◌, length, drop, sym, refl, ap, ◌∙◌, mod-eq_of_lt, arith, rules}
+use Rattle.std.proofs.Common.{◌≡◌, ℕ, ◌+◌, ◌*◌, ◌^◌, ◌<◌, min, List, ◌++◌, length, drop, sym, refl, ap, ◌∙◌, mod-eq_of_lt, arith}
 use Rattle.random.specs.Leaders.{draw_start, drawn, drawn_into, up_to}
 use Rattle.random.proofs.leaders.Draws.{length-up_to}
 use Rattle.random.proofs.leaders.draw_segment.Goals as goal

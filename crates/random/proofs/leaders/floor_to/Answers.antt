@@ -1,5 +1,5 @@
 -- The three ranges of x: below −1 or no number, up to 2^64, and from there on, where the whole part is held to the last number. Assumes nothing.
-use Rattle.std.proofs.Common.{◌≡◌, ◌+◌, ◌-◌, ◌*◌, ◌/◌, ◌^◌, ◌≤◌, true, false, T, pos, sym, refl, subst, le-div_iff_mul-le, arith, rules, ltb-false}
+use Rattle.std.proofs.Common.{◌≡◌, ◌+◌, ◌-◌, ◌*◌, ◌/◌, ◌^◌, ◌≤◌, true, false, T, pos, sym, refl, subst, le-div_iff_mul-le, arith, ltb-false}
 use lib.Ieee.{Float, nan, inf, fin, up, down, lt, neg, of_bits, to_unsigned}
 use lib.Ieee.Fits.{down_pos}
 use Rattle.random.proofs.leaders.floor_to.Goals as goal

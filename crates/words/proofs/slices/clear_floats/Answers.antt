@@ -1,11 +1,10 @@
 -- `slices::clear_floats` meets its contract: so far the first i are zero, and the rest is what it was. Assumes nothing.
 use mathlib.Core.Path.{◌≡◌, refl, ap, ◌∙◌}
-use Prim.Native.Nat.{◌-◌, ◌≤◌}
 use native.Mathlib.Omega.{arith}
 use lib.ListN.{length}
 use lib.Ieee.{of_bits}
 use Rattle.basics.specs.Sum.{+zero}
-use Rattle.words.proofs.slices.Laws.{filled, filled_more, filled_length, filled_end}
+use Rattle.words.proofs.slices.Laws.{filled_more, filled_length, filled_end}
 use Rattle.words.proofs.slices.clear_floats.Goals as goal
 use Rattle.words.proofs.slices.clear_floats.Goals.{At-loop-i}
 

@@ -1,11 +1,9 @@
 -- `slices::clear_floats` meets its contract: so far the first i are zero, and the rest is what it was. Assumes nothing.
-use mathlib.Core.Path.{◌≡◌, refl, ap, ◌∙◌}
+use mathlib.Core.Path.{◌≡◌}
 use Prim.Native.Nat.{◌-◌, ◌≤◌}
-use native.Mathlib.Omega.{arith}
 use lib.ListN.{length}
-use lib.Ieee.{of_bits}
 use Rattle.basics.specs.Sum.{+zero}
-use Rattle.words.proofs.slices.Laws.{filled, filled_more, filled_length, filled_end}
+use Rattle.words.proofs.slices.Laws.{filled}
 use Rattle.words.proofs.slices.clear_floats.Given as goal
 
 abbrev pub invariant-loop-i : goal.invariant-loop-i

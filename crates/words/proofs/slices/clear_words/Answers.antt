@@ -1,9 +1,9 @@
 -- `slices::clear_words` meets its contract: so far the first i are zero, and the rest is what it was. Assumes nothing.
 use mathlib.Core.Path.{◌≡◌, refl, ap, ◌∙◌}
-use Prim.Native.Nat.{ℕ, ◌-◌, ◌≤◌}
+use Prim.Native.Nat.{ℕ}
 use native.Mathlib.Omega.{arith}
 use lib.ListN.{length}
-use Rattle.words.proofs.slices.Laws.{filled, filled_more, filled_length, filled_end}
+use Rattle.words.proofs.slices.Laws.{filled_more, filled_length, filled_end}
 use Rattle.words.proofs.slices.clear_words.Goals as goal
 use Rattle.words.proofs.slices.clear_words.Goals.{At-loop-i}
 

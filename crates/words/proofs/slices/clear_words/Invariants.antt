@@ -1,9 +1,8 @@
 -- `slices::clear_words` meets its contract: so far the first i are zero, and the rest is what it was. Assumes nothing.
-use mathlib.Core.Path.{◌≡◌, refl, ap, ◌∙◌}
+use mathlib.Core.Path.{◌≡◌}
 use Prim.Native.Nat.{ℕ, ◌-◌, ◌≤◌}
-use native.Mathlib.Omega.{arith}
 use lib.ListN.{length}
-use Rattle.words.proofs.slices.Laws.{filled, filled_more, filled_length, filled_end}
+use Rattle.words.proofs.slices.Laws.{filled}
 use Rattle.words.proofs.slices.clear_words.Given as goal
 
 abbrev pub invariant-loop-i : goal.invariant-loop-i

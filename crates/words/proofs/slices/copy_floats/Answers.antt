@@ -1,10 +1,8 @@
 -- `slices::copy_floats` meets its contract: so far the first i are copied, and the rest is what it was. Assumes nothing.
 use mathlib.Core.Path.{refl}
-use Prim.Native.Nat.{◌-◌}
 use native.Mathlib.Omega.{arith}
-use lib.ListN.{length}
 use lib.Ieee.{nan}
-use Rattle.words.proofs.slices.Laws.{Copying, copying_length, copying_both, copying_more, copying_end}
+use Rattle.words.proofs.slices.Laws.{copying_length, copying_both, copying_more, copying_end}
 use Rattle.words.proofs.slices.copy_floats.Goals as goal
 
 pub loop-i-smaller : goal.loop-i-smaller

@@ -1,9 +1,7 @@
 -- `slices::copy_words` meets its contract: so far the first i are copied, and the rest is what it was. Assumes nothing.
-use mathlib.Core.Path.{refl}
 use Prim.Native.Nat.{◌-◌}
-use native.Mathlib.Omega.{arith}
 use lib.ListN.{length}
-use Rattle.words.proofs.slices.Laws.{Copying, copying_length, copying_both, copying_more, copying_end}
+use Rattle.words.proofs.slices.Laws.{Copying}
 use Rattle.words.proofs.slices.copy_words.Given as goal
 
 abbrev pub invariant-loop-i : goal.invariant-loop-i
