@@ -3,14 +3,14 @@
 
     declarations.py          in the repository, from any folder
 
-The source is crates/drintelbok/src/lib.rt: its functions marked `pub extern "C"` and its `#[repr(C)]` structs. They are declared in
-include/pipnn.h and in bindings/rust/src/sys.rs. Every function must be in all three, with the same parameters in the same order, of
+The source is crates/drintelbok_c/src/lib.rt, its functions marked `pub extern "C"`, and crates/drintelbok/src/lib.rt, its `#[repr(C)]`
+structs. They are declared in include/pipnn.h and in bindings/rust/src/sys.rs. Every function must be in all three, with the same parameters in the same order, of
 the same names and types, and the same result; every struct with the same fields. A slice x of the source is a pointer x and a length
 x_length. Names of structs are snake case in C; a struct has at most seven fields, of 32 bits each (docs/DECISIONS.md, 51). Refusals have their names and numbers in crates/error, for code and for definitions:
 header and Rust must have the same, and every check of a definition one of these names. Limits are compared with the library's constants.
 The header's formulas for sizes, in its macros and in its text, must have the values of the definitions in crates/store.
 
-Then it tries edits of these files, one at a time and in memory, and fails if one goes unnoticed; so too with three small texts of its
+Then it tries edits of these files, one at a time and in memory, and fails if one goes unnoticed; so too with small texts of its
 own, which have every type that may cross C, whether the library uses it or not.
 """
 import itertools
@@ -19,7 +19,8 @@ import re
 import sys
 
 HOME = pathlib.Path(__file__).resolve().parent.parent
-SOURCE = "crates/drintelbok/src/lib.rt"
+SOURCE = "crates/drintelbok_c/src/lib.rt"
+STRUCTS = "crates/drintelbok/src/lib.rt"
 HEADER = "include/pipnn.h"
 RUST = "bindings/rust/src/sys.rs"
 REFUSALS = "crates/error/src/lib.rt"
@@ -89,21 +90,21 @@ def source_parameter(text):
     raise Unreadable(f"{SOURCE}: parameter '{text}'")
 
 
-def of_source(text):
-    text = re.sub(r"//.*", "", text)
+def of_source(files):
+    text, declared = (re.sub(r"//.*", "", files[name]) for name in (SOURCE, STRUCTS))
     structs = [
-        struct_of(name, [field(f, SOURCE) for f in parts(body)], SOURCE)
-        for name, body in re.findall(r"#\[repr\(C\)\]\s*pub struct (\w+) \{(.*?)\}", text, re.S)
+        struct_of(name, [field(f, STRUCTS) for f in parts(body)], STRUCTS)
+        for name, body in re.findall(r"#\[repr\(C\)\]\s*(?:#\[derive\([\w, ]*\)\]\s*)?pub struct (\w+) \{(.*?)\}", declared, re.S)
     ]
     functions = [
         (name, ([p for q in parts(arguments) for p in source_parameter(q)], result))
         for name, arguments, result in re.findall(
-            r'#\[no_mangle\]\s*pub extern "C" fn (\w+)\((.*?)\)\s*->\s*(\w+)', text, re.S
+            r'#\[unsafe\(no_mangle\)\]\s*pub extern "C" fn (\w+)\((.*?)\)\s*->\s*(\w+)', text, re.S
         )
     ]
-    if len(functions) != text.count('extern "C"') or len(structs) != text.count("struct "):
-        raise Unreadable(f"{SOURCE}: a function or a struct that is not read")
-    return once(structs, SOURCE), once(functions, SOURCE)
+    if len(functions) != text.count('extern "C"') or len(structs) != declared.count("struct ") + text.count("struct "):
+        raise Unreadable(f"{SOURCE}, {STRUCTS}: a function or a struct that is not read")
+    return once(structs, STRUCTS), once(functions, SOURCE)
 
 
 # ---- the header
@@ -188,10 +189,6 @@ def closing(text, at):
     return at
 
 
-def upper(name):
-    return name[0].upper() + name[1:]
-
-
 def defined_checks(files, known):
     """Of the definitions: the name in each `check (..) NAME` and in each refusal with no values, `(NAME, [])`."""
     names = set()
@@ -201,11 +198,11 @@ def defined_checks(files, known):
                 name = re.match(r" ([a-z]\w*)\b", text[closing(text, test.end()) :])
                 if not name:
                     raise Unreadable(f"{file}: a check without a refusal's name: '{text[test.start():test.end() + 40]}'")
-                names.add(upper(name[1]))
+                names.add(camel(name[1]))
             bare = re.search(r"\([1-9]\d*, \[\]\)", text)
             if bare:
                 raise Unreadable(f"{file}: a refusal without a name: '{bare[0]}'")
-            names |= {upper(name) for name in re.findall(r"\((\w+), \[\]\)", text)} & known
+            names |= {camel(name) for name in re.findall(r"\((\w+), \[\]\)", text)} & known
     return names
 
 
@@ -213,7 +210,7 @@ def named_refusals(files):
     """Name and number of each refusal, and of success: in the code, the definitions, the header and the Rust crate."""
     found = {
         REFUSALS: [(camel(name), number) for name, number in re.findall(r"^pub const (\w+): u32 = (\d+);", files[REFUSALS], re.M)],
-        DEFINED_REFUSALS: [(upper(name), number) for name, number in re.findall(r"^(\w+) = (\d+)$", files[DEFINED_REFUSALS], re.M)],
+        DEFINED_REFUSALS: [(camel(name), number) for name, number in re.findall(r"^(\w+) = (\d+)$", files[DEFINED_REFUSALS], re.M)],
         HEADER: [(camel(name), number) for name, number in re.findall(r"^    PIPNN_(\w+) = (\d+)", files[HEADER], re.M)],
         ERRORS: re.findall(r"^    (\w+) = (\d+), \"", files[ERRORS], re.M),
     }
@@ -239,10 +236,10 @@ def limits(files):
 
 # Of each size: its definition, its macro, and the buffer and the letters of its line under BUFFERS in the header.
 SIZES = [
-    ("wordsSize", "WORDS_SIZE", "words", "C D"),
-    ("floatsSize", "FLOATS_SIZE", "floats", "C dimension"),
-    ("scratchWords", "SCRATCH_WORDS", "scratch_words", "C"),
-    ("scratchFloats", "SCRATCH_FLOATS", "scratch_floats", "C"),
+    ("words_size", "WORDS_SIZE", "words", "C D"),
+    ("floats_size", "FLOATS_SIZE", "floats", "C dimension"),
+    ("scratch_words", "SCRATCH_WORDS", "scratch_words", "C"),
+    ("scratch_floats", "SCRATCH_FLOATS", "scratch_floats", "C"),
 ]
 # Enough to tell any two formulas apart that have no power above the third of either number.
 TRIED = list(itertools.product((0, 1, 7, 1024), (0, 1, 5, 32)))
@@ -304,7 +301,7 @@ def differences(what, there, here, where, source="the source"):
 
 
 def compare_declared(files):
-    structs, functions = of_source(files[SOURCE])
+    structs, functions = of_source(files)
     odd = sorted(name for name, (_, result) in functions.items() if result not in NUMBERS | structs.keys())
     if odd:
         raise Unreadable(f"{SOURCE}: results of {odd}")
@@ -359,19 +356,19 @@ EDITS = [
     (ERRORS, "NotBuilt = 10", "NotBuilt = 9"),
     (LIMITS, "MOST_CAPACITY: usize = 1024", "MOST_CAPACITY: usize = 2048"),
     (SOURCE, "min_leaf_size: u32,\n", "min_leaf_size: u64,\n"),
-    (SOURCE, "    pub scored: u32,\n", "    pub scored: u32,\n    pub bridges: u32,\n"),
+    (STRUCTS, "    pub scored: u32,\n", "    pub scored: u32,\n    pub bridges: u32,\n"),
     (SOURCE, "query: &[f32]", "query: &mut [f32]"),
     (ERRORS, 'BadSightings = 14, "', 'Sightings = 14, "'),
     (REFUSALS, "FULL: u32 = 8", "FULL: u32 = 15"),
     (REFUSALS, "FULL: u32 = 8", "FULL: u32 = 9"),
-    (DEFINED_REFUSALS, "emptyIndex = 9", "emptyIndex = 10"),
+    (DEFINED_REFUSALS, "empty_index = 9", "empty_index = 10"),
     (DEFINED_REFUSALS, "abbrev pub full : ℕ\nfull = 8\n", ""),
-    ("crates/def_calls/specs/Search.antt", "builtState)) notBuilt", "builtState)) alreadyBuilt"),
-    ("crates/def_calls/specs/Search.antt", "builtState)) notBuilt", "builtState)) 10"),
-    ("crates/household/specs/Household.antt", "(badSightings, [])", "(14, [])"),
+    ("crates/def_calls/specs/Search.antt", "built_state)) not_built", "built_state)) already_built"),
+    ("crates/def_calls/specs/Search.antt", "built_state)) not_built", "built_state)) 10"),
+    ("crates/household/specs/Household.antt", "(bad_sightings, [])", "(14, [])"),
     ("crates/params/src/lib.rt", "MOST_DIMENSION: u32 = 64", "MOST_DIMENSION: u32 = 96"),
-    (LAYOUT, "headerSize + C * (4 + D)", "headerSize + C * (5 + D)"),
-    (LAYOUT, "headerSize = 16", "headerSize = 20"),
+    (LAYOUT, "header_size + C * (4 + D)", "header_size + C * (5 + D)"),
+    (LAYOUT, "header_size = 16", "header_size = 20"),
     (HEADER, "(4 + (size_t)(max_degree))", "(5 + (size_t)(max_degree))"),
     (HEADER, "(4 + (size_t)(max_degree))", "4 + (size_t)(max_degree)"),
     (HEADER, "((size_t)(capacity) * (size_t)(dimension))", "((size_t)(capacity) * (size_t)(capacity))"),
@@ -382,9 +379,9 @@ EDITS = [
 ]
 
 
-# Three texts with every type that may cross C.
+# Texts with every type that may cross C.
 EVERY_TYPE = {
-    SOURCE: """
+    STRUCTS: """
 #[repr(C)]
 pub struct PipnnSeven {
     pub number: u32,
@@ -395,18 +392,19 @@ pub struct PipnnSeven {
     pub fifth: f32,
     pub sixth: u32,
 }
-
-#[no_mangle]
+""",
+    SOURCE: """
+#[unsafe(no_mangle)]
 pub extern "C" fn pipnn_seven(offset: i64, seconds: &[i64], moved: &mut [i64], mark: u8, text: &[u8], page: &mut [u8]) -> PipnnSeven
 {
 }
 
-#[no_mangle]
+#[unsafe(no_mangle)]
 pub extern "C" fn pipnn_day(second: i64, share: f64, from: u64) -> i64
 {
 }
 
-#[no_mangle]
+#[unsafe(no_mangle)]
 pub extern "C" fn pipnn_byte(text: &[u8], at: usize) -> u8
 {
 }
@@ -461,7 +459,7 @@ RUST_FIELD, C_FIELD = "    pub sixth: u32,\n", "    uint32_t sixth;\n"
 
 def in_all(rust_field, c_field):
     """The last field as another one, in the three texts at once."""
-    return [(SOURCE, RUST_FIELD, rust_field), (HEADER, C_FIELD, c_field), (RUST, RUST_FIELD, rust_field)]
+    return [(STRUCTS, RUST_FIELD, rust_field), (HEADER, C_FIELD, c_field), (RUST, RUST_FIELD, rust_field)]
 
 
 EDITS_OF_EVERY_TYPE = [
@@ -475,8 +473,8 @@ EDITS_OF_EVERY_TYPE = [
     (SOURCE, "-> i64", "-> u64"),
     (SOURCE, "-> u8", "-> i8"),
     (SOURCE, "-> PipnnSeven", "-> PipnnEight"),
-    (SOURCE, RUST_FIELD, ""),
-    (SOURCE, "pub fifth: f32", "pub fifth: u32"),
+    (STRUCTS, RUST_FIELD, ""),
+    (STRUCTS, "pub fifth: f32", "pub fifth: u32"),
     (HEADER, "int64_t offset", "uint64_t offset"),
     (HEADER, "int64_t offset", "long offset"),
     (HEADER, "const int64_t *seconds", "const uint64_t *seconds"),
@@ -521,7 +519,7 @@ def unnoticed(files, edits, comparing):
 
 
 def main():
-    names = [SOURCE, HEADER, RUST, REFUSALS, ERRORS, LIMITS, *LIMIT_SOURCES]
+    names = [SOURCE, STRUCTS, HEADER, RUST, REFUSALS, ERRORS, LIMITS, *LIMIT_SOURCES]
     names += [str(path.relative_to(HOME)) for path in sorted(HOME.glob("crates/*/specs/**/*.antt"))]
     files = {name: (HOME / name).read_text(encoding="utf-8") for name in names}
     try:

@@ -1,5 +1,4 @@
 -- The two cases of the definition, by the test that led to each. Assumes nothing.
-use borrow.Author.Rules.{rules}
 use mathlib.Core.Path.{ap, ◌∙◌}
 use borrow.Author.Tests.{eq-eqb, ne_eqb}
 use lib.Ieee.{binary32, sub, of_bits, nan_bits}

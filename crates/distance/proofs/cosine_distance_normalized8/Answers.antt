@@ -4,7 +4,6 @@ use lib.Ieee.{binary32, of_bits}
 use Rattle.simd.proofs.Tests.{eight_true}
 use Rattle.simd.specs.declared.Eight.{Eight}
 use Rattle.distance.proofs.Laws.{from_dot}
-use borrow.Author.Rules.{rules}
 use Rattle.distance.proofs.cosine_distance_normalized8.Goals as goal
 
 pub returns-then-n-a : goal.returns-then-n-a

@@ -11,7 +11,6 @@ use Rattle.simd.specs.Inside.Eight.{row_in}
 use Rattle.simd.specs.declared.Eight.{Eight}
 use Rattle.simd.proofs.Lanes.{length_lane}
 use Rattle.distance.proofs.Laws.{from_dot, unlike_lengths}
-use borrow.Author.Rules.{rules}
 use Rattle.distance.proofs.cosine_distance_normalized_block.Goals as goal
 
 -- how the query's length compares with a row's

@@ -1,9 +1,9 @@
 -- The invariant: the first i components are divided, the others as they were. The measure is what is left. Assumes nothing.
 use borrow.Author.Rules.{rules}
 use native.Mathlib.Omega.{arith}
-use mathlib.Core.Path.{◌≡◌, refl, ap, ◌∙◌}
+use mathlib.Core.Path.{refl, ap, ◌∙◌}
 use mathlib.Core.List.{List}
-use Prim.Native.Nat.{◌-◌, ◌≤◌, ◌<◌}
+use Prim.Native.Nat.{◌<◌}
 use lib.ListN.{length, get_or, set, length-set}
 use lib.Ieee.{Float, nan, binary32, div}
 use Rattle.basics.proofs.Loops.{part, part_get, part_set, part_end}

@@ -3,7 +3,6 @@ use mathlib.Core.Path.{ap, ◌∙◌}
 use lib.Ieee.{binary32}
 use Rattle.norm.specs.Root.{root_of}
 use Rattle.norm.specs.Norm.{length_of}
-use borrow.Author.Rules.{rules}
 use Rattle.norm.proofs.norm.Goals as goal
 
 pub returns : goal.returns

@@ -1,7 +1,6 @@
 -- The two cases of scaling, by the test that led to each. Assumes nothing.
 use mathlib.Core.Path.{◌∙◌}
 use Rattle.norm.proofs.Laws.{scaled_long, scaled_short}
-use borrow.Author.Rules.{rules}
 use Rattle.norm.proofs.normalize.Goals as goal
 
 pub returns-then-length : goal.returns-then-length

@@ -1,11 +1,8 @@
 -- The invariant: what is left of the sum from `sum` on is the whole sum. The measure is what is left of `v`. Assumes nothing.
 use borrow.Author.Rules.{rules}
 use native.Mathlib.Omega.{arith}
-use mathlib.Core.Path.{◌≡◌, refl, sym, ◌∙◌}
-use Prim.Native.Nat.{◌-◌, ◌≤◌}
-use lib.ListN.{length, drop}
+use mathlib.Core.Path.{refl, sym, ◌∙◌}
 use lib.Ieee.{binary32, of_bits}
-use Rattle.basics.specs.Sum.{sum_from, products}
 use Rattle.basics.proofs.Sums.{sum_step, sum_end_left}
 use Rattle.norm.specs.Norm.{squares_of}
 use Rattle.norm.proofs.sum_of_squares.Goals as goal

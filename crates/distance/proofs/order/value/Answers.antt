@@ -1,5 +1,4 @@
 -- `order::value` meets its contract: the arithmetic on the sign bit is the two cases of `value_of` (`value_turned`). Assumes nothing.
-use borrow.Author.Rules.{rules}
 use mathlib.Core.Path.{ap, ◌∙◌}
 use native.Mathlib.Omega.{arith}
 use lib.Ieee.{binary32, of_bits}

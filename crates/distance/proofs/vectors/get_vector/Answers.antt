@@ -5,7 +5,6 @@ use Prim.Native.Nat.{ℕ, ◌+◌, ◌-◌, ◌*◌, ◌≤◌}
 use native.Mathlib.Nat.{mul-le-mul}
 use lib.ListN.{take, drop}
 use Rattle.basics.proofs.Whole.{whole_piece, no_piece}
-use borrow.Author.Rules.{rules}
 use Rattle.distance.proofs.vectors.get_vector.Goals as goal
 
 small : (a b : ℕ) → a ≤ 4294967295 → b ≤ 4294967295 → a * b ≤ 4294967295 * 4294967295

@@ -1,6 +1,5 @@
 -- `scale` returns q and k, the shift makes the number of part 2, and `root_law` says what pattern the half of its whole root is. The bounds keep
 -- every step within 64 bits. Assumes nothing.
-use borrow.Author.Rules.{rules}
 use mathlib.Core.Path.{◌≡◌, sym, ap, subst, ◌∙◌}
 use Prim.Native.Nat.{ℕ, ◌+◌, ◌-◌, ◌*◌, ◌/◌, ◌%◌, ◌^◌, ◌≤◌, ◌<◌}
 use native.Mathlib.Omega.{arith}

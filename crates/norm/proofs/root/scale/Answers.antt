@@ -2,7 +2,7 @@
 -- measure is k, which cannot reach 0 before q has its digits. Assumes nothing.
 use native.Mathlib.Omega.{arith}
 use mathlib.Core.Path.{◌≡◌, sym, ap, ◌∙◌}
-use Prim.Native.Nat.{ℕ, zero, suc, ◌+◌, ◌-◌, ◌*◌, ◌/◌, ◌%◌, ◌^◌, ◌≤◌, ◌<◌}
+use Prim.Native.Nat.{ℕ, zero, suc, ◌+◌, ◌-◌, ◌*◌, ◌/◌, ◌%◌, ◌^◌, ◌<◌}
 use native.Mathlib.Nat.{mul_assoc, add-mul, two-mul, pow-succ', mul-add}
 use lib.Pow.{pow-add}
 use Rattle.norm.specs.Root.{pattern_units}

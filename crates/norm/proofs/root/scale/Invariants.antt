@@ -1,12 +1,8 @@
 -- A pattern with an exponent's field has its 24 digits at once; of any other the digits are doubled until there are 24, while q · 2^k stays. The
 -- measure is k, which cannot reach 0 before q has its digits. Assumes nothing.
-use native.Mathlib.Omega.{arith}
-use mathlib.Core.Path.{◌≡◌, sym, ap, ◌∙◌}
-use Prim.Native.Nat.{ℕ, zero, suc, ◌+◌, ◌-◌, ◌*◌, ◌/◌, ◌%◌, ◌^◌, ◌≤◌, ◌<◌}
-use native.Mathlib.Nat.{mul_assoc, add-mul, two-mul, pow-succ', mul-add}
-use lib.Pow.{pow-add}
+use mathlib.Core.Path.{◌≡◌}
+use Prim.Native.Nat.{◌*◌, ◌^◌, ◌≤◌, ◌<◌}
 use Rattle.norm.specs.Root.{pattern_units}
-use Rattle.norm.proofs.root.Law.{units-low, units_normal}
 use Rattle.norm.proofs.root.scale.Given as goal
 
 abbrev pub invariant-loop-q : goal.invariant-loop-q

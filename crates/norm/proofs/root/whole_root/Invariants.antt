@@ -1,15 +1,6 @@
 -- The invariant: the root is r or above, and below r + 2^k. The measure is k; at 0 the bounds fix the root. Assumes nothing.
-use borrow.Author.Rules.{rules}
-use native.Mathlib.Omega.{arith}
-use mathlib.Core.Path.{◌≡◌, sym, subst, ◌∙◌}
-use Prim.Native.Nat.{ℕ, suc, ◌+◌, ◌-◌, ◌*◌, ◌%◌, ◌^◌, ◌≤◌, ◌<◌}
-use native.Mathlib.Nat.{le_trans, le_of_eq, one-mul, mul-le-mul}
-use lib.Dec.{lit<}
-use lib.Pow.{shl_exact}
-use mir.Syntax.{w64}
-use mir.Val.{Fits}
-use mir.Facts.{Fits-below}
-use Rattle.norm.proofs.root.Floor.{Bounds, halves, digit_yes, digit_no, floor_is}
+use Prim.Native.Nat.{ℕ, ◌+◌, ◌^◌, ◌≤◌}
+use Rattle.norm.proofs.root.Floor.{Bounds}
 use Rattle.norm.proofs.root.whole_root.Given as goal
 
 -- before the digit k - 1 is tried: the root so far, and how far it can still go
