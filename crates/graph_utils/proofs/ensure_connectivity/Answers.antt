@@ -16,7 +16,6 @@ use Rattle.distance.specs.Vectors.{vectors_in}
 use Rattle.graph_utils.proofs.marking.Refining.{Marked}
 use Rattle.graph_utils.specs.Inside.Turns.{work}
 use Rattle.graph_utils.proofs.Refining.{all_repaired}
-use borrow.Author.Rules.{rules}
 use Rattle.graph_utils.proofs.ensure_connectivity.Goals as goal
 
 many_rows : (D : ℕ) (ws : List ℕ) → length (row_lists D ws) ≡ length ws / row_size D

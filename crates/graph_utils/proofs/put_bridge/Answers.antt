@@ -3,7 +3,6 @@ use mathlib.Core.Path.{ap, ◌∙◌}
 use mathlib.Core.List.{List}
 use Prim.Native.Nat.{ℕ, ◌+◌, ◌*◌}
 use lib.ListN.{set}
-use borrow.Author.Rules.{rules}
 use Rattle.graph_utils.proofs.put_bridge.Goals as goal
 
 pub returns : goal.returns

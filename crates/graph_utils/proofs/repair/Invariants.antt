@@ -1,14 +1,9 @@
 -- The invariant: the work so far is that of the turns of the nodes below i. The measure is how many are left. Assumes nothing.
-use mathlib.Core.Path.{◌≡◌, refl, ap, ◌∙◌}
-use mathlib.Core.List.{List}
+use mathlib.Core.Path.{◌≡◌}
 use Prim.Native.Nat.{◌-◌, ◌≤◌}
 use lib.ListN.{length}
-use lib.Ieee.{Float}
 use Rattle.distance.specs.Vectors.{vectors_in}
-use Rattle.graph_utils.specs.Inside.Turns.{Work, work, turned_to}
-use Rattle.graph_utils.proofs.Steps.{turned_count, no_turn, one_turn, begin_is}
-use borrow.Author.Rules.{rules}
-use native.Mathlib.Omega.{arith}
+use Rattle.graph_utils.specs.Inside.Turns.{work, turned_to}
 use Rattle.graph_utils.proofs.repair.Given as goal
 
 abbrev pub invariant-loop-i : goal.invariant-loop-i

@@ -1,7 +1,6 @@
 -- The two outcomes of the choice, by the test that led to each. Assumes nothing.
 use Rattle.distance.specs.Vectors.{vectors_in}
 use Rattle.graph_utils.proofs.Steps.{turn_passed, turn_bridged}
-use borrow.Author.Rules.{rules}
 use Rattle.graph_utils.proofs.turn.Goals as goal
 
 pub returns-then-mark-gt0 : goal.returns-then-mark-gt0

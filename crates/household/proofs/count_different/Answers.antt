@@ -1,11 +1,6 @@
 -- The invariant: the count, and what the numbers from i on add to it, are the whole. The measure is what is left of the list. Assumes nothing.
-use borrow.Author.Rules.{rules}
 use native.Mathlib.Omega.{arith}
-use mathlib.Core.Path.{◌≡◌}
 use mathlib.Core.Bool.{not}
-use Prim.Native.Nat.{◌+◌, ◌-◌, ◌≤◌}
-use lib.ListN.{length, drop}
-use Rattle.household.specs.Household.{different}
 use Rattle.household.proofs.Steps.{at_most_one, count_step, count_end}
 use Rattle.household.proofs.count_different.Goals as goal
 

@@ -1,14 +1,10 @@
 -- The invariant: what is gathered, then the doc ids of the sightings from i on, are those of the day; no more is gathered than was looked at. The
 -- measure is what is left of the sightings. Assumes nothing.
-use borrow.Author.Rules.{rules}
-use native.Mathlib.Omega.{arith}
-use mathlib.Core.Path.{◌≡◌, refl}
+use mathlib.Core.Path.{◌≡◌}
 use mathlib.Core.List.{◌++◌}
 use Prim.Native.Nat.{◌-◌, ◌≤◌}
-use lib.Dec.{eqb}
-use lib.ListN.{length, take, drop, length-set}
+use lib.ListN.{length, take, drop}
 use Rattle.household.specs.Household.{docs_on}
-use Rattle.household.proofs.Steps.{at_most_one, gather_step, gather_end}
 use Rattle.household.proofs.gather.Given as goal
 
 abbrev pub invariant-loop-i : goal.invariant-loop-i

@@ -1,7 +1,6 @@
 -- What is not refused has at most 512 sightings, so the day's doc ids fit the local array; `gather` says which they are and `count_different` how
 -- many different ones, which is the definition's count. Assumes nothing.
 use native.Mathlib.Omega.{arith}
-use borrow.Author.Rules.{rules}
 use mathlib.Core.Path.{sym, ap, ◌∙◌}
 use mathlib.Core.List.{List, [], ◌∷◌}
 use Prim.Native.Nat.{ℕ, ◌≤◌}

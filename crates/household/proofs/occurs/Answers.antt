@@ -1,11 +1,6 @@
 -- The invariant: found so far, or from i on, is found at all. The measure is what is left of the list. Assumes nothing.
-use borrow.Author.Rules.{rules}
 use native.Mathlib.Omega.{arith}
-use mathlib.Core.Path.{◌≡◌, refl}
-use mathlib.Core.Bool.{◌||◌}
-use Prim.Native.Nat.{◌-◌, ◌≤◌}
-use lib.ListN.{length, drop}
-use Rattle.basics.specs.Nodes.{has}
+use mathlib.Core.Path.{refl}
 use Rattle.household.proofs.Steps.{look_step, look_end}
 use Rattle.household.proofs.occurs.Goals as goal
 

@@ -1,12 +1,9 @@
 -- The invariant: found so far, or from i on, is found at all. The measure is what is left of the list. Assumes nothing.
-use borrow.Author.Rules.{rules}
-use native.Mathlib.Omega.{arith}
-use mathlib.Core.Path.{◌≡◌, refl}
+use mathlib.Core.Path.{◌≡◌}
 use mathlib.Core.Bool.{◌||◌}
 use Prim.Native.Nat.{◌-◌, ◌≤◌}
 use lib.ListN.{length, drop}
 use Rattle.basics.specs.Nodes.{has}
-use Rattle.household.proofs.Steps.{look_step, look_end}
 use Rattle.household.proofs.occurs.Given as goal
 
 abbrev pub invariant-loop-i : goal.invariant-loop-i

@@ -3,7 +3,6 @@ use mathlib.Core.Path.{ap, ◌∙◌}
 use mathlib.Core.List.{List}
 use Prim.Native.Nat.{ℕ}
 use Rattle.store.specs.Layout.{word}
-use borrow.Author.Rules.{rules}
 use Rattle.lists.proofs.end_of.Goals as goal
 
 pub returns : goal.returns

@@ -3,7 +3,6 @@ use native.Mathlib.Omega.{arith}
 use Prim.Native.Nat.{◌+◌, ◌-◌}
 use lib.ListN.{get_or}
 use Rattle.lists.proofs.Reading.{no_row, counted_row, full_row}
-use borrow.Author.Rules.{rules}
 use Rattle.lists.proofs.row_of.Goals as goal
 
 pub returns-then-row-stride : goal.returns-then-row-stride

@@ -4,8 +4,7 @@ use mathlib.Core.Bool.{not}
 use mathlib.Core.List.{List}
 use Prim.Native.Nat.{ℕ}
 use lib.ListN.{take}
-use borrow.Author.Tests.{eq-eqb, ne_eqb, not-true, not-false}
-use borrow.Author.Rules.{rules}
+use borrow.Author.Tests.{eq-eqb, ne_eqb}
 use Rattle.basics.specs.Refusals.{Check, first_refusal}
 use Rattle.basics.proofs.Refusals.{Pass, turned_at, none_turned, then_first, then_second}
 use Rattle.store.specs.declared.Lent.TheVariants.{Nothing}
@@ -43,9 +42,10 @@ passed_2 c =
 
 passed_3 : (c : Else-not-all_finite) → Pass (take 3 (own_checks c.args.words.now c.args.vector.now))
 unfolding own_checks
-passed_3 c =
-    (ne_eqb _ _ (λ e. c.if-word_at-eq-BUILT.false (c.word_at.ensures ∙ e)),
-    (ap not (eq-eqb _ _ (c.if-vector-word_at.false ∙ c.word_at-2.ensures)), (ap not (sym c.all_finite.ensures ∙ c.if-not-all_finite.false), tt)))
+passed_3 c = (
+  ne_eqb _ _ (λ e. c.if-word_at-eq-BUILT.false (c.word_at.ensures ∙ e)),
+  (ap not (eq-eqb _ _ (c.if-vector-word_at.false ∙ c.word_at-2.ensures)), (ap not (sym c.all_finite.ensures ∙ c.if-not-all_finite.false), tt)),
+)
 
 pub returns-then-refusal-ne0 : goal.returns-then-refusal-ne0
 unfolding add_checks

@@ -3,7 +3,6 @@ use mathlib.Core.Path.{◌≡◌, sym, ◌∙◌}
 use Prim.Native.Nat.{ℕ, ◌+◌}
 use native.Mathlib.Omega.{arith}
 use lib.ListN.{set}
-use borrow.Author.Rules.{rules}
 use Rattle.basics.specs.Refusals.{first_refusal}
 use Rattle.store.specs.Layout.{nodes_at}
 use Rattle.pipnn.specs.Answer.{Answer}

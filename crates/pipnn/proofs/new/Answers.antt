@@ -4,7 +4,6 @@ use Prim.Native.Nat.{ℕ, ◌≤◌}
 use native.Mathlib.Omega.{arith}
 use lib.ListN.{length}
 use lib.Seq.{length-take-le}
-use borrow.Author.Rules.{rules}
 use Rattle.basics.specs.Refusals.{first_refusal}
 use Rattle.pipnn.specs.Answer.{Answer}
 use Rattle.pipnn.specs.New.{new_checks, new_spec}
@@ -54,9 +53,9 @@ overflow_cast-degree c = let t = taken (goal.at.overflow_cast-degree c).Else-ref
 
 pub put_header-requires : goal.put_header-requires
 put_header-requires c = let t = taken (goal.at.put_header-requires c).Else-refusal-ne0 in record {
-      header_size_in_bounds = omega arith;
-      p_value = t.limits;
-    }
+  header_size_in_bounds = omega arith;
+  p_value = t.limits;
+}
 
 pub slice_bounds-clear_words-end : goal.slice_bounds-clear_words-end
 slice_bounds-clear_words-end c = let t = taken (goal.at.slice_bounds-clear_words-end c).Else-refusal-ne0 in omega arith

@@ -4,8 +4,6 @@ use mathlib.Core.Bool.{true, not, ◌&&◌}
 use mathlib.Core.List.{List}
 use native.Mathlib.Omega.{arith}
 use lib.ListN.{take}
-use borrow.Author.Tests.{not-true, not-false}
-use borrow.Author.Rules.{rules}
 use Rattle.basics.specs.Refusals.{Check}
 use Rattle.basics.proofs.Refusals.{Pass, turned_at, none_turned}
 use Rattle.basics.proofs.Tests.{both_true}
@@ -34,9 +32,10 @@ taken c = sym (λ i. c.within_limits.ensures i && c.capacity_within.ensures i) �
 
 passed_2 : (c : Else-not-within_limits-capacity_within) → Pass (take 2 (new_checks c.args.dimension c.args.p c.args.capacity c.args.words.now c.args.floats.now))
 unfolding new_checks
-passed_2 c =
-    (ap not (sym c.dimension_within.ensures ∙ c.if-not-dimension_within.false),
-    (ap not (sym (λ i. c.within_limits.ensures i && c.capacity_within.ensures i) ∙ c.if-not-within_limits-capacity_within.false), tt))
+passed_2 c = (
+  ap not (sym c.dimension_within.ensures ∙ c.if-not-dimension_within.false),
+  (ap not (sym (λ i. c.within_limits.ensures i && c.capacity_within.ensures i) ∙ c.if-not-within_limits-capacity_within.false), tt),
+)
 
 pub returns-then-not-dimension_within : goal.returns-then-not-dimension_within
 unfolding new_checks

@@ -8,7 +8,6 @@ use lib.Seq.{sets-eq}
 use lib.Ieee.{binary64}
 use lib.Ieee.Bits.{to_bits-lt}
 use mir.Val.{bool_byte}
-use borrow.Author.Rules.{rules}
 use Rattle.basics.specs.Choice.{pick}
 use Rattle.params.proofs.Laws.{within}
 use Rattle.store.specs.View.{empty_header}

@@ -3,7 +3,6 @@ use mathlib.Core.Path.{◌≡◌}
 use Prim.Native.Nat.{◌+◌, ◌-◌}
 use native.Mathlib.Omega.{arith}
 use lib.ListN.{length}
-use borrow.Author.Rules.{rules}
 use Rattle.pipnn.proofs.AddLaws.{scaled_put}
 use Rattle.pipnn.proofs.put_vector.Goals as goal
 

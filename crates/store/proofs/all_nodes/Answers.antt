@@ -1,10 +1,7 @@
 -- `store::all_nodes` meets its contract: what is gathered so far, and the entries left, make the whole test. Assumes nothing.
-use mathlib.Core.Path.{◌≡◌, refl}
-use mathlib.Core.Bool.{◌&&◌}
-use Prim.Native.Nat.{◌-◌, ◌≤◌}
+use mathlib.Core.Path.{refl}
 use native.Mathlib.Omega.{arith}
-use lib.ListN.{length, get_or, drop}
-use borrow.Author.Rules.{rules}
+use lib.ListN.{get_or}
 use Rattle.basics.specs.Lists.{every}
 use Rattle.basics.proofs.Every.{gather_step, gather_end}
 use Rattle.store.specs.WellFormed.{is_node}

@@ -1,12 +1,9 @@
 -- `store::all_nodes` meets its contract: what is gathered so far, and the entries left, make the whole test. Assumes nothing.
-use mathlib.Core.Path.{◌≡◌, refl}
+use mathlib.Core.Path.{◌≡◌}
 use mathlib.Core.Bool.{◌&&◌}
 use Prim.Native.Nat.{◌-◌, ◌≤◌}
-use native.Mathlib.Omega.{arith}
-use lib.ListN.{length, get_or, drop}
-use borrow.Author.Rules.{rules}
+use lib.ListN.{length, drop}
 use Rattle.basics.specs.Lists.{every}
-use Rattle.basics.proofs.Every.{gather_step, gather_end}
 use Rattle.store.specs.WellFormed.{is_node}
 use Rattle.store.proofs.all_nodes.Given as goal
 

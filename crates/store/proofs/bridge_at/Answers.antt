@@ -1,6 +1,5 @@
 -- `store::bridge_at` meets its contract: the bridges start below 2^49, and two words a bridge stay below 2^34. Assumes nothing.
 use native.Mathlib.Omega.{arith}
-use borrow.Author.Rules.{rules}
 use Rattle.store.specs.Layout.{row_size}
 use Rattle.store.proofs.Sizes.{product_le}
 use Rattle.store.proofs.bridge_at.Goals as goal

@@ -1,16 +1,9 @@
 -- `store::bridges_ok` meets its contract: what is gathered so far, and the bridges from the i-th on, make the whole test. Assumes nothing.
 use mathlib.Core.Path.{◌≡◌}
-use mathlib.Core.Bool.{not, ◌&&◌}
-use mathlib.Core.List.{List}
-use Prim.Native.Nat.{ℕ, suc, ◌+◌, ◌-◌, ◌*◌, ◌≤◌, ◌<◌}
-use native.Mathlib.Omega.{arith}
-use native.Mathlib.Numerals.{add-one}
-use lib.Dec.{ltb, eqb}
-use lib.ListN.{length, get_or, take, drop}
-use lib.Seq.{drop-cons}
-use borrow.Author.Rules.{rules}
+use mathlib.Core.Bool.{◌&&◌}
+use Prim.Native.Nat.{◌+◌, ◌-◌, ◌*◌, ◌≤◌}
+use lib.ListN.{drop}
 use Rattle.basics.specs.Lists.{every, pieces}
-use Rattle.basics.proofs.Every.{gather_first, gather_piece, gather_last}
 use Rattle.store.specs.Layout.{bridge_size}
 use Rattle.store.specs.WellFormed.{bridge_ok}
 use Rattle.store.proofs.bridges_ok.Given as goal

@@ -1,18 +1,11 @@
 -- `store::counts_ok` meets its contract: what is gathered so far, and the counts from the i-th row on, make the whole test. Assumes nothing.
-use mathlib.Core.Path.{◌≡◌, sym, ap, ◌∙◌}
+use mathlib.Core.Path.{◌≡◌}
 use mathlib.Core.Bool.{◌&&◌}
-use mathlib.Core.List.{List}
-use Prim.Native.Nat.{ℕ, ◌+◌, ◌-◌, ◌*◌, ◌≤◌}
-use native.Mathlib.Omega.{arith}
-use lib.Dec.{leb}
-use lib.ListN.{length, get_or, take, drop}
-use lib.Seq.{get_or-take, get_or-drop}
-use borrow.Author.Rules.{rules}
+use Prim.Native.Nat.{◌+◌, ◌-◌, ◌*◌, ◌≤◌}
+use lib.ListN.{drop}
 use Rattle.basics.specs.Lists.{every, pieces}
-use Rattle.basics.proofs.Every.{gather_first, gather_piece, gather_last}
 use Rattle.store.specs.Layout.{row_size}
 use Rattle.store.specs.WellFormed.{count_ok}
-use Rattle.store.proofs.Sizes.{row_within}
 use Rattle.store.proofs.counts_ok.Given as goal
 
 abbrev pub invariant-loop-i : goal.invariant-loop-i

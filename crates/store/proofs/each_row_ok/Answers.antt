@@ -1,11 +1,8 @@
 -- `store::each_row_ok` meets its contract: what is gathered so far, and the rows from the i-th on, make the whole test. Assumes nothing.
 use mathlib.Core.Path.{◌≡◌}
-use mathlib.Core.Bool.{◌&&◌}
-use Prim.Native.Nat.{◌+◌, ◌-◌, ◌*◌, ◌≤◌}
+use Prim.Native.Nat.{◌+◌, ◌-◌, ◌≤◌}
 use native.Mathlib.Omega.{arith}
-use lib.ListN.{drop, length, length-take, length-drop}
-use borrow.Author.Rules.{rules}
-use Rattle.basics.specs.Lists.{every, pieces}
+use lib.ListN.{length, length-take, length-drop}
 use Rattle.basics.proofs.Every.{gather_first, gather_piece, gather_last}
 use Rattle.store.specs.Layout.{row_size}
 use Rattle.store.specs.WellFormed.{row_ok}

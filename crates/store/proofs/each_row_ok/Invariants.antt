@@ -2,14 +2,10 @@
 use mathlib.Core.Path.{◌≡◌}
 use mathlib.Core.Bool.{◌&&◌}
 use Prim.Native.Nat.{◌+◌, ◌-◌, ◌*◌, ◌≤◌}
-use native.Mathlib.Omega.{arith}
-use lib.ListN.{drop, length-take, length-drop}
-use borrow.Author.Rules.{rules}
+use lib.ListN.{drop}
 use Rattle.basics.specs.Lists.{every, pieces}
-use Rattle.basics.proofs.Every.{gather_first, gather_piece, gather_last}
 use Rattle.store.specs.Layout.{row_size}
 use Rattle.store.specs.WellFormed.{row_ok}
-use Rattle.store.proofs.Sizes.{row_within}
 use Rattle.store.proofs.each_row_ok.Given as goal
 
 abbrev pub invariant-loop-i : goal.invariant-loop-i

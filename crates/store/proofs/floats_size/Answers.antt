@@ -1,6 +1,5 @@
 -- `store::floats_size` meets its contract: a product of two u32 fits a usize. Assumes nothing.
 use native.Mathlib.Omega.{arith}
-use borrow.Author.Rules.{rules}
 use Rattle.store.proofs.Sizes.{product_le}
 use Rattle.store.proofs.floats_size.Goals as goal
 

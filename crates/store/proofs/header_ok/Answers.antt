@@ -1,5 +1,4 @@
 -- `store::header_ok` meets its contract: the tests are the definition's, in its order. Assumes nothing.
-use borrow.Author.Rules.{rules}
 use Rattle.store.specs.WellFormed.{header_ok}
 use Rattle.store.proofs.header_ok.Goals as goal
 

@@ -1,13 +1,8 @@
 -- `store::nodes_by_fours` meets its contract: while all were nodes so far, the first i of each quarter are. Assumes nothing.
-use mathlib.Core.Path.{◌≡◌, sym, subst, ◌∙◌}
-use mathlib.Core.Bool.{Bool, true, ◌&&◌}
-use mathlib.Core.List.{List}
-use Prim.Native.Nat.{ℕ, zero, suc, ◌+◌, ◌-◌, ◌*◌, ◌/◌, ◌≤◌, ◌<◌}
-use native.Mathlib.Omega.{arith}
-use lib.ListN.{length, get_or}
-use borrow.Author.Rules.{rules}
-use Rattle.basics.proofs.EqualParts.{EqualParts, parts_none, parts_more, parts_all}
-use Rattle.basics.proofs.Tests.{both_true}
+use mathlib.Core.Path.{◌≡◌}
+use mathlib.Core.Bool.{true}
+use Prim.Native.Nat.{◌-◌, ◌≤◌}
+use Rattle.basics.proofs.EqualParts.{EqualParts}
 use Rattle.store.specs.WellFormed.{is_node}
 use Rattle.store.proofs.nodes_by_fours.Given as goal
 

@@ -1,10 +1,9 @@
 -- `store::opening_refusal` meets its contract: at each place the checks before it have passed. Assumes nothing.
 use mathlib.Core.Path.{◌≡◌, sym, ap, ◌∙◌}
-use mathlib.Core.Bool.{true, false, not}
+use mathlib.Core.Bool.{false, not}
 use borrow.Author.Tests.{lt-ltb, le-ltb, ltb-false}
 use Rattle.basics.proofs.Refusals.{turned_at, none_turned}
 use Rattle.basics.proofs.Tests.{both_false}
-use Rattle.store.specs.WellFormed.{header_ok, rest_ok}
 use Rattle.store.specs.Opening.{too_short, opening}
 use Rattle.store.proofs.opening_refusal.Goals as goal
 
@@ -32,19 +31,23 @@ pub returns-then-not-rest_ok : goal.returns-then-not-rest_ok
 unfolding opening
 returns-then-not-rest_ok c =
     let a = c.args in
-    turned_at 3 (opening a.lent a.words.now a.floats.now)
-    (le-ltb _ _ c.if-words-lt-HEADER_SIZE.false,
-    (ap not (sym c.header_ok.ensures ∙ c.if-not-header_ok.false), (sym c.too_short.ensures ∙ c.if-too_short.false, tt)))
+    turned_at 3 (opening a.lent a.words.now a.floats.now) (
+      le-ltb _ _ c.if-words-lt-HEADER_SIZE.false,
+      (ap not (sym c.header_ok.ensures ∙ c.if-not-header_ok.false), (sym c.too_short.ensures ∙ c.if-too_short.false, tt)),
+    )
     (ap not (sym c.rest_ok.ensures ∙ c.if-not-rest_ok.true))
 
 pub returns : goal.returns
 unfolding opening
 returns c =
     let a = c.args in
-    none_turned (opening a.lent a.words.now a.floats.now)
-    (le-ltb _ _ c.if-words-lt-HEADER_SIZE.false,
-    (ap not (sym c.header_ok.ensures ∙ c.if-not-header_ok.false),
-    (sym c.too_short.ensures ∙ c.if-too_short.false, (ap not (sym c.rest_ok.ensures ∙ c.if-not-rest_ok.false), tt))))
+    none_turned (opening a.lent a.words.now a.floats.now) (
+      le-ltb _ _ c.if-words-lt-HEADER_SIZE.false,
+      (
+        ap not (sym c.header_ok.ensures ∙ c.if-not-header_ok.false),
+        (sym c.too_short.ensures ∙ c.if-too_short.false, (ap not (sym c.rest_ok.ensures ∙ c.if-not-rest_ok.false), tt)),
+      ),
+    )
 
 pub too_short-requires : goal.too_short-requires
 too_short-requires c = sym c.header_ok.ensures ∙ c.if-not-header_ok.false

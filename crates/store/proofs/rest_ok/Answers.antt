@@ -2,7 +2,6 @@
 use mathlib.Core.Path.{sym}
 use native.Mathlib.Omega.{arith}
 use lib.Seq.{length-take-le}
-use borrow.Author.Rules.{rules}
 use Rattle.store.specs.View.{row_words, bridge_words}
 use Rattle.store.specs.WellFormed.{rest_ok}
 use Rattle.store.proofs.Header.{Header, header}

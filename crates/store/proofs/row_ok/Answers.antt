@@ -4,7 +4,6 @@ use Prim.Native.Nat.{◌+◌, ◌-◌}
 use native.Mathlib.Omega.{arith}
 use lib.ListN.{get_or}
 use borrow.Author.Tests.{le-leb, lt-leb}
-use borrow.Author.Rules.{rules}
 use Rattle.store.specs.WellFormed.{row_ok}
 use Rattle.store.proofs.row_ok.Goals as goal
 

@@ -1,5 +1,4 @@
 -- `store::scratch_short` meets its contract, case by case. Assumes nothing.
-use borrow.Author.Rules.{rules}
 use Rattle.store.proofs.scratch_short.Goals as goal
 
 pub returns-in-Scratch : goal.returns-in-Scratch

@@ -1,5 +1,4 @@
 -- `store::store_short` meets its contract: the two sizes are those of the layout. Assumes nothing.
-use borrow.Author.Rules.{rules}
 use Rattle.store.proofs.store_short.Goals as goal
 
 pub returns : goal.returns

@@ -1,6 +1,5 @@
 -- `store::too_short` meets its contract: the sizes are those of the header's shape. Assumes nothing.
 use native.Mathlib.Omega.{arith}
-use borrow.Author.Rules.{rules}
 use Rattle.store.proofs.Header.{header}
 use Rattle.store.proofs.too_short.Goals as goal
 

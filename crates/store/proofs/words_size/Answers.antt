@@ -1,7 +1,6 @@
 -- `store::words_size` meets its contract: a capacity of 32 bits and a degree of 16 keep it below 2^49. Assumes nothing.
 use Prim.Native.Nat.{◌+◌}
 use native.Mathlib.Omega.{arith}
-use borrow.Author.Rules.{rules}
 use Rattle.store.proofs.Sizes.{product_le}
 use Rattle.store.proofs.words_size.Goals as goal
 

@@ -1,9 +1,8 @@
 -- The invariant: the first j sums have their component added. The measure is what is left. Assumes nothing.
-use borrow.Author.Rules.{rules}
 use native.Mathlib.Omega.{arith}
-use mathlib.Core.Path.{◌≡◌, refl, ap, ◌∙◌}
+use mathlib.Core.Path.{refl, ap, ◌∙◌}
 use mathlib.Core.List.{List}
-use Prim.Native.Nat.{◌-◌, ◌≤◌, ◌<◌}
+use Prim.Native.Nat.{◌<◌}
 use lib.ListN.{length, get_or, set, length-set}
 use lib.Ieee.{Float, nan, binary32, add}
 use Rattle.def_graph.specs.Centroid.{add_to}

@@ -9,7 +9,6 @@ use Rattle.basics.specs.Lists.{pieces}
 use Rattle.finish.proofs.medoid.Rows.{fit}
 use Rattle.def_graph.specs.Centroid.{add_to, row_sums_from, centroid_of}
 use native.Mathlib.Omega.{arith}
-use borrow.Author.Rules.{rules}
 use Rattle.finish.proofs.medoid.centroid.Goals as goal
 
 -- where there are no components there is no sum

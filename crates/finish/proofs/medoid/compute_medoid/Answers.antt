@@ -12,7 +12,6 @@ use Rattle.def_graph.specs.Centroid.{centroid_of, rows_in}
 use Rattle.def_graph.specs.Medoid.{nearest_to, compute_medoid}
 use Rattle.finish.proofs.medoid.Rows.{fit}
 use native.Mathlib.Omega.{arith}
-use borrow.Author.Rules.{rules}
 use Rattle.finish.proofs.medoid.compute_medoid.Goals as goal
 
 no_rows : (d n : ℕ) (xs : List Float) → d ≡ 0 → 0 ≡ compute_medoid d (rows_in d n xs)

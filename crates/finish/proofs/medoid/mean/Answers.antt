@@ -10,7 +10,6 @@ use Rattle.basics.specs.Lists.{pieces}
 use Rattle.basics.specs.Sum.{+zero}
 use Rattle.def_graph.specs.Centroid.{row_sums_from, centroid_of}
 use Rattle.basics.proofs.Pieces.{length_pieces}
-use borrow.Author.Rules.{rules}
 use Rattle.finish.proofs.medoid.mean.Goals as goal
 
 pub sum_rows-requires : goal.sum_rows-requires

@@ -4,7 +4,6 @@ use Prim.Native.Nat.{ℕ, ◌+◌, ◌-◌, ◌*◌}
 use lib.ListN.{length-take, length-drop}
 use mathlib.Core.Path.{refl}
 use Rattle.finish.proofs.reverse_edges.Laws.{place_fits, back_none, back_put}
-use borrow.Author.Rules.{rules}
 use Rattle.finish.proofs.reverse_edges.add_back.Goals as goal
 
 pub overflow_mul-at : goal.overflow_mul-at

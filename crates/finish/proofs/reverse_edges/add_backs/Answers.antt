@@ -1,11 +1,9 @@
 -- The invariant: the node has gone to the rows of its entries before e, and its own row is as it was. The measure is what is left of the row.
 -- Assumes nothing.
-use borrow.Author.Rules.{rules}
 use native.Mathlib.Omega.{arith}
-use Prim.Native.Nat.{◌-◌}
-use mathlib.Core.Path.{◌≡◌, refl, ap, ◌∙◌}
+use mathlib.Core.Path.{refl, ap, ◌∙◌}
 use lib.ListN.{length}
-use Rattle.finish.proofs.reverse_edges.Laws.{TurnedTo, turn_first, turn_more, turn_last}
+use Rattle.finish.proofs.reverse_edges.Laws.{turn_first, turn_more, turn_last}
 use Rattle.finish.proofs.reverse_edges.add_backs.Goals as goal
 
 pub loop-e-init : goal.loop-e-init

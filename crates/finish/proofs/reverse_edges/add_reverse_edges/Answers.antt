@@ -1,10 +1,7 @@
 -- The invariant: the nodes below i have had their turns. The measure is how many are left. Assumes nothing.
-use borrow.Author.Rules.{rules}
 use native.Mathlib.Omega.{arith}
-use Prim.Native.Nat.{◌-◌, ◌≤◌}
-use mathlib.Core.Path.{◌≡◌, refl, ◌∙◌}
-use lib.ListN.{length}
-use Rattle.finish.proofs.reverse_edges.Laws.{ReversedTo, reverse_first, reverse_more, reverse_last}
+use mathlib.Core.Path.{refl, ◌∙◌}
+use Rattle.finish.proofs.reverse_edges.Laws.{reverse_first, reverse_more, reverse_last}
 use Rattle.finish.proofs.reverse_edges.add_reverse_edges.Goals as goal
 
 pub loop-i-init : goal.loop-i-init

@@ -1,10 +1,8 @@
 -- The invariant: the nodes below i have had their turns. The measure is how many are left. Assumes nothing.
-use borrow.Author.Rules.{rules}
-use native.Mathlib.Omega.{arith}
 use Prim.Native.Nat.{◌-◌, ◌≤◌}
-use mathlib.Core.Path.{◌≡◌, refl, ◌∙◌}
+use mathlib.Core.Path.{◌≡◌}
 use lib.ListN.{length}
-use Rattle.finish.proofs.reverse_edges.Laws.{ReversedTo, reverse_first, reverse_more, reverse_last}
+use Rattle.finish.proofs.reverse_edges.Laws.{ReversedTo}
 use Rattle.finish.proofs.reverse_edges.add_reverse_edges.Given as goal
 
 abbrev pub invariant-loop-i : goal.invariant-loop-i

@@ -1,11 +1,8 @@
 -- The invariant: what is left from i on has the node if the whole row has it. The measure is what is left of the row. Assumes nothing.
-use borrow.Author.Rules.{rules}
-use native.Mathlib.Omega.{arith}
-use mathlib.Core.Path.{◌≡◌, refl, sym, ◌∙◌}
+use mathlib.Core.Path.{◌≡◌}
 use Prim.Native.Nat.{◌-◌, ◌≤◌}
 use lib.ListN.{length, drop}
 use Rattle.basics.specs.Nodes.{has}
-use Rattle.finish.proofs.reverse_edges.Entry.{has_here, has_later, has_none}
 use Rattle.finish.proofs.reverse_edges.has_node.Given as goal
 
 abbrev pub invariant-loop-i : goal.invariant-loop-i

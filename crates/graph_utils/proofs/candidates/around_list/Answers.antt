@@ -1,7 +1,7 @@
 -- The invariant: what is left of the list from the cursor on makes the whole. The measure is how much is left. Assumes nothing.
-use mathlib.Core.Path.{◌≡◌, refl, sym, ap, ap₂, ◌∙◌}
+use mathlib.Core.Path.{refl, sym, ap, ap₂, ◌∙◌}
 use mathlib.Core.List.{List}
-use Prim.Native.Nat.{ℕ, ◌≤◌}
+use Prim.Native.Nat.{ℕ}
 use lib.ListN.{length}
 use Rattle.lists.specs.Inside.Lists.{list_words, list_from}
 use Rattle.lists.specs.declared.chains.Cursor.{Cursor}
@@ -9,7 +9,6 @@ use Rattle.lists.proofs.chains.Reading.{first_place}
 use Rattle.lists.proofs.chains.Cursors.{list_more, list_none, list_less, next_linked}
 use Rattle.graph_utils.specs.Inside.Candidates.{Seeking, seeking, considered_all, around, around_all}
 use Rattle.graph_utils.proofs.candidates.Steps.{around_next, around_none}
-use borrow.Author.Rules.{rules}
 use native.Mathlib.Omega.{arith}
 use Rattle.graph_utils.proofs.candidates.around_list.Goals as goal
 

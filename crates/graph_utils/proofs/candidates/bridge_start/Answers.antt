@@ -5,7 +5,6 @@ use Rattle.distance.specs.Vectors.{vectors_in}
 use Rattle.distance.specs.Distance.{distance_of}
 use Rattle.lists.specs.Inside.Lists.{list_words}
 use Rattle.graph_utils.proofs.candidates.Steps.{start_is}
-use borrow.Author.Rules.{rules}
 use Rattle.graph_utils.proofs.candidates.bridge_start.Goals as goal
 
 pub returns : goal.returns

@@ -4,7 +4,6 @@ use lib.Ieee.{binary32}
 use Rattle.distance.specs.Distance.{distance_of}
 use Rattle.graph_utils.specs.Inside.Candidates.{Seeking, seeking}
 use Rattle.graph_utils.proofs.candidates.Steps.{not_reached, is_nearer, not_nearer}
-use borrow.Author.Rules.{rules}
 use Rattle.graph_utils.proofs.candidates.consider.Goals as goal
 
 pub returns-then-shape-c : goal.returns-then-shape-c

@@ -5,7 +5,6 @@ use Prim.Native.Nat.{ℕ}
 use Rattle.lists.specs.Inside.Lists.{list_words}
 use Rattle.graph_utils.specs.Inside.Candidates.{Seeking, seeking, considered_all}
 use Rattle.graph_utils.proofs.candidates.Steps.{around_own, around_not}
-use borrow.Author.Rules.{rules}
 use Rattle.graph_utils.proofs.candidates.consider_around.Goals as goal
 
 pub returns-then-own : goal.returns-then-own

@@ -3,15 +3,13 @@ use mathlib.Core.Path.{◌≡◌, refl, ap, ◌∙◌}
 use mathlib.Core.List.{List}
 use mathlib.Core.Logic.{◌⊎◌, inl, inr}
 use mathlib.Core.Bool.{false}
-use Prim.Native.Nat.{ℕ, ◌^◌, ◌<◌}
-use lib.ListN.{length}
+use Prim.Native.Nat.{ℕ, ◌<◌}
 use lib.Dec.{ltb}
 use borrow.Author.Tests.{ltb-true, ltb-false}
 use Rattle.basics.proofs.Tests.{both_true, one_false}
 use Rattle.lists.specs.Inside.Lists.{list_words}
 use Rattle.graph_utils.specs.Inside.Marking.{Marks, marks, visited, marked_from, marked}
 use Rattle.graph_utils.proofs.marking.Steps.{walk_step, walk_end, walk_end_fuel}
-use borrow.Author.Rules.{rules}
 use native.Mathlib.Omega.{arith}
 use Rattle.graph_utils.proofs.marking.mark_reachable.Goals as goal
 use Rattle.graph_utils.proofs.marking.mark_reachable.Goals.{In-loop-top}

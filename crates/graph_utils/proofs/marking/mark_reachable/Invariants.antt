@@ -1,18 +1,9 @@
 -- The invariant: the walk from here on makes the whole. The measure is how many expansions are left. Assumes nothing.
-use mathlib.Core.Path.{◌≡◌, refl, ap, ◌∙◌}
-use mathlib.Core.List.{List}
-use mathlib.Core.Logic.{◌⊎◌, inl, inr}
-use mathlib.Core.Bool.{false}
-use Prim.Native.Nat.{ℕ, ◌^◌, ◌<◌}
+use mathlib.Core.Path.{◌≡◌}
+use Prim.Native.Nat.{◌^◌, ◌<◌}
 use lib.ListN.{length}
-use lib.Dec.{ltb}
-use borrow.Author.Tests.{ltb-true, ltb-false}
-use Rattle.basics.proofs.Tests.{both_true, one_false}
 use Rattle.lists.specs.Inside.Lists.{list_words}
-use Rattle.graph_utils.specs.Inside.Marking.{Marks, marks, visited, marked_from, marked}
-use Rattle.graph_utils.proofs.marking.Steps.{walk_step, walk_end, walk_end_fuel}
-use borrow.Author.Rules.{rules}
-use native.Mathlib.Omega.{arith}
+use Rattle.graph_utils.specs.Inside.Marking.{marked_from}
 use Rattle.graph_utils.proofs.marking.mark_reachable.Given as goal
 
 abbrev pub invariant-loop-top : goal.invariant-loop-top

@@ -5,7 +5,6 @@ use mathlib.Core.List.{List}
 use Prim.Native.Nat.{ℕ, ◌+◌, ◌<◌}
 use lib.ListN.{set}
 use Rattle.graph_utils.proofs.marking.Steps.{visit_new, visit_old, visit_room}
-use borrow.Author.Rules.{rules}
 use Rattle.graph_utils.proofs.marking.visit.Goals as goal
 
 pub overflow_add-result : goal.overflow_add-result

@@ -1,16 +1,9 @@
 -- The invariant: visiting what is left of the list from the cursor on makes the whole. The measure is how much is left. Assumes nothing.
-use mathlib.Core.Path.{◌≡◌, refl, sym, ap, ap₂, ◌∙◌}
-use mathlib.Core.List.{List}
-use Prim.Native.Nat.{ℕ, ◌≤◌}
+use mathlib.Core.Path.{◌≡◌}
+use Prim.Native.Nat.{◌≤◌}
 use lib.ListN.{length}
 use Rattle.lists.specs.Inside.Lists.{list_from}
-use Rattle.lists.specs.declared.chains.Cursor.{Cursor}
-use Rattle.lists.proofs.chains.Reading.{first_place}
-use Rattle.lists.proofs.chains.Cursors.{list_more, list_none, list_less, next_linked}
-use Rattle.graph_utils.specs.Inside.Marking.{marks, visited, visited_all}
-use Rattle.graph_utils.proofs.marking.Steps.{visit_next, visit_none}
-use borrow.Author.Rules.{rules}
-use native.Mathlib.Omega.{arith}
+use Rattle.graph_utils.specs.Inside.Marking.{marks, visited_all}
 use Rattle.graph_utils.proofs.marking.visit_list.Given as goal
 
 abbrev pub invariant-loop-row : goal.invariant-loop-row

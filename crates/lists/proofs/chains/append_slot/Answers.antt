@@ -4,7 +4,6 @@ use mathlib.Core.List.{List}
 use Prim.Native.Nat.{ℕ, ◌+◌, ◌*◌}
 use lib.ListN.{set}
 use Rattle.lists.specs.Inside.Chains.{link_place, append_slot}
-use borrow.Author.Rules.{rules}
 use Rattle.lists.proofs.chains.append_slot.Goals as goal
 
 pub returns : goal.returns

@@ -5,7 +5,6 @@ use Prim.Native.Nat.{◌+◌, ◌*◌, ◌^◌}
 use borrow.Author.Tests.{eq-eqb, ne_eqb, lt-ltb, le-ltb}
 use Rattle.basics.specs.Choice.{pick_true, pick_false}
 use Rattle.lists.specs.Inside.Chains.{append_slot, chain_bridge}
-use borrow.Author.Rules.{rules}
 use Rattle.lists.proofs.chains.chain_bridge.Goals as goal
 
 pub returns-then-j-ge1073741824 : goal.returns-then-j-ge1073741824

@@ -7,7 +7,6 @@ use lib.ListN.{length, take, drop, replicate}
 use lib.Seq.{length-take-le}
 use Rattle.basics.proofs.Members.{drop_min}
 use Rattle.lists.specs.Inside.Chains.{cleared_links}
-use borrow.Author.Rules.{rules}
 use Rattle.lists.proofs.chains.clear_links.Goals as goal
 
 cleared : (n end : ℕ) (links part : List ℕ) → end ≡ min (2 * n) (length links) → part ≡ replicate (length (take (end - 0) links)) 0

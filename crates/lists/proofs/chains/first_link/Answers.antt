@@ -7,7 +7,6 @@ use lib.Dec.{leb}
 use lib.ListN.{length}
 use Rattle.basics.specs.Choice.{pick, pick_true, pick_false}
 use Rattle.lists.specs.Inside.Chains.{first_link}
-use borrow.Author.Rules.{rules}
 use Rattle.lists.proofs.chains.first_link.Goals as goal
 
 pub returns-then-n-link : goal.returns-then-n-link

@@ -2,7 +2,6 @@
 use mathlib.Core.Path.{sym}
 use borrow.Author.Tests.{eq-eqb, ne_eqb}
 use Rattle.basics.specs.Choice.{pick_true, pick_false}
-use borrow.Author.Rules.{rules}
 use Rattle.lists.proofs.chains.link_place.Goals as goal
 
 pub returns-then-tail-eq0 : goal.returns-then-tail-eq0

@@ -4,7 +4,6 @@ use lib.ListN.{length}
 use borrow.Author.Tests.{lt-ltb, le-ltb}
 use Rattle.basics.specs.Choice.{pick_true, pick_false}
 use Rattle.lists.specs.Inside.Lists.{entry_at}
-use borrow.Author.Rules.{rules}
 use Rattle.lists.proofs.chains.list_entry.Goals as goal
 
 pub returns-then-index-row : goal.returns-then-index-row

@@ -1,7 +1,6 @@
 -- The first link is the definition's. Assumes nothing.
 use mathlib.Core.Path.{ap}
 use Rattle.lists.specs.Inside.Lists.{cursor_at}
-use borrow.Author.Rules.{rules}
 use Rattle.lists.proofs.chains.list_start.Goals as goal
 
 pub returns : goal.returns

@@ -6,7 +6,6 @@ use lib.Dec.{ltb, leb}
 use lib.ListN.{length, get_or}
 use Rattle.basics.specs.Choice.{pick, pick_true, pick_false}
 use Rattle.lists.specs.Inside.Chains.{next_link}
-use borrow.Author.Rules.{rules}
 use Rattle.lists.proofs.chains.next_link.Goals as goal
 use Rattle.lists.proofs.chains.next_link.Goals.{After-word_at-next}
 

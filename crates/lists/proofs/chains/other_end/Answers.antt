@@ -8,7 +8,6 @@ use Rattle.store.specs.Layout.{word, bridge_size}
 use Rattle.lists.specs.Inside.Words.{block_at}
 use Rattle.lists.proofs.Reading.{block_word}
 use Rattle.lists.specs.Inside.Chains.{other_slot, other_end_at}
-use borrow.Author.Rules.{rules}
 use Rattle.lists.proofs.chains.other_end.Goals as goal
 
 other_word : (s : ℕ) (bridges : List ℕ) → word (block_at bridge_size (s / 2) bridges) (1 - s % 2) ≡ word bridges (other_slot s)
