@@ -135,12 +135,7 @@ pub fn read_full<R: Read>(input: &mut R, text: &mut [u8]) -> io::Result<usize>
 
 // Moves what stands from `from` up to `end` to the front, reads more after it, and answers how much
 // there is then.
-pub fn refill<R: Read>(
-    input: &mut R,
-    text: &mut [u8],
-    from: usize,
-    end: usize,
-) -> io::Result<usize>
+pub fn refill<R: Read>(input: &mut R, text: &mut [u8], from: usize, end: usize) -> io::Result<usize>
     ensures { IfOk result (λ n. n ≤ length text.new) }
 {
     let kept = shift(text, from, end);
