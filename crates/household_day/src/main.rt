@@ -11,7 +11,8 @@
 ghost use Rattle.std.specs.Prelude.{◌≤◌};
 
 use household::Household;
-use libc::{STDIN_FILENO, STDOUT_FILENO};
+use std::env::{Env, FillError};
+use std::io;
 use words::ids::DocId;
 
 // A decimal number that was read and where it ends, or that there is none that fits 64 bits.
@@ -129,88 +130,111 @@ fn read_lines(text: &[u8], seconds: &mut [u64], docs: &mut [u32]) -> Tally {
     tally
 }
 
-fn write(text: &[u8]) {
-    io::write_all(STDOUT_FILENO, text);
+fn write(rt: &impl Print, text: &str) -> io::Result<()> {
+    rt.write_all(text.as_bytes())
 }
 
-fn write_number(n: u64) {
-    io::print_decimal(STDOUT_FILENO, n);
+fn write_number(rt: &impl Print, n: u64) -> io::Result<()> {
+    print!(rt; "{n}")
 }
 
-fn write_tally(tally: Tally) {
-    write(b"sightings: ");
-    write_number(tally.sightings as u64);
-    write(b"\nlines that are no sighting: ");
-    write_number(tally.others);
-    write(b"\n");
+fn write_tally(rt: &impl Print, tally: Tally) -> io::Result<()> {
+    write(rt, "sightings: ")?;
+    write_number(rt, tally.sightings as u64)?;
+    write(rt, "\nlines that are no sighting: ")?;
+    write_number(rt, tally.others)?;
+    write(rt, "\n")
 }
 
-fn write_count(count: Household) {
+fn write_count(rt: &impl Print, count: Household) -> io::Result<()> {
     match count {
         Household::Phones(n) => {
-            write_number(n as u64);
-            write(b"\n");
+            write_number(rt, n as u64)?;
+            write(rt, "\n")
         }
         Household::Refused(number) => {
-            write(b"turned back with number ");
-            write_number(number as u64);
-            write(b", over 512 sightings\n");
+            write(rt, "turned back with number ")?;
+            write_number(rt, number as u64)?;
+            write(rt, ", over 512 sightings\n")
         }
     }
 }
 
 // Reports the count of one day over the first `sightings` of the two lists.
-fn tell_day(day: u64, seconds: &[u64], docs: &[u32], sightings: usize) {
+fn tell_day(
+    rt: &impl Print,
+    day: u64,
+    seconds: &[u64],
+    docs: &[u32],
+    sightings: usize,
+) -> io::Result<()> {
     if seconds.len() < sightings {
-        return;
+        return Ok(());
     }
     if docs.len() < sightings {
-        return;
+        return Ok(());
     }
-    write(b"phones on day ");
-    write_number(day);
-    write(b": ");
-    write_count(household::household_count(day, &seconds[..sightings], &docs[..sightings]));
+    write(rt, "phones on day ")?;
+    write_number(rt, day)?;
+    write(rt, ": ")?;
+    write_count(
+        rt,
+        household::household_count(day, &seconds[..sightings], &docs[..sightings]),
+    )
 }
 
-// The i-th argument, if it is a number as a whole.
-fn asked(i: usize) -> Number {
-    let mut word = io::buffer();
-    let n = os::arg(i, &mut word);
-    let Number::Read(day, end) = number_at(&word[..n], 0) else {
+// An argument, if it is a number as a whole.
+fn asked(word: &[u8]) -> Number {
+    let Number::Read(day, end) = number_at(word, 0) else {
         return Number::Missing;
     };
-    if end != n {
+    if end != word.len() {
         return Number::Missing;
     }
     Number::Read(day, end)
 }
 
-fn tell_asked(i: usize, seconds: &[u64], docs: &[u32], sightings: usize) {
-    let Number::Read(day, _) = asked(i) else {
-        write(b"argument ");
-        write_number(i as u64);
-        write(b" is no day number\n");
-        return;
+fn tell_asked(
+    rt: &impl Print,
+    i: usize,
+    word: &[u8],
+    seconds: &[u64],
+    docs: &[u32],
+    sightings: usize,
+) -> io::Result<()> {
+    let Number::Read(day, _) = asked(word) else {
+        write(rt, "argument ")?;
+        write_number(rt, i as u64)?;
+        return write(rt, " is no day number\n");
     };
-    tell_day(day, seconds, docs, sightings);
+    tell_day(rt, day, seconds, docs, sightings)
 }
 
-fn tell_days(seconds: &[u64], docs: &[u32], sightings: usize) {
-    let days = os::arg_count();
-    let mut i: usize = 1;
-    while i < days {
-        tell_asked(i, seconds, docs, sightings);
-        i += 1;
+// An argument of more than 4,096 bytes counts as an empty one: it is no day number either.
+fn tell_days(
+    rt: &(impl Env + Print),
+    seconds: &[u64],
+    docs: &[u32],
+    sightings: usize,
+) -> io::Result<()> {
+    let mut word = [0u8; 4096];
+    for i in 1..usize::MAX {
+        let n = match rt.arg(i, &mut word) {
+            Ok(n) => n,
+            Err(FillError::TooLong) => 0,
+            Err(FillError::NotPresent) => return Ok(()),
+        };
+        tell_asked(rt, i, &word[..n], seconds, docs, sightings)?;
     }
+    Ok(())
 }
 
-fn main() {
-    let mut text = io::large_buffer();
+fn main(rt: HostRuntime) -> io::Result<()> {
+    let mut text = [0u8; 65536];
     let mut seconds = [0u64; 513];
     let mut docs = [0u32; 513];
-    let n = io::read_full(STDIN_FILENO, &mut text);
+    let n = replay::read_full(&mut rt.stdin(), &mut text)?;
     let tally = read_lines(&text[..n], &mut seconds, &mut docs);
-    write_tally(tally);
-    tell_days(&seconds, &docs, tally.sightings);
+    write_tally(&rt, tally)?;
+    tell_days(&rt, &seconds, &docs, tally.sightings)
 }

@@ -5,10 +5,10 @@
 // has room.
 //
 // Everything here is proved safe on every line and buffer, and nothing more: what is printed is compared with
-// recorded runs. It uses `replay` and `io` for digits, and `bits` for floats.
+// recorded runs. It uses `replay` for the digits that it reads, and `bits` for floats.
 #![tactic(auto)]
 
-ghost use Rattle.std.specs.Prelude.{◌+◌};
+ghost use Rattle.std.specs.Prelude.{◌+◌, ◌<◌, ◌/◌};
 ghost use Rattle.probe_text.specs.Inside.Places.{EndsFrom};
 
 use words::bits;
@@ -280,17 +280,48 @@ fn put(out: &mut [u8], at: usize, text: &[u8]) -> usize {
     to
 }
 
+// What the first digit of a number counts: the largest power of ten that is not above it, or 1.
+fn unit_of(n: u64) -> u64
+    ensures some { 0 < result }
+    ensures one_digit { n / result < 10 }
+{
+    let mut unit: u64 = 1;
+    while n / unit > 9 {
+        unit *= 10;
+    }
+    unit
+}
+
+// The digits of a number, from the first.
 fn put_decimal(out: &mut [u8], at: usize, n: u64) -> usize {
-    let mut digits = [0u8; 20];
-    let k = io::decimal(n, &mut digits);
-    put(out, at, &digits[..k])
+    let mut to = at;
+    let mut unit = unit_of(n);
+    while unit > 0 {
+        to = put_byte(out, to, ascii_digit(n / unit % 10));
+        unit /= 10;
+    }
+    to
+}
+
+// A digit below 16, in lower case.
+fn ascii_digit(d: u64) -> u8
+    requires { d < 16 }
+{
+    if d < 10 {
+        return b'0' + d as u8;
+    }
+    b'a' + (d - 10) as u8
 }
 
 // The bits of a float, in 8 digits.
 fn put_bits(out: &mut [u8], at: usize, x: f32) -> usize {
-    let mut digits = [0u8; 16];
-    let k = io::hex(bits::bits_of(x) as u64, 8, &mut digits);
-    put(out, at, &digits[..k])
+    let mut to = at;
+    let mut rest = bits::bits_of(x);
+    for _ in 0..8 {
+        to = put_byte(out, to, ascii_digit((rest / 0x1000_0000) as u64));
+        rest = rest % 0x1000_0000 * 16;
+    }
+    to
 }
 
 // Prints a call's number, if it is a refusal. This and what follows answers how many bytes are printed.

@@ -5,10 +5,11 @@
 // what it should print. A token that is missing counts as 0.
 #![tactic(auto)]
 
-ghost use Rattle.std.specs.Prelude.{◌≡◌, ◌+◌, ◌-◌, ◌<◌, ◌≤◌, length, take};
+ghost use Rattle.std.specs.Prelude.{◌≡◌, ◌+◌, ◌-◌, ◌<◌, ◌≤◌, length, take, IfOk};
 ghost use Rattle.replay.specs.Inside.Bounds.{Advanced};
 
-use libc::{STDIN_FILENO, STDOUT_FILENO};
+use std::io;
+use std::io::Read;
 pub use words::slices::lesser;
 use words::{bits, slices};
 
@@ -117,12 +118,29 @@ pub fn read_line(text: &[u8], at: usize, tokens: &mut [u64]) -> Line
     }
 }
 
+// Reads until `text` is full or the input ends, and answers how much was read.
+pub fn read_full<R: Read>(input: &mut R, text: &mut [u8]) -> io::Result<usize>
+    ensures { IfOk result (λ n. n ≤ length text.new) }
+{
+    let mut done: usize = 0;
+    while done < text.len() {
+        let more = input.read(&mut text[done..])?;
+        if more == 0 {
+            return Ok(done);
+        }
+        done += more;
+    }
+    Ok(done)
+}
+
 // Moves what stands from `from` up to `end` to the front, reads more after it, and answers how much
 // there is then.
-pub fn refill(text: &mut [u8], from: usize, end: usize) -> usize {
+pub fn refill<R: Read>(input: &mut R, text: &mut [u8], from: usize, end: usize) -> io::Result<usize>
+    ensures { IfOk result (λ n. n ≤ length text.new) }
+{
     let kept = shift(text, from, end);
-    let more = io::read_full(STDIN_FILENO, &mut text[kept..]);
-    kept + more
+    let more = read_full(input, &mut text[kept..])?;
+    Ok(kept + more)
 }
 
 // Moves what stands from `from` up to `end` to the front, and answers how much that is.
@@ -333,26 +351,22 @@ pub fn count(tallies: &mut [u64], kind: usize, same: bool) {
 }
 
 // Ends a line that names a kind: how many cases there were, and how many differ.
-pub fn write_tally(cases: u64, differ: u64) {
-    io::write_all(STDOUT_FILENO, b": ");
-    io::print_decimal(STDOUT_FILENO, cases);
-    io::write_all(STDOUT_FILENO, b" cases, ");
-    io::print_decimal(STDOUT_FILENO, differ);
-    io::write_all(STDOUT_FILENO, b" differ\n");
+pub fn write_tally(rt: &impl Print, cases: u64, differ: u64) -> io::Result<()> {
+    println!(rt; ": {cases} cases, {differ} differ")
 }
 
 // Writes a line for each kind that has a name, and one for lines of no kind.
-pub fn write_tallies(names: &[u8], tallies: &[u64]) {
+pub fn write_tallies(rt: &impl Print, names: &[u8], tallies: &[u64]) -> io::Result<()> {
     let half = tallies.len() / 2;
     let mut kind: usize = 0;
     let mut from: usize = 0;
     while from < names.len() {
         let next = past_name(names, from);
-        io::write_all(STDOUT_FILENO, &names[from..next - 1]);
-        write_tally(token(tallies, 0, kind), token(tallies, half, kind));
+        rt.write_all(&names[from..next - 1])?;
+        write_tally(rt, token(tallies, 0, kind), token(tallies, half, kind))?;
         kind += 1;
         from = next;
     }
-    io::write_all(STDOUT_FILENO, b"of no kind");
-    write_tally(token(tallies, 0, kind), token(tallies, half, kind));
+    print!(rt; "of no kind")?;
+    write_tally(rt, token(tallies, 0, kind), token(tallies, half, kind))
 }

@@ -11,8 +11,9 @@ ghost use Rattle.std.specs.Prelude.{◌≡◌, length};
 use graph_histories::leaf_histories;
 use graph_histories::leaf_histories::Outcome;
 use histories::History;
-use libc::STDOUT_FILENO;
 use replay::Line;
+use std::io;
+use std::io::Read;
 
 // The kinds whose answers are compared, in the order in which they are reported.
 const NAMES: [u8; 83] =
@@ -175,22 +176,23 @@ fn replay_lines(
 }
 
 // Reads the recorded text piece by piece, up to its end.
-fn replay_all(
+fn replay_all<R: Read>(
+    input: &mut R,
     text: &mut [u8],
     tokens: &mut [u64],
     words: &mut [u32],
     floats: &mut [f32],
     vector: &mut [f32],
     tallies: &mut [u64],
-) {
+) -> io::Result<()> {
     let mut h = histories::start();
     let mut at: usize = 0;
     let mut end: usize = 0;
     let mut turns: u32 = 1000;
     while turns > 0 {
-        end = replay::refill(text, at, end);
+        end = replay::refill(input, text, at, end)?;
         if end == 0 {
-            return;
+            return Ok(());
         }
         let piece = replay::front_bytes(text, end);
         let reached = replay_lines(piece, tokens, words, floats, vector, tallies, h);
@@ -198,12 +200,12 @@ fn replay_all(
         at = reached.at;
         turns -= 1;
     }
+    Ok(())
 }
 
-fn write_not_compared(tallies: &[u64]) {
-    io::write_all(STDOUT_FILENO, b"leavesof with leaves of no node: ");
-    io::print_decimal(STDOUT_FILENO, replay::token(tallies, 0, NOT_COMPARED));
-    io::write_all(STDOUT_FILENO, b" not compared\n");
+fn write_not_compared(rt: &impl Print, tallies: &[u64]) -> io::Result<()> {
+    let many = replay::token(tallies, 0, NOT_COMPARED);
+    println!(rt; "leavesof with leaves of no node: {many} not compared")
 }
 
 // The longest line has 2,123 tokens: a search that found 1,024.
@@ -233,21 +235,22 @@ fn components() -> [f32; 65536]
     [0.0; 65536]
 }
 
-fn main() {
-    let mut text = io::large_buffer();
+fn main(rt: HostRuntime) -> io::Result<()> {
+    let mut text = [0u8; 65536];
     let mut tokens = line_tokens();
     let mut words = word_store();
     let mut floats = float_store();
     let mut vector = components();
     let mut tallies = [0u64; 38];
     replay_all(
+        &mut rt.stdin(),
         &mut text,
         &mut tokens,
         &mut words,
         &mut floats,
         &mut vector,
         &mut tallies,
-    );
-    replay::write_tallies(&NAMES, &tallies);
-    write_not_compared(&tallies);
+    )?;
+    replay::write_tallies(&rt, &NAMES, &tallies)?;
+    write_not_compared(&rt, &tallies)
 }

@@ -11,6 +11,8 @@ use finish::medoid;
 use norm::root;
 use random::{hyperplanes, lcg, leaders};
 use simd::Eight;
+use std::io;
+use std::io::Read;
 use words::bits;
 
 // Past a counted list that starts at `at`.
@@ -176,7 +178,8 @@ fn replay_lines(
 }
 
 // Reads the recorded text piece by piece, up to its end.
-fn replay_all(
+fn replay_all<R: Read>(
+    input: &mut R,
     text: &mut [u8],
     tokens: &mut [u64],
     a: &mut [f32],
@@ -184,18 +187,19 @@ fn replay_all(
     w: &mut [u32],
     v: &mut [u32],
     tallies: &mut [u64],
-) {
+) -> io::Result<()> {
     let mut at: usize = 0;
     let mut end: usize = 0;
     let mut turns: u32 = 1000;
     while turns > 0 {
-        end = replay::refill(text, at, end);
+        end = replay::refill(input, text, at, end)?;
         if end == 0 {
-            return;
+            return Ok(());
         }
         at = replay_lines(replay::front_bytes(text, end), tokens, a, b, w, v, tallies);
         turns -= 1;
     }
+    Ok(())
 }
 
 fn numbers() -> [u64; 8192]
@@ -216,8 +220,8 @@ fn words() -> [u32; 2048]
     [0; 2048]
 }
 
-fn main() {
-    let mut text = io::large_buffer();
+fn main(rt: HostRuntime) -> io::Result<()> {
+    let mut text = [0u8; 65536];
     let mut tokens = numbers();
     let mut a = floats();
     let mut b = floats();
@@ -225,6 +229,7 @@ fn main() {
     let mut v = words();
     let mut tallies = [0u64; 20];
     replay_all(
+        &mut rt.stdin(),
         &mut text,
         &mut tokens,
         &mut a,
@@ -232,7 +237,7 @@ fn main() {
         &mut w,
         &mut v,
         &mut tallies,
-    );
-    replay::write_tallies(&NAMES, &tallies);
-    plane_stream::write_tally();
+    )?;
+    replay::write_tallies(&rt, &NAMES, &tallies)?;
+    plane_stream::write_tally(&rt)
 }

@@ -3,8 +3,8 @@
 //
 // A number of the stream is (h − 2^30)/2^30, rounded once: the size of h − 2^30 is split so that both parts
 // and their products are exact, and their sum alone rounds.
-use libc::STDOUT_FILENO;
 use random::{hyperplanes, lcg};
+use std::io;
 use words::bits;
 
 // a/2^30, rounded once, for an a of at most 2^30.
@@ -36,9 +36,9 @@ fn differing(planes: &[f32]) -> u64 {
 }
 
 // Prints how many numbers there are, and how many differ.
-pub fn write_tally() {
+pub fn write_tally(rt: &impl Print) -> io::Result<()> {
     let mut planes = [0.0f32; 1024];
     hyperplanes::planes_into(&mut planes);
-    io::write_all(STDOUT_FILENO, b"stream");
-    replay::write_tally(1024, differing(&planes));
+    print!(rt; "stream")?;
+    replay::write_tally(rt, 1024, differing(&planes))
 }

@@ -6,7 +6,7 @@ mod probe_runs;
 
 ghost use Rattle.std.specs.Prelude.{◌≡◌, length};
 
-use libc::{STDIN_FILENO, STDOUT_FILENO};
+use std::io;
 
 // All runs together have some 82,000 bytes.
 fn all_runs() -> [u8; 131072]
@@ -15,11 +15,11 @@ fn all_runs() -> [u8; 131072]
     [0; 131072]
 }
 
-fn main() {
+fn main(rt: HostRuntime) -> io::Result<()> {
     let mut text = all_runs();
-    let n = io::read_full(STDIN_FILENO, &mut text);
+    let n = replay::read_full(&mut rt.stdin(), &mut text)?;
     let mut tokens = [0u64; 2];
     let tally = probe_runs::replay_runs(replay::front_bytes(&text, n), &mut tokens);
-    io::write_all(STDOUT_FILENO, b"probe");
-    replay::write_tally(tally.runs, tally.differ);
+    print!(rt; "probe")?;
+    replay::write_tally(&rt, tally.runs, tally.differ)
 }

@@ -6,6 +6,8 @@
 ghost use Rattle.std.specs.Prelude.{◌≡◌, length};
 
 use distance::order;
+use std::io;
+use std::io::Read;
 
 // The keys of up to n distances, from `from` on, and their places, at the fronts of two slices.
 fn load_keys(tokens: &[u64], from: usize, n: usize, keys: &mut [u32], places: &mut [u32]) {
@@ -113,7 +115,8 @@ fn replay_lines(
 }
 
 // Reads the recorded text piece by piece, up to its end.
-fn replay_all(
+fn replay_all<R: Read>(
+    input: &mut R,
     text: &mut [u8],
     tokens: &mut [u64],
     w: &mut [u32],
@@ -121,18 +124,19 @@ fn replay_all(
     x: &mut [u32],
     y: &mut [u32],
     tallies: &mut [u64],
-) {
+) -> io::Result<()> {
     let mut at: usize = 0;
     let mut end: usize = 0;
     let mut turns: u32 = 1000;
     while turns > 0 {
-        end = replay::refill(text, at, end);
+        end = replay::refill(input, text, at, end)?;
         if end == 0 {
-            return;
+            return Ok(());
         }
         at = replay_lines(replay::front_bytes(text, end), tokens, w, v, x, y, tallies);
         turns -= 1;
     }
+    Ok(())
 }
 
 fn numbers() -> [u64; 8192]
@@ -147,8 +151,8 @@ fn words() -> [u32; 2048]
     [0; 2048]
 }
 
-fn main() {
-    let mut text = io::large_buffer();
+fn main(rt: HostRuntime) -> io::Result<()> {
+    let mut text = [0u8; 65536];
     let mut tokens = numbers();
     let mut w = words();
     let mut v = words();
@@ -156,6 +160,7 @@ fn main() {
     let mut y = words();
     let mut tallies = [0u64; 6];
     replay_all(
+        &mut rt.stdin(),
         &mut text,
         &mut tokens,
         &mut w,
@@ -163,6 +168,6 @@ fn main() {
         &mut x,
         &mut y,
         &mut tallies,
-    );
-    replay::write_tallies(&NAMES, &tallies);
+    )?;
+    replay::write_tallies(&rt, &NAMES, &tallies)
 }
