@@ -6,7 +6,6 @@ use mathlib.Core.Logic.{inl, inr}
 use mathlib.Core.List.{List, [], ◌∷◌, ◌++◌, map}
 use mathlib.Core.List.Memᴰ.{append_cases as in-cases}
 use mathlib.Core.List.Memᴰ.{eq_of_singleton as in_one}
-use mathlib.Core.List.Memᴰ.{head as here}
 use mathlib.Core.List.Memᴰ.{not-nil as in-nil}
 use mathlib.Core.List.{Memᴰ as In}
 use Prim.Native.Nat.{ℕ, zero, suc, ◌+◌, ◌≤◌, ◌<◌}
@@ -213,11 +212,11 @@ places_below (suc i) x m = elim (in-cases (first_places i) m) [
 ]
 
 module _ (far : ℕ → Float) (hash : ℕ → ℕ) where
-  cells_snoc : (cells : List Cell) (xs : List ℕ) (x : ℕ)
-      → cells_from far hash cells (xs ++ (x ∷ [])) ≡ put_cell far (record { hash = hash x; node = x }) (cells_from far hash cells xs)
+  cells_snoc : (cs : List Cell) (xs : List ℕ) (x : ℕ)
+      → cells_from far hash cs (xs ++ (x ∷ [])) ≡ put_cell far (record { hash = hash x; node = x }) (cells_from far hash cs xs)
   unfolding cells_from
-  cells_snoc cells [] x = refl
-  cells_snoc cells (y ∷ xs) x = cells_snoc (put_cell far (record { hash = hash y; node = y }) cells) xs x
+  cells_snoc cs [] x = refl
+  cells_snoc cs (y ∷ xs) x = cells_snoc (put_cell far (record { hash = hash y; node = y }) cs) xs x
 
   -- places that hold cells are places that came
   pub cells_below : (i : ℕ) → Below i (nodes_in (cells_from far hash [] (first_places i)))

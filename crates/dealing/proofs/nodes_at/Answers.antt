@@ -37,7 +37,7 @@ pub offset_bounds-positions-i : goal.offset_bounds-positions-i
 offset_bounds-positions-i c = let n = kept (goal.at.offset_bounds-positions-i c).At-loop-i in search rules
 
 pub overflow_cast-positions : goal.overflow_cast-positions
-overflow_cast-positions c = omega (arith, c.slice_known-in-loop-i-1.given c.loop-i.i)
+overflow_cast-positions c = omega (arith, c.type_inv.positions c.loop-i.i)
 
 pub offset_bounds-positions-i-in-loop-i : goal.offset_bounds-positions-i-in-loop-i
 offset_bounds-positions-i-in-loop-i c = let n = kept (goal.at.offset_bounds-positions-i-in-loop-i c).At-loop-i in search rules
