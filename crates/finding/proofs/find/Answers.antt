@@ -8,7 +8,6 @@ use Rattle.def_walk.specs.Beam.{places_for}
 use Rattle.finding.specs.Inside.Finding.{nodes_found}
 use Rattle.finding.proofs.Replying.{checked_into, docs_reply}
 use native.Mathlib.Omega.{arith}
-use borrow.Author.Rules.{rules}
 use Rattle.finding.proofs.find.Goals as goal
 
 -- the array of nodes as the walk finds it

@@ -5,10 +5,8 @@ use Prim.Native.Nat.{◌≤◌}
 use native.Mathlib.Omega.{arith}
 use lib.ListN.{length}
 use lib.Seq.{length-take-le}
-use borrow.Author.Tests.{not-true, not-false}
 use Rattle.finding.proofs.Replying.{stores, query_short, lies}
 use Rattle.finding.proofs.Scaled.{room_is, room_long, room_length, checked_scaled, found_scaled}
-use borrow.Author.Rules.{rules}
 use Rattle.finding.proofs.find_nodes.Goals as goal
 use Rattle.finding.proofs.find_nodes.Goals.{Else-components}
 

@@ -3,7 +3,6 @@ use mathlib.Core.Path.{◌≡◌, ap, ◌∙◌}
 use Prim.Native.Nat.{ℕ, ◌*◌}
 use native.Mathlib.Omega.{arith}
 use Rattle.store.specs.Layout.{word, degree_at, rows_at, row_at, bridges_at, bridge_at}
-use borrow.Author.Rules.{rules}
 use Rattle.finding.proofs.parts_of.Goals as goal
 
 pub returns : goal.returns

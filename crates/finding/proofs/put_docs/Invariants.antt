@@ -1,13 +1,8 @@
 -- The invariant: the doc ids of the first i nodes stand at the front, the rest is as it was. The measure is what is left. Assumes nothing.
-use borrow.Author.Rules.{rules}
-use native.Mathlib.Omega.{arith}
-use mathlib.Core.Path.{◌≡◌, refl, sym, ap, ◌∙◌}
-use mathlib.Core.List.{List, [], ◌∷◌, ◌++◌, map, map-append}
-use Prim.Native.Nat.{ℕ, ◌+◌, ◌-◌, ◌≤◌, ◌<◌}
-use native.Mathlib.Numerals.{add-one}
-use lib.ListN.{length, get_or, take, drop, set, length-set, length-map}
-use lib.Seq.{take-suc, length-take-le}
-use Rattle.basics.proofs.Loops.{front_set}
+use mathlib.Core.Path.{◌≡◌}
+use mathlib.Core.List.{List, ◌++◌, map}
+use Prim.Native.Nat.{ℕ, ◌-◌, ◌≤◌}
+use lib.ListN.{length, take, drop}
 use Rattle.finding.specs.Inside.Docs.{doc_at}
 use Rattle.finding.proofs.put_docs.Given as goal
 

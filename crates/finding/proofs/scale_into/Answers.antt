@@ -4,7 +4,6 @@ use lib.Ieee.{binary32}
 use Rattle.norm.specs.Norm.{scaled_of}
 use Rattle.words.proofs.slices.Laws.{copied_whole}
 use native.Mathlib.Omega.{arith}
-use borrow.Author.Rules.{rules}
 use Rattle.finding.proofs.scale_into.Goals as goal
 
 pub returns : goal.returns

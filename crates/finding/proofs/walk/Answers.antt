@@ -4,7 +4,6 @@ use lib.ListN.{length}
 use lib.Seq.{length-take-le}
 use Rattle.finding.proofs.Replying.{PartsLie, parts_lie, nodes_are}
 use native.Mathlib.Omega.{arith}
-use borrow.Author.Rules.{rules}
 use Rattle.finding.proofs.walk.Goals as goal
 use Rattle.finding.proofs.walk.Goals.{Start}
 

@@ -1,9 +1,7 @@
 -- Each return is one of the four answers of proofs/Answers, by what the search has left. Assumes nothing.
 use mathlib.Core.Path.{refl, sym, ◌∙◌}
-use borrow.Author.Tests.{not-true, not-false}
 use Rattle.recognise.specs.Recognised.{recognised_values}
 use Rattle.recognise.proofs.Answers.{search_refused, limit_refused, found_none, found_one}
-use borrow.Author.Rules.{rules}
 use Rattle.recognise.proofs.recognise.Goals as goal
 
 pub returns-then-found-ne0 : goal.returns-then-found-ne0

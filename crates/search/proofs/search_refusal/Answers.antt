@@ -6,8 +6,7 @@ use mathlib.Core.List.{List}
 use Prim.Native.Nat.{ℕ}
 use lib.Dec.{ltb}
 use lib.ListN.{length, take}
-use borrow.Author.Tests.{eq-eqb, ne_eqb, not-true, not-false}
-use borrow.Author.Rules.{rules}
+use borrow.Author.Tests.{eq-eqb, ne_eqb}
 use Rattle.basics.specs.Refusals.{Check, first_refusal}
 use Rattle.basics.proofs.Refusals.{Pass, turned_at, none_turned, then_first, then_second}
 use Rattle.store.specs.declared.Lent.TheVariants.{Scratch}

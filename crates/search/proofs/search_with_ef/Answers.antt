@@ -2,7 +2,6 @@
 use mathlib.Core.Path.{sym, ◌∙◌}
 use lib.Ieee.{of_bits}
 use Rattle.search.proofs.Replies.{turned_back_lem, accepted, checked}
-use borrow.Author.Rules.{rules}
 use Rattle.search.proofs.search_with_ef.Goals as goal
 
 pub returns-then-refusal-ne0 : goal.returns-then-refusal-ne0

@@ -1,5 +1,4 @@
 -- The score is `score`'s, and the test on the limit is the definition's choice. Assumes nothing.
-use borrow.Author.Rules.{rules}
 use mathlib.Core.Path.{sym, ap, ◌∙◌}
 use Prim.Native.Nat.{ℕ}
 use Rattle.basics.specs.Choice.{pick_true, pick_false}

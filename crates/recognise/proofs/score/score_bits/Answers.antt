@@ -1,6 +1,5 @@
 -- Below 1/128 `near_pattern` says 99; from there on the pattern is q / 2^s with q at most 2^s, which `inside_pattern` says of the score and
 -- which keeps the quotient below 100. Assumes nothing.
-use borrow.Author.Rules.{rules}
 use native.Mathlib.Omega.{arith}
 use mathlib.Core.Path.{sym}
 use Prim.Native.Nat.{ℕ, ◌+◌, ◌-◌, ◌*◌, ◌/◌, ◌%◌, ◌^◌, ◌≤◌, ◌<◌}
