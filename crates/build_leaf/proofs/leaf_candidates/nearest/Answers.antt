@@ -1,0 +1,11 @@
+-- The places before i are offered, then those behind it (`nearest_of_lem`). Assumes nothing.
+use Rattle.build_leaf.proofs.leaf_candidates.Offers.{nearest_of_lem}
+use Rattle.build_leaf.proofs.leaf_candidates.nearest.Goals as goal
+
+pub returns : goal.returns
+returns c =
+    let x = c.args in
+    let a = c.offer-held in
+    let b = c.offer in
+    nearest_of_lem x.floats.now x.lane x.size x.i a.result b.result x.keys.now x.places.now _ _ _ _
+    a.auto.keys a.auto.places b.auto.keys b.auto.places a.ensures b.ensures
