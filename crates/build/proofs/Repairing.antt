@@ -52,7 +52,7 @@ bridge_words_lem bs =
 
 module _ (n C D d : ℕ) (w : List ℕ) (xs : List Float) (part bridges bridges' words : List ℕ) (entry built count : ℕ) (w1 w2 : List ℕ)
     (some : 1 ≤ n) (most : n ≤ 1024) (components : 1 ≤ d) (size : length xs ≡ n * d) (bridge_room : 2 * n ≤ length bridges) (word_room : 4 * n ≤ length words)
-    (entry_at : entry ≡ compute_medoid d (vectors_in d xs)) (repairs : Repairs (row_lists D part) entry (vectors_in d xs) bridges words built bridges')
+    (entry_is : entry ≡ compute_medoid d (vectors_in d xs)) (repairs : Repairs (row_lists D part) entry (vectors_in d xs) bridges words built bridges')
     (counted : count ≡ min built n) (header : w1 ≡ set (set (set w state_at built_state) entry_at entry) bridge_count_at count)
     (written : w2 ≡ laid (bridges_at C D) (take (2 * count) bridges') w1) where
   abbrev vs : List (List Float)
@@ -62,7 +62,7 @@ module _ (n C D d : ℕ) (w : List ℕ) (xs : List Float) (part bridges bridges'
   entry_below =
       let many = vectors_many n d xs components size in
       let below : compute_medoid d vs < length vs = medoid_below d vs (omega (arith, many)) in
-      omega (arith, below, many, entry_at)
+      omega (arith, below, many, entry_is)
 
   pub repaired : (rows : List (List ℕ)) → length rows ≡ n → ((u : ℕ) → Below n (get_or rows u [])) → Blocks D rows part → w2 ≡ with_repair C D d vs rows w
   repaired rows many below blocks =
@@ -83,4 +83,4 @@ module _ (n C D d : ℕ) (w : List ℕ) (xs : List Float) (part bridges bridges'
       ap₂ (λ (k : ℕ) (l : List ℕ). take (2 * k) l) all r.1 ∙ take_at (flatten (map bridge_block bs)) (drop (2 * length bs) bridges) (2 * length bs) (bridge_words_lem bs) in
       written
       ∙ ap₂ (laid (bridges_at C D)) front (header ∙ ap (λ (k : ℕ). set (set (set w state_at built_state) entry_at entry) bridge_count_at k) all)
-      ∙ ap (λ (e : ℕ). laid (bridges_at C D) (flatten (map bridge_block (ensure_connectivity rows e vs))) (set (set (set w state_at built_state) entry_at e) bridge_count_at (length (ensure_connectivity rows e vs)))) entry_at
+      ∙ ap (λ (e : ℕ). laid (bridges_at C D) (flatten (map bridge_block (ensure_connectivity rows e vs))) (set (set (set w state_at built_state) entry_at e) bridge_count_at (length (ensure_connectivity rows e vs)))) entry_is
