@@ -116,10 +116,13 @@ square_unsigned f (fin s m e) h = subst Unsigned (sym (square_is f s m e)) (roun
 
 add_unsigned : (f : Format) (x y : Float) → Unsigned x → Unsigned y → Unsigned (add f x y)
 unfolding add sum
+add_unsigned f nan y p q = elim p [ ]
 add_unsigned f (inf true) y p q = absurd (subst T p tt)
+add_unsigned f (inf false) nan p q = elim q [ ]
 add_unsigned f (inf false) (inf true) p q = absurd (subst T q tt)
 add_unsigned f (inf false) (inf false) p q = refl
 add_unsigned f (inf false) (fin t n d) p q = refl
+add_unsigned f (fin s m e) nan p q = elim q [ ]
 add_unsigned f (fin s m e) (inf t) p q = q
 add_unsigned f (fin true m e) (fin t n d) p q = absurd (subst T p tt)
 add_unsigned f (fin false m e) (fin true n d) p q = absurd (subst T q tt)
@@ -128,12 +131,14 @@ add_unsigned f (fin false m e) (fin false n d) p q = round_unsigned f (m * up e 
 -- an infinity stays in the sum
 inf_first : (f : Format) (y : Float) → Unsigned y → add f (inf false) y ≡ inf false
 unfolding add
+inf_first f nan q = elim q [ ]
 inf_first f (inf true) q = absurd (subst T q tt)
 inf_first f (inf false) q = refl
 inf_first f (fin t n d) q = refl
 
 inf_second : (f : Format) (x : Float) → Unsigned x → add f x (inf false) ≡ inf false
 unfolding add
+inf_second f nan q = elim q [ ]
 inf_second f (inf true) q = absurd (subst T q tt)
 inf_second f (inf false) q = refl
 inf_second f (fin t n d) q = refl
@@ -207,6 +212,8 @@ some-length N D h = omega arith
 
 divided_by : (x : Float) (t : Bool) (n : ℕ) (d : ℤ) → Bounded x → lt (fin false 14411519 (negsuc 56)) (fin t n d) ≡ true → finite (div binary32 x (fin t n d)) ≡ true
 unfolding lt div
+divided_by nan t n d b h = elim b [ ]
+divided_by (inf _) t n d b h = elim b [ ]
 divided_by (fin s m e) true n d b h = absurd (subst T (sym h) tt)
 divided_by (fin s m e) false n d b h =
     let l : 14411519 * 1 * down d < n * up d * 2 ^ 57 = ltb→lt (14411519 * 1 * down d) (n * up d * 2 ^ 57) (subst T (sym h) tt) in
@@ -254,6 +261,7 @@ root_infinite = refl
 
 quotients : (v : List Float) (q : Float) → every finite v ≡ true → Unsigned q → ((q ≡ inf false → ⊥) → AllBounded v) → lt (tiny binary32) (root_of binary32 q) ≡ true
     → every finite (map (λ (x : Float). div binary32 x (root_of binary32 q)) v) ≡ true
+quotients v nan h u b k = elim u [ ]
 quotients v (inf true) h u b k = absurd (subst T u tt)
 quotients v (inf false) h u b k = subst (λ (l : Float). every finite (map (λ (x : Float). div binary32 x l) v) ≡ true) (sym root_infinite) (all_by_infinity v false h)
 quotients v (fin s m e) h u b k = all_divided v (root_of binary32 (fin s m e)) h (b (λ p. subst (λ (x : Float). T (finite x)) p tt)) k

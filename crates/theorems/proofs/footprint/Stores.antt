@@ -1,12 +1,12 @@
 -- Stores that agree up to their sizes are opened and read alike: every check that a call begins with reads the header's words, the lengths, or
 -- what lies within the sizes, and so does the view. Assumes nothing.
 use mathlib.Core.Path.{◌≡◌, refl, sym, ap, ap₂, ◌∙◌}
-use mathlib.Core.Bool.{Bool, true, false, ◌||◌}
+use mathlib.Core.Bool.{Bool, true, false, ◌||◌, ◌&&◌}
 use mathlib.Core.List.{List, ◌++◌}
 use Prim.Native.Nat.{ℕ, ◌+◌, ◌*◌, ◌≤◌, ◌<◌}
 use native.Mathlib.Omega.{arith}
 use borrow.Author.Tests.{le-ltb}
-use lib.Dec.{ltb}
+use lib.Dec.{ltb, leb, eqb}
 use lib.ListN.{length, take, drop}
 use lib.Ieee.{Float}
 use Rattle.basics.specs.Lists.{pieces}
@@ -14,8 +14,9 @@ use Rattle.basics.specs.Refusals.{Check, first_refusal}
 use Rattle.store.specs.declared.Lent.{Lent}
 use Rattle.store.specs.Layout.{word, header_size, state_at, dimension_at, nodes_at, max_leaf_size_at, min_leaf_size_at, degree_at, hash_bits_at, final_prune_at, ef_search_at, entry_at, bridge_count_at, capacity_at, fraction_high_at, fraction_low_at, alpha_at, zero_at, docs_at, rows_at, row_size, bridges_at, bridge_size}
 use Rattle.store.specs.View.{view, params_of, row_words, bridge_words}
-use Rattle.store.specs.WellFormed.{header_ok, rest_ok}
+use Rattle.store.specs.WellFormed.{header_ok, rest_ok, open_ok, built_ok}
 use Rattle.store.specs.Opening.{scratch_short, store_short, opening}
+use Rattle.params.specs.Limits.{within_limits, dimension_within, capacity_within}
 use Rattle.store.proofs.Header.{Header, header}
 use Rattle.store.proofs.Sizes.{product_le}
 use Rattle.def_calls.proofs.Laid.{same_front, same_part, same_pieces, same_word}
@@ -71,7 +72,17 @@ module _ {w w' : List ℕ} (h : Words w w') where
 
   pub header_same : header_ok w ≡ header_ok w'
   unfolding header_ok
-  header_same = cc (params_same)
+  header_same = λ i.
+      within_limits (params_same i) && dimension_within (h.w1 i) && capacity_within (h.w11 i)
+      && leb (h.w7 i) 1 && eqb (h.w15 i) 0
+      && leb (h.w2 i) (h.w11 i)
+      && (open_same i || built_same i)
+    where
+      open_same : open_ok w ≡ open_ok w'
+      open_same = cc
+
+      built_same : built_ok w ≡ built_ok w'
+      built_same = cc
 
 -- ---- what lies within the sizes, for a header that is well formed
 

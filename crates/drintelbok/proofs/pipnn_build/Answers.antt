@@ -1,0 +1,6 @@
+-- The call behind it says all. Assumes nothing.
+use borrow.Author.Rules.{rules}
+use Rattle.drintelbok.proofs.pipnn_build.Goals as goal
+
+pub returns : goal.returns
+returns c = c.build.ensures
