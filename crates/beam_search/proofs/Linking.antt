@@ -14,7 +14,6 @@ use Rattle.lists.specs.Inside.Words.{block_at}
 use Rattle.lists.proofs.Reading.{block_word}
 use Rattle.lists.specs.Inside.Chains.{chain_bridge, Chained, bridges_in}
 use Rattle.lists.proofs.chains.Laws.{chain_more}
-use Rattle.neighbours.specs.Inside.Gathering.{Linked}
 use Rattle.neighbours.proofs.gathering.Alone.{no_chain}
 use Rattle.beam_search.specs.Inside.Steps.{Linking}
 

@@ -2,12 +2,11 @@
 use Rattle.store.proofs.Sizes.{product_le}
 use native.Mathlib.Omega.{arith}
 use Prim.Native.Nat.{◌*◌, ◌≤◌}
-use borrow.Author.Rules.{rules}
 use Rattle.beam_search.proofs.ends_after.Goals as goal
 
 pub overflow_mul-result : goal.overflow_mul-result
 overflow_mul-result c =
     let a = c.args in
     let most : a.sizes.stops.multiplier * a.sizes.places ≤ 4294967295 * 4294967295 =
-    product_le _ _ 4294967295 4294967295 (omega (arith, c.struct_known-2-1, c.struct_known-1)) (omega (arith, c.struct_known-2-1, c.struct_known-1)) in
+    product_le _ _ 4294967295 4294967295 (omega arith) (omega arith) in
     omega arith

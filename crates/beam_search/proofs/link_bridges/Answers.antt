@@ -1,9 +1,9 @@
 -- `beam_search::link_bridges` meets its contract: the first j bridges are linked. The measure is how many are left. Assumes nothing.
 use mathlib.Core.Path.{ap₂, ◌∙◌}
-use Prim.Native.Nat.{ℕ, ◌-◌}
+use Prim.Native.Nat.{ℕ}
 use Rattle.lists.specs.Inside.Chains.{chain_bridge}
-use Rattle.beam_search.proofs.Linking.{Chaining, chaining_none, chaining_more, chaining_all}
-use borrow.Author.Rules.{rules}
+use Rattle.beam_search.proofs.Linking.{chaining_none, chaining_more, chaining_all}
+use native.Mathlib.Omega.{arith}
 use Rattle.beam_search.proofs.link_bridges.Goals as goal
 
 pub loop-j-preserved : goal.loop-j-preserved
@@ -14,7 +14,7 @@ loop-j-preserved c =
     let near = c.end_of-near in
     let far = c.end_of-far in
     chaining_more a.n a.bridges.now a.links.now l.j l.links l.invariant b.new.links c.requires
-    c.loop-j-test.true b.auto.links
+    (omega arith) b.auto.links
     (b.ensures ∙ ap₂ (λ (x : ℕ) (y : ℕ). chain_bridge a.n l.j x y l.links) near.ensures far.ensures)
 
 pub returns : goal.returns

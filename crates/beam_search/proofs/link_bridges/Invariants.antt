@@ -1,9 +1,6 @@
 -- `beam_search::link_bridges` meets its contract: the first j bridges are linked. The measure is how many are left. Assumes nothing.
-use mathlib.Core.Path.{ap₂, ◌∙◌}
-use Prim.Native.Nat.{ℕ, ◌-◌}
-use Rattle.lists.specs.Inside.Chains.{chain_bridge}
-use Rattle.beam_search.proofs.Linking.{Chaining, chaining_none, chaining_more, chaining_all}
-use borrow.Author.Rules.{rules}
+use Prim.Native.Nat.{◌-◌}
+use Rattle.beam_search.proofs.Linking.{Chaining}
 use Rattle.beam_search.proofs.link_bridges.Given as goal
 
 abbrev pub invariant-loop-j : goal.invariant-loop-j

@@ -5,7 +5,6 @@ use lib.ListN.{length-take}
 use Rattle.beam_state.specs.Inside.State.{held_at}
 use Rattle.beam_search.proofs.Ending.{prepared}
 use native.Mathlib.Omega.{arith}
-use borrow.Author.Rules.{rules}
 use Rattle.beam_search.proofs.prepare.Goals as goal
 
 pub returns : goal.returns

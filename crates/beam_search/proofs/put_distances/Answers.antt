@@ -2,11 +2,10 @@
 use mathlib.Core.Path.{◌≡◌, refl, ap, ap₂, ◌∙◌}
 use mathlib.Core.Bool.{false}
 use mathlib.Core.List.{List}
-use Prim.Native.Nat.{◌-◌, ◌≤◌}
+use Prim.Native.Nat.{◌≤◌}
 use lib.ListN.{length, get_or, set}
 use lib.Ieee.{Float, inf}
 use Rattle.beam_search.proofs.Ending.{put_so_far, put_length, put_more}
-use borrow.Author.Rules.{rules}
 use native.Mathlib.Omega.{arith}
 use Rattle.beam_search.proofs.put_distances.Goals as goal
 use Rattle.beam_search.proofs.put_distances.Goals.{After-lesser-many, At-loop-i}
@@ -19,7 +18,7 @@ kept : (c : At-loop-i) → length c.loop-i.distances ≡ length c.args.distances
 kept c =
     let a = c.args in
     let m : (c.lesser-many.result ≤ length a.nodes.now) × (c.lesser-many.result ≤ length a.distances.now) =
-        (omega (arith, c.lesser-many.ensures, c.lesser.ensures), omega (arith, c.lesser-many.ensures, c.lesser.ensures)) in
+    (omega (arith, c.lesser-many.ensures, c.lesser.ensures), omega (arith, c.lesser-many.ensures, c.lesser.ensures)) in
     ap length c.loop-i.invariant.1 ∙ put_length (λ v. get_or a.floats.now v (inf false)) a.nodes.now a.distances.now c.loop-i.i (omega (arith, c.loop-i.invariant.0)) (omega (arith, c.loop-i.invariant.0))
 
 pub bounds-distances-i : goal.bounds-distances-i

@@ -1,13 +1,10 @@
 -- `beam_search::put_distances` meets its contract: the first i distances are written, and the rest is as it was. The measure is how many are left. Assumes nothing.
-use mathlib.Core.Path.{◌≡◌, refl, ap, ap₂, ◌∙◌}
+use mathlib.Core.Path.{◌≡◌}
 use mathlib.Core.Bool.{false}
-use mathlib.Core.List.{List}
 use Prim.Native.Nat.{◌-◌, ◌≤◌}
-use lib.ListN.{length, get_or, set}
-use lib.Ieee.{Float, inf}
-use Rattle.beam_search.proofs.Ending.{put_so_far, put_length, put_more}
-use borrow.Author.Rules.{rules}
-use native.Mathlib.Omega.{arith}
+use lib.ListN.{get_or}
+use lib.Ieee.{inf}
+use Rattle.beam_search.proofs.Ending.{put_so_far}
 use Rattle.beam_search.proofs.put_distances.Given as goal
 
 abbrev pub invariant-loop-i : goal.invariant-loop-i

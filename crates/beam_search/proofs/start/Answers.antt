@@ -6,7 +6,6 @@ use Rattle.def_walk.specs.Beam.{far_from}
 use Rattle.beam_state.specs.Inside.State.{live_by}
 use Rattle.beam_search.proofs.Ending.{started}
 use native.Mathlib.Omega.{arith}
-use borrow.Author.Rules.{rules}
 use Rattle.beam_search.proofs.start.Goals as goal
 
 pub float_from_bits-none : goal.float_from_bits-none

@@ -3,7 +3,6 @@ use Rattle.beam_search.specs.Inside.Search.{Reads}
 use Rattle.beam_state.specs.Inside.State.{Memory}
 use Rattle.beam_search.proofs.Taking.{expanding}
 use Rattle.beam_search.proofs.Walking.{popped_to, popped_long, step_empty, step_far, step_on}
-use borrow.Author.Rules.{rules}
 use Rattle.beam_search.proofs.step.Goals as goal
 use Rattle.beam_search.proofs.step.Goals.{Start}
 

@@ -2,7 +2,6 @@
 use Rattle.distance.specs.Vectors.{vectors_in}
 use Rattle.def_walk.specs.Beam.{far_from}
 use Rattle.beam_search.proofs.Taking.{taking_in}
-use borrow.Author.Rules.{rules}
 use Rattle.beam_search.proofs.take_in.Goals as goal
 
 pub returns : goal.returns

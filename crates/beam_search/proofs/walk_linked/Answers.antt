@@ -4,7 +4,6 @@ use Prim.Native.Nat.{ℕ}
 use lib.ListN.{length-replicate, get_or-replicate}
 use Rattle.neighbours.proofs.gathering.Alone.{none_linked}
 use native.Mathlib.Omega.{arith}
-use borrow.Author.Rules.{rules}
 use Rattle.beam_search.proofs.walk_linked.Goals as goal
 
 pub returns-then-bridges-lt2 : goal.returns-then-bridges-lt2

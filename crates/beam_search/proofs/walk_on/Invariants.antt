@@ -1,9 +1,5 @@
 -- `beam_search::walk_on` meets its contract: the walk of the definition by the steps that are left is the whole. The measure is how many are left. Assumes nothing.
-use mathlib.Core.Path.{◌∙◌}
-use Rattle.beam_state.specs.Inside.State.{Memory}
-use Rattle.beam_search.proofs.Walking.{Onward, onward_none, onward_more, onward_ends, onward_all}
-use borrow.Author.Rules.{rules}
-use native.Mathlib.Omega.{arith}
+use Rattle.beam_search.proofs.Walking.{Onward}
 use Rattle.beam_search.proofs.walk_on.Given as goal
 
 abbrev pub invariant-loop-left : goal.invariant-loop-left

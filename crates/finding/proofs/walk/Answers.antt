@@ -7,9 +7,7 @@ use native.Mathlib.Omega.{arith}
 use Rattle.finding.proofs.walk.Goals as goal
 use Rattle.finding.proofs.walk.Goals.{Start}
 
-abbrev Lie : Start → Type 0
-Lie s = let a = s.args in PartsLie a.parts (length a.words.now) (length a.floats.now) (length a.nodes.now) (length a.distances.now)
-
+-- the parts lie in the stores
 lie : (s : Start) → (let a = s.args in PartsLie a.parts (length a.words.now) (length a.floats.now) (length a.nodes.now) (length a.distances.now))
 lie s = parts_lie _ _ _ _ _ s.requires
 

@@ -5,7 +5,6 @@ use Prim.Native.Nat.{ℕ}
 use Rattle.neighbours.specs.Inside.Gathering.{GatheringAll}
 use Rattle.neighbours.proofs.gathering.Alone.{none_linked, one_alone}
 use native.Mathlib.Omega.{arith}
-use borrow.Author.Rules.{rules}
 use Rattle.neighbours.proofs.gathering.begin.Goals as goal
 
 pub returns : goal.returns

@@ -8,13 +8,12 @@ use Rattle.lists.specs.Inside.Words.{row_lists, bridge_list}
 use Rattle.neighbours.specs.Inside.Gathering.{Gathering}
 use Rattle.neighbours.proofs.gathering.Steps.{gathering_then, linked_ends_lem}
 use native.Mathlib.Omega.{arith}
-use borrow.Author.Rules.{rules}
 use Rattle.neighbours.proofs.gathering.gather.Goals as goal
 
 pub returns : goal.returns
 unfolding list_of
 returns c =
-    let a = (c).args in
+    let a = c.args in
     let all = c.visit_all-count in
     let ends = c.visit_ends in
     λ linked below long. gathering_then (get_or (row_lists a.degree a.rows.now) a.node.0 []) (other_ends (bridge_list a.bridges.now) a.node.0)

@@ -3,7 +3,6 @@ use lib.Dec.{eqb}
 use lib.ListN.{get_or, length-set}
 use Rattle.neighbours.proofs.gathering.Steps.{at_most_one, visit_past, visit_full, visit_here}
 use native.Mathlib.Omega.{arith}
-use borrow.Author.Rules.{rules}
 use Rattle.neighbours.proofs.gathering.visit.Goals as goal
 
 pub returns-then-at-size : goal.returns-then-at-size

@@ -1,8 +1,5 @@
 -- `gathering::visit_all` meets its contract: the first i have been looked at. The measure is how many are left. Assumes nothing.
-use Prim.Native.Nat.{◌-◌}
-use lib.ListN.{length}
-use Rattle.neighbours.proofs.gathering.Steps.{Passed, passed_none, passed_more, passed_all}
-use borrow.Author.Rules.{rules}
+use Rattle.neighbours.proofs.gathering.Steps.{passed_none, passed_more, passed_all}
 use native.Mathlib.Omega.{arith}
 use Rattle.neighbours.proofs.gathering.visit_all.Goals as goal
 

@@ -1,9 +1,7 @@
 -- `gathering::visit_all` meets its contract: the first i have been looked at. The measure is how many are left. Assumes nothing.
 use Prim.Native.Nat.{◌-◌}
 use lib.ListN.{length}
-use Rattle.neighbours.proofs.gathering.Steps.{Passed, passed_none, passed_more, passed_all}
-use borrow.Author.Rules.{rules}
-use native.Mathlib.Omega.{arith}
+use Rattle.neighbours.proofs.gathering.Steps.{Passed}
 use Rattle.neighbours.proofs.gathering.visit_all.Given as goal
 
 abbrev pub invariant-loop-i : goal.invariant-loop-i

@@ -1,9 +1,6 @@
 -- `gathering::visit_ends` meets its contract: what is gathered from a link on is gathered from the first one on. The measure is how many ends are
 -- left. Assumes nothing.
-use lib.ListN.{length}
-use Rattle.lists.specs.Inside.Chains.{linked_ends}
-use Rattle.neighbours.proofs.gathering.Steps.{Followed, followed_none, followed_more, followed_less, followed_all}
-use borrow.Author.Rules.{rules}
+use Rattle.neighbours.proofs.gathering.Steps.{followed_none, followed_more, followed_less, followed_all}
 use native.Mathlib.Omega.{arith}
 use Rattle.neighbours.proofs.gathering.visit_ends.Goals as goal
 
@@ -16,13 +13,13 @@ visit-fresh-requires c = let l = c.loop-link in omega (arith, l.invariant.kept, 
 pub loop-link-smaller : goal.loop-link-smaller
 loop-link-smaller c =
     let l = c.loop-link in
-    let a = (c).args in
+    let a = c.args in
     followed_less a.n a.bridges.now a.links.now l.invariant c.next_link-link.result c.loop-link-test.true c.next_link-link.ensures
 
 pub loop-link-preserved : goal.loop-link-preserved
 loop-link-preserved c =
     let l = c.loop-link in
-    let a = (c).args in
+    let a = c.args in
     let v = c.visit-fresh in
     followed_more a.n a.bridges.now a.links.now l.invariant c.next_link-link.result c.other_end.result.0 v.result v.new.words c.loop-link-test.true c.next_link-link.ensures
     c.other_end.ensures v.auto.words v.ensures

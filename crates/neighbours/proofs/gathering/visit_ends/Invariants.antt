@@ -2,9 +2,7 @@
 -- left. Assumes nothing.
 use lib.ListN.{length}
 use Rattle.lists.specs.Inside.Chains.{linked_ends}
-use Rattle.neighbours.proofs.gathering.Steps.{Followed, followed_none, followed_more, followed_less, followed_all}
-use borrow.Author.Rules.{rules}
-use native.Mathlib.Omega.{arith}
+use Rattle.neighbours.proofs.gathering.Steps.{Followed}
 use Rattle.neighbours.proofs.gathering.visit_ends.Given as goal
 
 abbrev pub invariant-loop-link : goal.invariant-loop-link

@@ -4,7 +4,6 @@ use Rattle.distance.specs.Distance.{distances_of}
 use Rattle.distance.specs.Vectors.{vectors_in, vector_of}
 use Rattle.def_walk.specs.Beam.{far_from}
 use native.Mathlib.Omega.{arith}
-use borrow.Author.Rules.{rules}
 use Rattle.neighbours.proofs.scoring.eight.Goals as goal
 
 pub node_at-requires-6 : goal.node_at-requires-6

@@ -2,7 +2,6 @@
 use mathlib.Core.Path.{◌∙◌}
 use lib.ListN.{set}
 use native.Mathlib.Omega.{arith}
-use borrow.Author.Rules.{rules}
 use Rattle.neighbours.proofs.scoring.place_eight.Goals as goal
 
 pub node_at-requires-6 : goal.node_at-requires-6

@@ -1,13 +1,10 @@
 -- `scoring::score` meets its contract: what is left from place i on is the whole, eight at a time. The measure is how many are left. Assumes nothing.
-use mathlib.Core.Path.{◌≡◌, refl, ◌∙◌}
+use mathlib.Core.Path.{◌≡◌}
 use Prim.Native.Nat.{◌-◌, ◌≤◌}
 use lib.ListN.{length, drop}
 use Rattle.distance.specs.Vectors.{vectors_in}
 use Rattle.def_walk.specs.Beam.{far_from}
 use Rattle.neighbours.specs.Inside.Scoring.{scored_at}
-use Rattle.neighbours.proofs.scoring.Laws.{eight_step}
-use borrow.Author.Rules.{rules}
-use native.Mathlib.Omega.{arith}
 use Rattle.neighbours.proofs.scoring.score.Given as goal
 
 abbrev pub invariant-loop-i : goal.invariant-loop-i

@@ -5,7 +5,6 @@ use Rattle.distance.specs.Vectors.{vectors_in}
 use Rattle.def_walk.specs.Beam.{far_from}
 use Rattle.neighbours.specs.Inside.Scoring.{placed_eight}
 use Rattle.neighbours.proofs.scoring.Laws.{eight_are}
-use borrow.Author.Rules.{rules}
 use Rattle.neighbours.proofs.scoring.score_eight.Goals as goal
 
 pub returns : goal.returns

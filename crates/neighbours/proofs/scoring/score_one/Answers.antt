@@ -4,7 +4,6 @@ use lib.ListN.{set}
 use lib.Ieee.{binary32}
 use Rattle.distance.specs.Distance.{distance_of}
 use Rattle.def_walk.specs.Beam.{far_from}
-use borrow.Author.Rules.{rules}
 use Rattle.neighbours.proofs.scoring.score_one.Goals as goal
 
 pub returns : goal.returns

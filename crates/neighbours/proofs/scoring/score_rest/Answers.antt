@@ -1,17 +1,16 @@
 -- `scoring::score_rest` meets its contract: what is left from place i on is the whole. The measure is how many are left. Assumes nothing.
-use mathlib.Core.Path.{◌≡◌, refl, sym, ap, ◌∙◌}
-use Prim.Native.Nat.{◌+◌, ◌-◌}
-use lib.ListN.{length, drop}
+use mathlib.Core.Path.{refl, sym, ap, ◌∙◌}
+use Prim.Native.Nat.{◌+◌}
+use lib.ListN.{drop}
 use Rattle.distance.specs.Vectors.{vectors_in}
 use Rattle.def_walk.specs.Beam.{far_from}
 use Rattle.neighbours.specs.Inside.Scoring.{scored_at}
 use Rattle.neighbours.proofs.scoring.Laws.{scored_step, scored_end}
-use borrow.Author.Rules.{rules}
 use Rattle.neighbours.proofs.scoring.score_rest.Goals as goal
 
 pub loop-i-preserved : goal.loop-i-preserved
 loop-i-preserved c =
-    let a = (c).args in
+    let a = c.args in
     let l = c.loop-i in
     let s = c.score_one in (
       s.auto.floats ∙ l.invariant.0,

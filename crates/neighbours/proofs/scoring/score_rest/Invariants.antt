@@ -1,12 +1,10 @@
 -- `scoring::score_rest` meets its contract: what is left from place i on is the whole. The measure is how many are left. Assumes nothing.
-use mathlib.Core.Path.{◌≡◌, refl, sym, ap, ◌∙◌}
-use Prim.Native.Nat.{◌+◌, ◌-◌}
+use mathlib.Core.Path.{◌≡◌}
+use Prim.Native.Nat.{◌-◌}
 use lib.ListN.{length, drop}
 use Rattle.distance.specs.Vectors.{vectors_in}
 use Rattle.def_walk.specs.Beam.{far_from}
 use Rattle.neighbours.specs.Inside.Scoring.{scored_at}
-use Rattle.neighbours.proofs.scoring.Laws.{scored_step, scored_end}
-use borrow.Author.Rules.{rules}
 use Rattle.neighbours.proofs.scoring.score_rest.Given as goal
 
 abbrev pub invariant-loop-i : goal.invariant-loop-i
