@@ -1,0 +1,13 @@
+-- The invariant: every slice keeps its length. The measure is what is left of the text, which each line takes from. Assumes nothing.
+use Prim.Native.Nat.{◌-◌}
+use lib.ListN.{length}
+use Rattle.replay_calls.proofs.Kept.{Kept}
+use Rattle.replay_calls.proofs.replay_lines.Given as goal
+
+abbrev pub invariant-loop-at : goal.invariant-loop-at
+invariant-loop-at l =
+    Kept l.initial.tokens l.tokens l.initial.words l.words l.initial.floats l.floats l.initial.vector l.vector l.initial.tallies l.tallies
+
+abbrev pub decreases-loop-at : goal.decreases-loop-at
+decreases-loop-at l =
+    length l.initial.text - l.at
