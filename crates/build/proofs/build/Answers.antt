@@ -11,7 +11,6 @@ use Rattle.pipnn.specs.Answer.{Answer}
 use Rattle.pipnn.proofs.Answer.{left_alone, changed}
 use Rattle.def_calls.specs.Graph.{graph_for}
 use Rattle.def_calls.specs.Build.{build_checks, built_words, build_spec}
-use borrow.Author.Rules.{rules}
 use Rattle.build.proofs.build.Goals as goal
 use Rattle.build.proofs.build.Goals.{Else-refusal-ne0, Start}
 

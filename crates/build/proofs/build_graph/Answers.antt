@@ -14,7 +14,6 @@ use Rattle.lists.proofs.Parts.{row_part, vector_part}
 use Rattle.def_calls.proofs.Taken.{BuildTaken, build_taken}
 use Rattle.build.proofs.Graph.{rows_fit, rows_fit_at, repair_fits, repair_fits_at, graph_built_at}
 use native.Mathlib.Omega.{arith}
-use borrow.Author.Rules.{rules}
 use Rattle.build.proofs.build_graph.Goals as goal
 use Rattle.build.proofs.build_graph.Goals.{After-row_at-to, Start}
 

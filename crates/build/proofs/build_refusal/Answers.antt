@@ -3,7 +3,6 @@ use mathlib.Core.Path.{◌≡◌, sym, ◌∙◌}
 use mathlib.Core.List.{List}
 use Prim.Native.Nat.{ℕ}
 use borrow.Author.Tests.{eq-eqb, ne_eqb}
-use borrow.Author.Rules.{rules}
 use Rattle.basics.specs.Refusals.{Check, first_refusal}
 use Rattle.basics.proofs.Refusals.{turned_at, none_turned, then_first, then_second}
 use Rattle.store.specs.declared.Lent.TheVariants.{Scratch}

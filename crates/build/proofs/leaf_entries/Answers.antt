@@ -1,6 +1,5 @@
 -- `build::leaf_entries` meets its contract, by its test. Assumes nothing.
 use mathlib.Core.Path.{sym}
-use borrow.Author.Rules.{rules}
 use borrow.Author.Tests.{le-leb, lt-leb}
 use Rattle.basics.specs.Choice.{pick_true, pick_false}
 use Rattle.build.proofs.leaf_entries.Goals as goal

@@ -4,7 +4,6 @@ use mathlib.Core.Path.{◌≡◌}
 use Prim.Native.Nat.{◌+◌, ◌-◌}
 use lib.ListN.{length}
 use Rattle.build.proofs.Laid.{filled_laid}
-use borrow.Author.Rules.{rules}
 use Rattle.build.proofs.put_bridges.Goals as goal
 
 pub returns : goal.returns

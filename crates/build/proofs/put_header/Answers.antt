@@ -1,7 +1,6 @@
 -- `build::put_header` meets its contract: three words are set. Assumes nothing.
 use native.Mathlib.Omega.{arith}
 use lib.ListN.{length-set}
-use borrow.Author.Rules.{rules}
 use Rattle.build.proofs.put_header.Goals as goal
 
 pub bounds-words-9 : goal.bounds-words-9

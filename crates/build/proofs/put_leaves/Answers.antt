@@ -5,7 +5,6 @@ use lib.ListN.{take, drop}
 use lib.Seq.{length-take-le}
 use Rattle.build.proofs.Leaves.{entries_most, built_from}
 use native.Mathlib.Omega.{arith}
-use borrow.Author.Rules.{rules}
 use Rattle.build.proofs.put_leaves.Goals as goal
 
 pub slice_bounds-build_leaves-end : goal.slice_bounds-build_leaves-end

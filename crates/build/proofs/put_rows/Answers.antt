@@ -1,7 +1,6 @@
 -- Cleared, filled with the leaves' lists, extended by reverse edges: the rows of the definition (proofs/Leaves). Assumes nothing.
 use Rattle.build.proofs.Leaves.{carved_count, rows_made}
 use native.Mathlib.Omega.{arith}
-use borrow.Author.Rules.{rules}
 use Rattle.build.proofs.put_rows.Goals as goal
 
 pub put_leaves-requires : goal.put_leaves-requires

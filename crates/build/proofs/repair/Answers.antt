@@ -9,7 +9,6 @@ use Rattle.store.proofs.Sizes.{product_le}
 use Rattle.def_calls.specs.Build.{laid}
 use Rattle.build.proofs.Repairing.{entry_is, repaired}
 use native.Mathlib.Omega.{arith}
-use borrow.Author.Rules.{rules}
 use Rattle.build.proofs.repair.Goals as goal
 use Rattle.build.proofs.repair.Goals.{After-lesser_u32-count}
 

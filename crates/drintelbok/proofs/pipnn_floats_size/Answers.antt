@@ -3,7 +3,6 @@ use mathlib.Core.Path.{sym, ◌∙◌}
 use mathlib.Core.Bool.{Bool, ◌&&◌}
 use Rattle.basics.specs.Choice.{pick_true, pick_false}
 use Rattle.drintelbok.specs.Sizes.{floats_needed}
-use borrow.Author.Rules.{rules}
 use Rattle.drintelbok.proofs.pipnn_floats_size.Goals as goal
 
 pub returns-then-capacity_within-dimension_within : goal.returns-then-capacity_within-dimension_within

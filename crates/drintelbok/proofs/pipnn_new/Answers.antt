@@ -4,7 +4,6 @@ use Rattle.params.specs.declared.PipnnParams.{PipnnParams}
 use Rattle.pipnn.specs.New.{new_spec}
 use Rattle.drintelbok.specs.New.{params_from}
 use Rattle.drintelbok.proofs.New.{turned_back_lem, passed_on}
-use borrow.Author.Rules.{rules}
 use Rattle.drintelbok.proofs.pipnn_new.Goals as goal
 use Rattle.drintelbok.proofs.pipnn_new.Goals.{Start}
 

@@ -2,7 +2,6 @@
 use mathlib.Core.Path.{sym, ◌∙◌}
 use Rattle.basics.specs.Choice.{pick_true, pick_false}
 use Rattle.drintelbok.specs.Sizes.{scratch_words_needed}
-use borrow.Author.Rules.{rules}
 use Rattle.drintelbok.proofs.pipnn_scratch_words.Goals as goal
 
 pub returns-then-capacity_within : goal.returns-then-capacity_within

@@ -1,5 +1,4 @@
 -- The struct has the fields of the one that the call behind it returns, which says all else. Assumes nothing.
-use borrow.Author.Rules.{rules}
 use Rattle.drintelbok.proofs.pipnn_search_with_ef.Goals as goal
 
 pub returns : goal.returns

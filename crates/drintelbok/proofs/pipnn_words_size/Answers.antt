@@ -9,7 +9,6 @@ use Rattle.basics.proofs.Tests.{both_true}
 use Rattle.basics.specs.Choice.{pick_true, pick_false}
 use Rattle.params.specs.Limits.{most_degree}
 use Rattle.drintelbok.specs.Sizes.{words_needed}
-use borrow.Author.Rules.{rules}
 use Rattle.drintelbok.proofs.pipnn_words_size.Goals as goal
 
 pub overflow_cast-max_degree : goal.overflow_cast-max_degree
