@@ -1,8 +1,5 @@
 -- Every slice that is passed on keeps its length. Assumes nothing.
-use Prim.Native.Nat.{ℕ}
-use mathlib.Core.Path.{◌≡◌}
-use mathlib.Core.List.{List}
-use lib.ListN.{length}
+use Rattle.std.proofs.Common.{◌≡◌, ℕ, List, length}
 use lib.Ieee.{Float}
 
 pub record Kept (tokens₀ tokens words₀ words : List ℕ) (floats₀ floats vector₀ vector : List Float) (tallies₀ tallies : List ℕ) : Type 0 where

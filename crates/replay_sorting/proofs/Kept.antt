@@ -1,8 +1,5 @@
 -- Every slice that is passed on keeps its length. Assumes nothing.
-use Prim.Native.Nat.{ℕ}
-use mathlib.Core.Path.{◌≡◌}
-use mathlib.Core.List.{List}
-use lib.ListN.{length}
+use Rattle.std.proofs.Common.{◌≡◌, ℕ, List, length}
 
 pub record Kept (tokens₀ tokens w₀ w v₀ v x₀ x y₀ y tallies₀ tallies : List ℕ) : Type 0 where
   pub same_tokens : length tokens ≡ length tokens₀

@@ -1,6 +1,0 @@
--- The parts are within their slices. Assumes nothing.
-use Rattle.std.proofs.Common.{sym, arith, length-take-le}
-use Rattle.replay_numbers.proofs.draw_is_same.Goals as goal
-
-pub slice_bounds-draw_leaders-end-2 : goal.slice_bounds-draw_leaders-end-2
-slice_bounds-draw_leaders-end-2 c = sym (length-take-le _ _ (omega arith))
