@@ -1,7 +1,5 @@
 -- The invariant: the vector keeps its length. The measure is what is left of the line, which each component takes from. Assumes nothing.
-use Prim.Native.Nat.{◌-◌}
-use mathlib.Core.Path.{◌≡◌}
-use lib.ListN.{length}
+use Rattle.std.proofs.Common.{◌-◌, ◌≡◌, length}
 use Rattle.probe_text.proofs.components_at.Given as goal
 
 abbrev pub invariant-loop-i : goal.invariant-loop-i

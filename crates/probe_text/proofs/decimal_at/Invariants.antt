@@ -1,6 +1,5 @@
 -- The invariant: the value is below 2^32, so that the next step fits 64 bits. The measure is what is left of the line. Assumes nothing.
-use Prim.Native.Nat.{◌-◌, ◌≤◌}
-use lib.ListN.{length}
+use Rattle.std.proofs.Common.{◌-◌, ◌≤◌, length}
 use Rattle.probe_text.proofs.decimal_at.Given as goal
 
 abbrev pub invariant-loop-i : goal.invariant-loop-i

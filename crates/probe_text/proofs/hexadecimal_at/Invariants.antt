@@ -1,5 +1,5 @@
 -- The invariant: the place went on from `at`. The measure is how many digits are left. Assumes nothing.
-use Prim.Native.Nat.{◌≤◌}
+use Rattle.std.proofs.Common.{◌≤◌}
 use Rattle.probe_text.proofs.hexadecimal_at.Given as goal
 
 abbrev pub invariant-loop-left : goal.invariant-loop-left

@@ -1,6 +1,5 @@
 -- The place stays within the word, and the line is tested before each byte. The measure is what is left of the word. Assumes nothing.
-use Prim.Native.Nat.{◌-◌, ◌≤◌}
-use lib.ListN.{length}
+use Rattle.std.proofs.Common.{◌-◌, ◌≤◌, length}
 use Rattle.probe_text.proofs.past.Given as goal
 
 abbrev pub invariant-loop-i : goal.invariant-loop-i

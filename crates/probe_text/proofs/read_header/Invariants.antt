@@ -1,5 +1,5 @@
 -- The invariant: the key is one of the ten, or the one after the last. The measure is how many keys are left. Assumes nothing.
-use Prim.Native.Nat.{◌-◌, ◌≤◌}
+use Rattle.std.proofs.Common.{◌-◌, ◌≤◌}
 use Rattle.probe_text.proofs.read_header.Given as goal
 
 abbrev pub invariant-loop-key : goal.invariant-loop-key

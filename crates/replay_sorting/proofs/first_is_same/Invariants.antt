@@ -1,7 +1,5 @@
 -- The invariant: the places are few, and the slices keep their lengths. The measure is how many distances are left. Assumes nothing.
-use Prim.Native.Nat.{◌-◌, ◌≤◌}
-use mathlib.Core.Path.{◌≡◌}
-use lib.ListN.{length}
+use Rattle.std.proofs.Common.{◌-◌, ◌≤◌, ◌≡◌, length}
 use Rattle.replay_sorting.proofs.first_is_same.Given as goal
 
 abbrev pub invariant-loop-i : goal.invariant-loop-i

@@ -1,7 +1,5 @@
 -- The invariant: the slices keep their lengths. The measure is what is left of the numbers of 32 bits. Assumes nothing.
-use Prim.Native.Nat.{◌-◌, ◌≤◌}
-use mathlib.Core.Path.{◌≡◌}
-use lib.ListN.{length}
+use Rattle.std.proofs.Common.{◌-◌, ◌≤◌, ◌≡◌, length}
 use Rattle.replay_sorting.proofs.load_keys.Given as goal
 
 abbrev pub invariant-loop-i : goal.invariant-loop-i

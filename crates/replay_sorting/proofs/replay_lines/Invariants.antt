@@ -1,6 +1,5 @@
 -- The invariant: every slice keeps its length. The measure is what is left of the text, which each line takes from. Assumes nothing.
-use Prim.Native.Nat.{◌-◌}
-use lib.ListN.{length}
+use Rattle.std.proofs.Common.{◌-◌, length}
 use Rattle.replay_sorting.proofs.Kept.{Kept}
 use Rattle.replay_sorting.proofs.replay_lines.Given as goal
 
