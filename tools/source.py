@@ -51,7 +51,8 @@ def tree_of(where):
 
 def folder(where):
     paths = ["crates.txt", RENAMES]
-    for base, _, names in os.walk(os.path.join(where, "crates")):
+    for base, folders, names in os.walk(os.path.join(where, "crates")):
+        folders[:] = [name for name in folders if name != "out"]  # what rt makes
         paths += [os.path.relpath(os.path.join(base, name), where) for name in names]
     files = {}
     for path in paths:

@@ -98,8 +98,8 @@ fn take_in(
     ensures marks { take (frontier_at sizes.n) words.new ≡ take (frontier_at sizes.n) words.old }
     ensures pushed { TakingIn sizes (far_from query.now (vectors_in sizes.dimension vectors.now))
         (live_by withdrawn.now) count
-        (record { words = words.entry.now; floats = floats.old; nodes = nodes.old; walk = walk })
-        (record { words = words.exit.now; floats = floats.new; nodes = nodes.new; walk = result }) }
+        (record { words = words.old; floats = floats.old; nodes = nodes.old; walk = walk })
+        (record { words = words.new; floats = floats.new; nodes = nodes.new; walk = result }) }
 {
     let n = sizes.n;
     let many = slices::lesser(count, n);
@@ -141,15 +141,15 @@ fn step(
     requires { words_for sizes.n ≤ length words.old }
     ensures { Stepping sizes
         (record {
-          query = query.entry.now;
+          query = query.now;
           vectors = vectors.now;
           rows = rows.now;
           bridges = bridges.now;
           withdrawn = withdrawn.now;
         })
         links.now
-        (record { words = words.entry.now; floats = floats.old; nodes = nodes.old; walk = walk })
-        (record { words = words.exit.now; floats = floats.new; nodes = nodes.new; walk = result.walk })
+        (record { words = words.old; floats = floats.old; nodes = nodes.old; walk = walk })
+        (record { words = words.new; floats = floats.new; nodes = nodes.new; walk = result.walk })
         result.done }
 {
     let n = sizes.n;
@@ -187,15 +187,15 @@ fn walk_on(
     requires { words_for sizes.n ≤ length words.old }
     ensures { Walking sizes
         (record {
-          query = query.entry.now;
+          query = query.now;
           vectors = vectors.now;
           rows = rows.now;
           bridges = bridges.now;
           withdrawn = withdrawn.now;
         })
         links.now
-        (record { words = words.entry.now; floats = floats.old; nodes = nodes.old; walk = walk })
-        (record { words = words.exit.now; floats = floats.new; nodes = nodes.new; walk = result }) }
+        (record { words = words.old; floats = floats.old; nodes = nodes.old; walk = walk })
+        (record { words = words.new; floats = floats.new; nodes = nodes.new; walk = result }) }
 {
     let mut now = walk;
     let mut left = sizes.n;
@@ -230,14 +230,14 @@ fn walk_linked(
     requires n_bound { (sizes.n ≤ 1024) × (length bridges.now / 2 ≤ sizes.n) }
     ensures { WalkingLinked sizes
         (record {
-          query = query.entry.now;
+          query = query.now;
           vectors = vectors.now;
           rows = rows.now;
           bridges = bridges.now;
           withdrawn = withdrawn.now;
         })
-        (record { words = words.entry.now; floats = floats.old; nodes = nodes.old; walk = walk })
-        (record { words = words.exit.now; floats = floats.new; nodes = nodes.new; walk = result }) }
+        (record { words = words.old; floats = floats.old; nodes = nodes.old; walk = walk })
+        (record { words = words.new; floats = floats.new; nodes = nodes.new; walk = result }) }
 {
     if bridges.len() < 2 {
         let none: usize = 0;
@@ -299,7 +299,7 @@ fn start(
     ensures { Starting sizes (far_from query.now (vectors_in sizes.dimension vectors.now))
         (live_by withdrawn.now)
         floats.old nodes.old
-        (record { words = words.exit.now; floats = floats.new; nodes = nodes.new; walk = result }) }
+        (record { words = words.new; floats = floats.new; nodes = nodes.new; walk = result }) }
 {
     prepare(words, sizes.n, sizes.places);
     let none = Walk {
@@ -347,7 +347,7 @@ pub fn beam_search(
 ) -> Walked
     ensures { Searching sizes
         (record {
-          query = query.entry.now;
+          query = query.now;
           vectors = vectors.now;
           rows = rows.now;
           bridges = bridges.now;

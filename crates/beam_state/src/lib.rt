@@ -83,8 +83,8 @@ fn push(
     requires { words_for size ≤ length words.old }
     ensures marks { take (frontier_at size) words.new ≡ take (frontier_at size) words.old }
     ensures pushed { Pushing size places node.0 withdrawn.now
-        (record { words = words.entry.now; floats = floats.now; nodes = nodes.old; walk = walk })
-        (record { words = words.exit.now; floats = floats.now; nodes = nodes.new; walk = result }) }
+        (record { words = words.old; floats = floats.now; nodes = nodes.old; walk = walk })
+        (record { words = words.new; floats = floats.now; nodes = nodes.new; walk = result }) }
 {
     let distance = queues::distance_of(floats, node);
     let key = order::key(distance);
@@ -126,8 +126,8 @@ pub fn push_all(
 ) -> Walk
     ensures marks { take (frontier_at size) words.new ≡ take (frontier_at size) words.old }
     ensures pushed { PushingAll size places count withdrawn.now
-        (record { words = words.entry.now; floats = floats.now; nodes = nodes.old; walk = walk })
-        (record { words = words.exit.now; floats = floats.now; nodes = nodes.new; walk = result }) }
+        (record { words = words.old; floats = floats.now; nodes = nodes.old; walk = walk })
+        (record { words = words.new; floats = floats.now; nodes = nodes.new; walk = result }) }
 {
     if words.len() / WORDS < size {
         return walk;

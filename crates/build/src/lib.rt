@@ -190,6 +190,32 @@ fn repair(
     put_bridges(words, at, &bridges[..end]);
 }
 
+// Repair, with room for the bridges. A function of its own, so that this room and that of carving, which ends before, can
+// be the same part of the stack.
+fn repair_rows(
+    words: &mut [u32],
+    vectors: &[f32],
+    shape: Shape,
+    capacity: u32,
+    scratch_words: &mut [u32],
+    scratch_floats: &mut [f32],
+)
+    requires { RepairFits shape capacity words.old vectors.now
+        2048 (length scratch_words.old) (length scratch_floats.old) }
+    ensures { RepairPut shape capacity (vectors_in shape.dimension vectors.now) words.old words.new }
+{
+    let mut bridges = [0u32; 2048];
+    repair(
+        words,
+        vectors,
+        shape,
+        capacity,
+        &mut bridges[..],
+        scratch_words,
+        scratch_floats,
+    );
+}
+
 // The graph of an open store that has nodes: its rows, then its entry node and bridges.
 fn build_graph(
     words: &mut [u32],
@@ -222,13 +248,11 @@ fn build_graph(
         degree,
         dimension,
     };
-    let mut bridges = [0u32; 2048];
-    repair(
+    repair_rows(
         words,
         &floats[..end],
         shape,
         capacity,
-        &mut bridges[..],
         scratch_words,
         scratch_floats,
     );

@@ -2,7 +2,7 @@
 -- dealt to its leaders: at level 0 each node goes to the buckets of its two nearest leaders, at levels 1 to 20 to its nearest one only. Small buckets
 -- gather, and each bucket that results is carved in its turn, by the same steps one level down.
 --
--- `segment_equation`, `buckets_none` and `buckets_more` are how carveSegment and carveBuckets call each other; nothing after them looks at how
+-- `segment_equation`, `buckets_none` and `buckets_more` are how carve_segment and carve_buckets call each other; nothing after them looks at how
 -- many levels are left.
 use Rattle.std.specs.Prelude.{◌≡◌, Bool, ◌||◌, T, leb, eqb, length, get_or, Float}
 use Rattle.std.proofs.Math.Path.{refl, sym, ap}

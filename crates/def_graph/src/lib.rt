@@ -14,7 +14,7 @@
 // final prune (`final_prune`) thins out rows of more than max_degree entries, of which there are none by then.
 // The entry node is the node nearest to the centroid (`compute_medoid`).
 //
-// specs/Partition           fanout, dealing, gathering, carveSegment and carveBuckets with their equations
+// specs/Partition           fanout, dealing, gathering, carve_segment and carve_buckets with their equations
 // specs/Inside/Occurrences  what the laws of carving count
 // specs/Simhash             the hash of a residual, a bit for each hyperplane
 // specs/Leaf                hash cells, one node's row, a leaf, all leaves

@@ -2,9 +2,8 @@
 // other, and bridges of two words. `Shape` has the sizes that readers of an index go by.
 //
 // One view of the words serves every reader: `ListView`, the slice and the stride, which is how many words a
-// row or a bridge takes. A struct that holds a slice is proved by hand, so what touches it is thin: `view`
-// makes it, `block` takes it apart and leaves the work to `read_block`, and `block_in` is the one after the
-// other. Readers call the functions above it, over plain parameters: `row_of` for a node's row (the walk of
+// row or a bridge takes. What touches it is thin: `view` makes it, `block` takes it apart and leaves the work
+// to `read_block`, and `block_in` is the one after the other. Readers call the functions above it, over plain parameters: `row_of` for a node's row (the walk of
 // a search, repair, a turn of a leaf), `entry_of` for one entry while other rows change (reverse edges), and
 // `end_of` for a bridge's end (what links bridges and what follows links). All are total, whatever the words
 // hold.

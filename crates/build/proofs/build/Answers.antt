@@ -3,6 +3,7 @@ use mathlib.Core.Path.{◌≡◌, sym, ◌∙◌}
 use mathlib.Core.List.{List}
 use Prim.Native.Nat.{ℕ}
 use lib.ListN.{length}
+use native.Mathlib.Omega.{arith}
 use borrow.Author.Tests.{eq-eqb, ne_eqb}
 use Rattle.basics.specs.Choice.{pick_true, pick_false}
 use Rattle.basics.specs.Refusals.{first_refusal}
@@ -30,13 +31,13 @@ returns-then-refusal-ne0 c = left_alone (refusal (goal.at.returns-then-refusal-n
 pub returns-then-word_at-eq-BUILT : goal.returns-then-word_at-eq-BUILT
 unfolding build_spec
 returns-then-word_at-eq-BUILT c =
-    let same = pick_true c.args.words.now (words (goal.at.returns-then-word_at-eq-BUILT c).Start) (eq-eqb _ _ (sym c.word_at.ensures ∙ c.if-word_at-eq-BUILT.true)) in
+    let same = pick_true c.args.words.now (words (goal.at.returns-then-word_at-eq-BUILT c).Start) (eq-eqb _ _ (omega (arith, c.word_at.ensures))) in
     ◌∙◌ {A = Answer} (λ i. (0, sym same i, c.args.floats.now)) (changed (refusal (goal.at.returns-then-word_at-eq-BUILT c).Start) _ _ _ _ (zero (goal.at.returns-then-word_at-eq-BUILT c).Else-refusal-ne0))
 
 pub returns : goal.returns
 unfolding build_spec
 returns c =
-    let graph = pick_false c.args.words.now (words (goal.at.returns c).Start) (ne_eqb _ _ (λ e. c.if-word_at-eq-BUILT.false (c.word_at.ensures ∙ e))) in
+    let graph = pick_false c.args.words.now (words (goal.at.returns c).Start) (ne_eqb _ _ (λ e. omega (arith, c.word_at.ensures, e))) in
     ◌∙◌ {A = Answer} (λ i. (0, (c.build_graph.ensures ∙ sym graph) i, c.args.floats.now)) (changed (refusal (goal.at.returns c).Start) _ _ _ _ (zero (goal.at.returns c).Else-refusal-ne0))
 
 pub build_graph-requires : goal.build_graph-requires

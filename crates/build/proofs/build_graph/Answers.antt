@@ -3,7 +3,7 @@
 use mathlib.Core.Path.{◌≡◌, sym, ap, ap₂, ◌∙◌}
 use mathlib.Core.List.{List}
 use Prim.Native.Nat.{ℕ, ◌-◌, ◌*◌, ◌≤◌}
-use lib.ListN.{length, take, drop, length-drop, length-replicate}
+use lib.ListN.{length, take, drop, length-drop}
 use lib.Seq.{length-take-le}
 use lib.Ieee.{Float}
 use borrow.Rule.Slice.PartMut.{same_len_mid}
@@ -13,6 +13,7 @@ use Rattle.store.specs.View.{params_of}
 use Rattle.lists.proofs.Parts.{row_part, vector_part}
 use Rattle.def_calls.proofs.Taken.{BuildTaken, build_taken}
 use Rattle.build.proofs.Graph.{rows_fit, rows_fit_at, repair_fits, repair_fits_at, graph_built_at}
+use native.Mathlib.Nat.{le_refl}
 use native.Mathlib.Omega.{arith}
 use Rattle.build.proofs.build_graph.Goals as goal
 use Rattle.build.proofs.build_graph.Goals.{After-row_at-to, Start}
@@ -74,12 +75,12 @@ put_rows-requires c =
     let t = taken (goal.at.put_rows-requires c).Start in
     rows_fit_at (n_is (goal.at.put_rows-requires c).After-row_at-to) (d_is (goal.at.put_rows-requires c).After-row_at-to) (p_is (goal.at.put_rows-requires c).After-row_at-to) (rows_are (goal.at.put_rows-requires c).After-row_at-to) (vectors_are (goal.at.put_rows-requires c).After-row_at-to) (rows_fit _ _ _ _ t)
 
-pub repair-requires : goal.repair-requires
-repair-requires c =
+pub repair_rows-requires : goal.repair_rows-requires
+repair_rows-requires c =
     let put = c.put_rows in
     let k : ℕ = c.row_at-to.result - c.rows_at-from.result in
-    repair_fits_at (n_is (goal.at.repair-requires c).After-row_at-to) (C-is (goal.at.repair-requires c).After-row_at-to) (D-is (goal.at.repair-requires c).After-row_at-to) (d_is (goal.at.repair-requires c).After-row_at-to) (vectors_are (goal.at.repair-requires c).After-row_at-to)
-    (repair_fits _ _ _ _ (taken (goal.at.repair-requires c).Start) _ _ _ _ (same_len_mid c.rows_at-from.result k (w (goal.at.repair-requires c).After-row_at-to) put.new.rows put.auto.rows) (omega (arith, length-replicate {A = ℕ} 2048 0))
+    repair_fits_at (n_is (goal.at.repair_rows-requires c).After-row_at-to) (C-is (goal.at.repair_rows-requires c).After-row_at-to) (D-is (goal.at.repair_rows-requires c).After-row_at-to) (d_is (goal.at.repair_rows-requires c).After-row_at-to) (vectors_are (goal.at.repair_rows-requires c).After-row_at-to)
+    (repair_fits _ _ _ _ (taken (goal.at.repair_rows-requires c).Start) _ _ _ _ (same_len_mid c.rows_at-from.result k (w (goal.at.repair_rows-requires c).After-row_at-to) put.new.rows put.auto.rows) (le_refl 2048)
     put.auto.scratch_words put.auto.scratch_floats)
 
 pub returns : goal.returns
@@ -87,7 +88,7 @@ returns c =
     let put = c.put_rows in
     let full = put.auto.rows ∙ length-take-le _ _ (part-within (goal.at.returns c).After-row_at-to) in
     graph_built_at (taken (goal.at.returns c).Start) (n_is (goal.at.returns c).After-row_at-to) (C-is (goal.at.returns c).After-row_at-to) (D-is (goal.at.returns c).After-row_at-to) (d_is (goal.at.returns c).After-row_at-to) (p_is (goal.at.returns c).After-row_at-to) (vectors_are (goal.at.returns c).After-row_at-to) (from_is (goal.at.returns c).After-row_at-to) (sym full)
-    put.ensures c.repair.ensures
+    put.ensures c.repair_rows.ensures
 
 pub overflow_cast-degree : goal.overflow_cast-degree
 overflow_cast-degree c = omega (arith, ap (λ (q : PipnnParams). q.max_degree) c.params_of-p.ensures, (taken (goal.at.overflow_cast-degree c).Start).stores.header.params.degree_most)
@@ -98,5 +99,5 @@ slice_bounds-put_rows-end c = omega (arith, to_is (goal.at.slice_bounds-put_rows
 pub slice_bounds-put_rows-end-2 : goal.slice_bounds-put_rows-end-2
 slice_bounds-put_rows-end-2 c = sym (length-take-le _ _ (vectors_within (goal.at.slice_bounds-put_rows-end-2 c).After-row_at-to))
 
-pub slice_bounds-repair-end : goal.slice_bounds-repair-end
-slice_bounds-repair-end c = sym (length-take-le _ _ (vectors_within (goal.at.slice_bounds-repair-end c).After-row_at-to))
+pub slice_bounds-repair_rows-end : goal.slice_bounds-repair_rows-end
+slice_bounds-repair_rows-end c = sym (length-take-le _ _ (vectors_within (goal.at.slice_bounds-repair_rows-end c).After-row_at-to))

@@ -2,6 +2,7 @@
 use mathlib.Core.Path.{◌≡◌, sym, ◌∙◌}
 use mathlib.Core.List.{List}
 use Prim.Native.Nat.{ℕ}
+use native.Mathlib.Omega.{arith}
 use borrow.Author.Tests.{eq-eqb, ne_eqb}
 use Rattle.basics.specs.Refusals.{Check, first_refusal}
 use Rattle.basics.proofs.Refusals.{turned_at, none_turned, then_first, then_second}
@@ -35,10 +36,10 @@ returns-then-refusal-ne0 c =
 pub returns-then-word_at-eq0 : goal.returns-then-word_at-eq0
 unfolding own_build_checks
 returns-then-word_at-eq0 c =
-    turned_at 0 (Own (goal.at.returns-then-word_at-eq0 c).Start) tt (eq-eqb _ _ (sym c.word_at.ensures ∙ c.if-word_at-eq0.true)) ∙ own (goal.at.returns-then-word_at-eq0 c).Else-refusal-ne0
+    turned_at 0 (Own (goal.at.returns-then-word_at-eq0 c).Start) tt (eq-eqb _ _ (omega (arith, c.word_at.ensures))) ∙ own (goal.at.returns-then-word_at-eq0 c).Else-refusal-ne0
 
 pub returns : goal.returns
 unfolding own_build_checks
 returns c =
-    none_turned (Own (goal.at.returns c).Start) (ne_eqb _ _ (λ e. c.if-word_at-eq0.false (c.word_at.ensures ∙ e)), tt)
+    none_turned (Own (goal.at.returns c).Start) (ne_eqb _ _ (λ e. omega (arith, c.word_at.ensures, e)), tt)
     ∙ own (goal.at.returns c).Else-refusal-ne0
