@@ -1,4 +1,4 @@
-// Distances and roots behind C, for bench/ alone: a loop over rows inside the library, so that a call from
+// Distances and roots for bench/ alone, which links them by `measured_c`: a loop over rows inside the library, so that a call from
 // outside is paid for once for many rows. Proved safe; the crates that they call say what they compute.
 #![tactic(auto)]
 
@@ -11,8 +11,7 @@ use simd::Eight;
 use words::slices;
 
 // Each row's distance to the query, one at a time. Answers how many rows there were.
-#[unsafe(no_mangle)]
-pub extern "C" fn measured_one(q: &[f32], rows: &[f32], out: &mut [f32]) -> usize {
+pub fn measured_one(q: &[f32], rows: &[f32], out: &mut [f32]) -> usize {
     let mut at: usize = 0;
     let mut i: usize = 0;
     while i < out.len() {
@@ -28,8 +27,7 @@ pub extern "C" fn measured_one(q: &[f32], rows: &[f32], out: &mut [f32]) -> usiz
 }
 
 // The same, eight rows at a time; rows beyond the last eight are left.
-#[unsafe(no_mangle)]
-pub extern "C" fn measured_eight(q: &[f32], rows: &[f32], out: &mut [f32]) -> usize {
+pub fn measured_eight(q: &[f32], rows: &[f32], out: &mut [f32]) -> usize {
     let mut at: usize = 0;
     let mut i: usize = 0;
     while i < out.len() {
@@ -94,8 +92,7 @@ fn row(rows: &[f32], at: usize, d: usize) -> &[f32] {
 }
 
 // The same over blocks of eight rows, in which a component's eight numbers stand together.
-#[unsafe(no_mangle)]
-pub extern "C" fn measured_block(q: &[f32], blocks: &[f32], out: &mut [f32]) -> usize {
+pub fn measured_block(q: &[f32], blocks: &[f32], out: &mut [f32]) -> usize {
     let mut at: usize = 0;
     let mut i: usize = 0;
     while i < out.len() {
@@ -118,8 +115,7 @@ fn put_block(q: &[f32], block: &[f32], out: &mut [f32]) {
 }
 
 // The root of each number.
-#[unsafe(no_mangle)]
-pub extern "C" fn measured_roots(xs: &[f32], out: &mut [f32]) {
+pub fn measured_roots(xs: &[f32], out: &mut [f32]) {
     let mut i: usize = 0;
     while i < out.len() {
         if xs.len() <= i {

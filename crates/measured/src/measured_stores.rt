@@ -5,19 +5,12 @@ use store::Lent;
 use words::ids::DocId;
 
 // The checks with which every call but `new` begins.
-#[unsafe(no_mangle)]
-pub extern "C" fn measured_opening(words: &[u32], floats: &[f32]) -> u32 {
+pub fn measured_opening(words: &[u32], floats: &[f32]) -> u32 {
     store::opening_refusal(words, floats, Lent::Nothing)
 }
 
 // `new` with the Rust's default parameters.
-#[unsafe(no_mangle)]
-pub extern "C" fn measured_new(
-    words: &mut [u32],
-    floats: &mut [f32],
-    dimension: u32,
-    capacity: u32,
-) -> u32 {
+pub fn measured_new(words: &mut [u32], floats: &mut [f32], dimension: u32, capacity: u32) -> u32 {
     let p = PipnnParams {
         max_leaf_size: 2048,
         min_leaf_size: 64,
@@ -31,12 +24,6 @@ pub extern "C" fn measured_new(
     pipnn::new(words, floats, dimension, p, capacity)
 }
 
-#[unsafe(no_mangle)]
-pub extern "C" fn measured_add(
-    words: &mut [u32],
-    floats: &mut [f32],
-    doc: u32,
-    vector: &[f32],
-) -> u32 {
+pub fn measured_add(words: &mut [u32], floats: &mut [f32], doc: u32, vector: &[f32]) -> u32 {
     pipnn::add_slice(words, floats, DocId(doc), vector)
 }

@@ -1,7 +1,6 @@
 -- `build::build_refusal` meets its contract: the checks that every call begins with, then its own. Assumes nothing.
 use mathlib.Core.Path.{◌≡◌, sym, ◌∙◌}
 use mathlib.Core.List.{List}
-use Prim.Native.Nat.{ℕ}
 use native.Mathlib.Omega.{arith}
 use borrow.Author.Tests.{eq-eqb, ne_eqb}
 use Rattle.basics.specs.Refusals.{Check, first_refusal}
@@ -18,9 +17,6 @@ First s = opening (Scratch s.args.scratch_words s.args.scratch_floats) s.args.wo
 
 abbrev Own : Start → List Check
 Own s = own_build_checks s.args.words.now
-
-abbrev refusal : Start → ℕ
-refusal s = first_refusal (build_checks s.args.scratch_words s.args.scratch_floats s.args.words.now s.args.floats.now)
 
 own : (c : Else-refusal-ne0) → first_refusal (own_build_checks c.args.words.now) ≡ (first_refusal (build_checks c.args.scratch_words c.args.scratch_floats c.args.words.now c.args.floats.now))
 unfolding build_checks

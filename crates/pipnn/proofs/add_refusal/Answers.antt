@@ -2,7 +2,6 @@
 use mathlib.Core.Path.{◌≡◌, sym, ap, ◌∙◌}
 use mathlib.Core.Bool.{not}
 use mathlib.Core.List.{List}
-use Prim.Native.Nat.{ℕ}
 use lib.ListN.{take}
 use borrow.Author.Tests.{eq-eqb, ne_eqb}
 use Rattle.basics.specs.Refusals.{Check, first_refusal}
@@ -19,9 +18,6 @@ First s = opening Nothing s.args.words.now s.args.floats.now
 
 abbrev Own : Start → List Check
 Own s = own_checks s.args.words.now s.args.vector.now
-
-abbrev refusal : Start → ℕ
-refusal s = first_refusal (add_checks s.args.words.now s.args.floats.now s.args.vector.now)
 
 own : (c : Else-refusal-ne0) → first_refusal (own_checks c.args.words.now c.args.vector.now) ≡ (first_refusal (add_checks c.args.words.now c.args.floats.now c.args.vector.now))
 unfolding add_checks

@@ -18,9 +18,6 @@ refusal s = first_refusal (add_checks s.args.words.now s.args.floats.now s.args.
 zero : (c : Else-refusal-ne0) → (first_refusal (add_checks c.args.words.now c.args.floats.now c.args.vector.now)) ≡ 0
 zero c = sym c.add_refusal-refusal.ensures ∙ c.if-refusal-ne0.false
 
-abbrev Taken : Start → Type 0
-Taken s = AddTaken s.args.words.now s.args.floats.now s.args.vector.now
-
 taken : (c : Else-refusal-ne0) → (AddTaken c.args.words.now c.args.floats.now c.args.vector.now)
 taken c = add_taken _ _ _ (sym c.add_refusal-refusal.ensures ∙ c.if-refusal-ne0.false)
 

@@ -15,9 +15,6 @@ use Rattle.pipnn.proofs.new.Goals.{After-floats_size-floats_end, Else-refusal-ne
 abbrev refusal : Start → ℕ
 refusal s = first_refusal (new_checks s.args.dimension s.args.params s.args.capacity s.args.words.now s.args.floats.now)
 
-abbrev Taken : Start → Type 0
-Taken s = NewTaken s.args.dimension s.args.params s.args.capacity s.args.words.now s.args.floats.now
-
 zero : (c : Else-refusal-ne0) → (first_refusal (new_checks c.args.dimension c.args.params c.args.capacity c.args.words.now c.args.floats.now)) ≡ 0
 zero c = sym c.new_refusal-refusal.ensures ∙ c.if-refusal-ne0.false
 

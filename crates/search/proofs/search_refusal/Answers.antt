@@ -22,11 +22,6 @@ First s = opening (Scratch s.args.scratch_words s.args.scratch_floats) s.args.wo
 abbrev Own : Start → List Check
 Own s = own_search_checks s.args.words.now s.args.query.now s.args.k s.args.ef s.args.docs.now s.args.distances.now
 
-abbrev refusal : Start → ℕ
-refusal s =
-    first_refusal
-    (search_checks s.args.words.now s.args.query.now s.args.k s.args.ef s.args.docs.now s.args.distances.now s.args.scratch_words s.args.scratch_floats s.args.floats.now)
-
 -- past the checks that every call begins with, its own count
 own : (c : Else-refusal-ne0) → first_refusal (own_search_checks c.args.words.now c.args.query.now c.args.k c.args.ef c.args.docs.now c.args.distances.now) ≡ (first_refusal (search_checks c.args.words.now c.args.query.now c.args.k c.args.ef c.args.docs.now c.args.distances.now c.args.scratch_words c.args.scratch_floats c.args.floats.now))
 unfolding search_checks
