@@ -1,11 +1,11 @@
--- `store::opening_refusal` meets its contract: at each place the checks before it have passed. Assumes nothing.
+-- `store::check_opening` meets its contract: at each place the checks before it have passed. Assumes nothing.
 use mathlib.Core.Path.{◌≡◌, sym, ap, ◌∙◌}
 use mathlib.Core.Bool.{false, not}
 use borrow.Author.Tests.{lt-ltb, le-ltb, ltb-false}
 use Rattle.basics.proofs.Refusals.{turned_at, none_turned}
 use Rattle.basics.proofs.Tests.{both_false}
 use Rattle.store.specs.Opening.{too_short, opening}
-use Rattle.store.proofs.opening_refusal.Goals as goal
+use Rattle.store.proofs.check_opening.Goals as goal
 
 pub returns-then-words-lt-HEADER_SIZE : goal.returns-then-words-lt-HEADER_SIZE
 unfolding opening
