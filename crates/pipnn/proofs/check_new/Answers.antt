@@ -1,4 +1,4 @@
--- `pipnn::new_refusal` meets its contract: at each place the checks before it have passed. Assumes nothing.
+-- `pipnn::check_new` meets its contract: at each place the checks before it have passed. Assumes nothing.
 use mathlib.Core.Path.{◌≡◌, sym, ap, ◌∙◌}
 use mathlib.Core.Bool.{true, not, ◌&&◌}
 use mathlib.Core.List.{List}
@@ -10,8 +10,8 @@ use Rattle.basics.proofs.Tests.{both_true}
 use Rattle.params.specs.Limits.{within_limits, capacity_within}
 use Rattle.params.proofs.Laws.{within}
 use Rattle.pipnn.specs.New.{new_checks}
-use Rattle.pipnn.proofs.new_refusal.Goals as goal
-use Rattle.pipnn.proofs.new_refusal.Goals.{After-capacity_within, Else-not-dimension_within, Else-not-within_limits-capacity_within, Start}
+use Rattle.pipnn.proofs.check_new.Goals as goal
+use Rattle.pipnn.proofs.check_new.Goals.{After-capacity_within, Else-not-dimension_within, Else-not-within_limits-capacity_within, Start}
 
 abbrev K : Start → List Check
 K s = new_checks s.args.dimension s.args.p s.args.capacity s.args.words.now s.args.floats.now
