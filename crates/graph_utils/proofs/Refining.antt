@@ -60,7 +60,7 @@ length_cleared n links h =
 
 -- ---- the turns
 
-module _ (D d : ℕ) (row_words : List ℕ) (entry : ℕ) (vs : List (List Float)) (bridges₀ links₀ : List ℕ) (given : Repairable (row_lists D row_words) entry bridges₀ links₀) where
+module _ (D : ℕ) (row_words : List ℕ) (entry : ℕ) (vs : List (List Float)) (bridges₀ links₀ : List ℕ) (given : Repairable (row_lists D row_words) entry bridges₀ links₀) where
   abbrev rows : List (List ℕ)
   rows = row_lists D row_words
 
@@ -68,7 +68,7 @@ module _ (D d : ℕ) (row_words : List ℕ) (entry : ℕ) (vs : List (List Float
   n = length rows
 
   abbrev shape_of : ℕ → Shape
-  shape_of k = record { n = k; degree = D; dimension = d }
+  shape_of k = record { n = k; degree = D }
 
   abbrev shape : Shape
   shape = shape_of n

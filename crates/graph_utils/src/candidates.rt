@@ -1,18 +1,17 @@
 // Where a bridge starts (scope, part 7), as the middle of `ensure_connectivity` of src/graph_utils.rs: of
 // the nodes on the lists of a node's neighbours, and of the entry's neighbours with their lists, the
-// nearest that is reached, or the entry. The first n words of `state` are marks. A node's list is its row,
-// then its bridges' other ends; a cursor of `chains` goes along it. A node that is not reached is not
-// scored.
+// nearest that is reached, or the entry. A node's list is its row, then its bridges' other ends (`chains`). A node that
+// is not reached is not scored.
 //
 // specs/Inside/Candidates  candidates on words, with the distance kept
 // proofs/Refining          it is `nearest_reached` of the definition
 ghost use Rattle.std.specs.Prelude.{◌≡◌};
-ghost use Rattle.lists.specs.Inside.Lists.{list_words};
-ghost use Rattle.distance.specs.Vectors.{vectors_in};
+ghost use Rattle.lists.specs.Inside.Lists.{list_in};
+ghost use Rattle.distance.specs.Vectors.{vectors_of};
 ghost use Rattle.graph_utils.specs.Inside.Candidates.{seeking, considered, considered_all, around, around_list, start_of};
 
-use distance::vectors;
-use lists::{Shape, chains};
+use distance::vectors::Vectors;
+use lists::chains::Lists;
 use words::ids::Node;
 
 // The nearest node so far, and how far it is.
@@ -22,142 +21,81 @@ pub struct Nearest {
     pub distance: f32,
 }
 
-// The node that a bridge to node i starts from.
-pub fn bridge_start(
-    rows: &[u32],
-    bridges: &[u32],
-    links: &[u32],
-    state: &[u32],
-    vectors: &[f32],
-    shape: Shape,
-    entry: Node,
-    i: Node,
-) -> Node
-    ensures { result.0 ≡ start_of state.now shape.n (vectors_in shape.dimension vectors.now)
-        (list_words shape rows.now bridges.now links.now) entry.0 i.0 }
+// What candidates for a bridge to a node are compared by: the marks of n nodes, the nodes' vectors, and the node's
+// own vector, the query.
+#[derive(Clone, Copy)]
+struct Seeker<'a> {
+    marks: &'a [u32],
+    n: u32,
+    vectors: Vectors<'a>,
+    query: &'a [f32],
+}
+
+// The node that a bridge to node i starts from. The first words of `state` are marks.
+pub fn bridge_start(lists: Lists, state: &[u32], vectors: Vectors, entry: Node, i: Node) -> Node
+    ensures { result.0 ≡ start_of state.now lists.entry.shape.n (vectors_of vectors.entry) (list_in lists.entry) entry.0 i.0 }
 {
-    let query = vectors::get_vector(vectors, shape.dimension, i);
-    let far = distance::cosine_distance_normalized(
+    let query = vectors.get(i);
+    let seeker = Seeker {
+        marks: state,
+        n: lists.shape.n,
+        vectors,
         query,
-        vectors::get_vector(vectors, shape.dimension, entry),
-    );
+    };
     let first = Nearest {
         node: entry,
-        distance: far,
+        distance: vectors.distance_from(query, entry),
     };
-    let own = around_list(
-        rows, bridges, links, state, vectors, query, shape, first, false, i,
-    );
-    let last = around_list(
-        rows, bridges, links, state, vectors, query, shape, own, true, entry,
-    );
-    last.node
+    let own = seeker.around_list(lists, first, false, i);
+    seeker.around_list(lists, own, true, entry).node
 }
 
-// The candidates around the nodes of a node's list: their lists, and with `own` the nodes themselves.
-fn around_list(
-    rows: &[u32],
-    bridges: &[u32],
-    links: &[u32],
-    state: &[u32],
-    vectors: &[f32],
-    query: &[f32],
-    shape: Shape,
-    best: Nearest,
-    own: bool,
-    u: Node,
-) -> Nearest
-    ensures { result ≡ considered_all (seeking shape state.now vectors.now query.now)
-        (around_list own (list_words shape rows.now bridges.now links.now) u.0) best }
-{
-    let n = shape.n;
-    let row = lists::row_of(rows, shape.degree, u);
-    let mut near = best;
-    let mut at = chains::list_start(links, n, u);
-    while chains::has_entry(row, at) {
-        let v = chains::list_entry(row, bridges, at);
-        near = consider_around(
-            rows, bridges, links, state, vectors, query, shape, near, own, v,
-        );
-        at = chains::list_next(row, links, n, at);
+impl<'a> Seeker<'a> {
+    // The candidates around the nodes of a node's list: their lists, and with `own` the nodes themselves.
+    fn around_list(self, lists: Lists, best: Nearest, own: bool, u: Node) -> Nearest
+        ensures { result ≡ considered_all (seeking self.entry) (around_list own (list_in lists.entry) u.0) best }
+    {
+        let mut near = best;
+        for v in lists.of(u) {
+            near = self.consider_around(lists, near, own, v);
+        }
+        near
     }
-    near
-}
 
-// The candidates around one node: with `own` the node itself, then its list.
-fn consider_around(
-    rows: &[u32],
-    bridges: &[u32],
-    links: &[u32],
-    state: &[u32],
-    vectors: &[f32],
-    query: &[f32],
-    shape: Shape,
-    best: Nearest,
-    own: bool,
-    u: Node,
-) -> Nearest
-    ensures { result ≡ considered_all (seeking shape state.now vectors.now query.now)
-        (around own (list_words shape rows.now bridges.now links.now) u.0) best }
-{
-    if own {
-        let first = consider(state, vectors, query, shape, best, u);
-        return consider_list(rows, bridges, links, state, vectors, query, shape, first, u);
+    // The candidates around one node: with `own` the node itself, then its list.
+    fn consider_around(self, lists: Lists, best: Nearest, own: bool, u: Node) -> Nearest
+        ensures { result ≡ considered_all (seeking self.entry) (around own (list_in lists.entry) u.0) best }
+    {
+        if own {
+            let first = self.consider(best, u);
+            return self.consider_list(lists, first, u);
+        }
+        self.consider_list(lists, best, u)
     }
-    consider_list(rows, bridges, links, state, vectors, query, shape, best, u)
-}
 
-// The nodes of a node's list.
-fn consider_list(
-    rows: &[u32],
-    bridges: &[u32],
-    links: &[u32],
-    state: &[u32],
-    vectors: &[f32],
-    query: &[f32],
-    shape: Shape,
-    best: Nearest,
-    u: Node,
-) -> Nearest
-    ensures { result ≡ considered_all (seeking shape state.now vectors.now query.now)
-        (list_words shape rows.now bridges.now links.now u.0) best }
-{
-    let n = shape.n;
-    let row = lists::row_of(rows, shape.degree, u);
-    let mut near = best;
-    let mut at = chains::list_start(links, n, u);
-    while chains::has_entry(row, at) {
-        let c = chains::list_entry(row, bridges, at);
-        near = consider(state, vectors, query, shape, near, c);
-        at = chains::list_next(row, links, n, at);
+    // The nodes of a node's list.
+    fn consider_list(self, lists: Lists, best: Nearest, u: Node) -> Nearest
+        ensures { result ≡ considered_all (seeking self.entry) (list_in lists.entry u.0) best }
+    {
+        let mut near = best;
+        for c in lists.of(u) {
+            near = self.consider(near, c);
+        }
+        near
     }
-    near
-}
 
-// A candidate is the nearest where it is reached and its distance is below the distance so far, as numbers.
-fn consider(
-    state: &[u32],
-    vectors: &[f32],
-    query: &[f32],
-    shape: Shape,
-    best: Nearest,
-    c: Node,
-) -> Nearest
-    ensures { result ≡ considered (seeking shape state.now vectors.now query.now) c.0 best }
-{
-    let mark = store::word_at(state, c.0 as usize);
-    if (shape.n <= c.0) | (mark == 0) {
-        return best;
+    // A candidate is the nearest where it is reached and its distance is below the distance so far, as numbers.
+    fn consider(self, best: Nearest, c: Node) -> Nearest
+        ensures { result ≡ considered (seeking self.entry) c.0 best }
+    {
+        let mark = store::word_at(self.marks, c.0 as usize);
+        if (self.n <= c.0) | (mark == 0) {
+            return best;
+        }
+        let distance = self.vectors.distance_from(self.query, c);
+        if distance < best.distance {
+            return Nearest { node: c, distance };
+        }
+        best
     }
-    let d = distance::cosine_distance_normalized(
-        query,
-        vectors::get_vector(vectors, shape.dimension, c),
-    );
-    if d < best.distance {
-        return Nearest {
-            node: c,
-            distance: d,
-        };
-    }
-    best
 }

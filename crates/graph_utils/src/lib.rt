@@ -16,10 +16,12 @@ pub mod marking;
 
 ghost use Rattle.std.specs.Prelude.{◌≡◌, ◌≤◌, ◌<◌};
 ghost use Rattle.lists.specs.Inside.Words.{row_lists};
-ghost use Rattle.distance.specs.Vectors.{vectors_in};
+ghost use Rattle.distance.specs.Vectors.{vectors_of};
 ghost use Rattle.graph_utils.specs.Inside.Connectivity.{Repairs};
 ghost use Rattle.graph_utils.specs.Inside.Turns.{work, put_bridge, turned, repaired};
 
+use distance::vectors::Vectors;
+use lists::chains::Lists;
 use lists::{Shape, chains};
 use words::ids::Node;
 use words::slices;
@@ -29,13 +31,12 @@ use words::slices;
 pub fn ensure_connectivity(
     rows: &[u32],
     degree: u16,
-    vectors: &[f32],
-    dimension: u32,
+    vectors: Vectors,
     entry: Node,
     bridges: &mut [u32],
     words: &mut [u32],
 ) -> u32
-    ensures { Repairs (row_lists degree rows.now) entry.0 (vectors_in dimension vectors.now)
+    ensures { Repairs (row_lists degree rows.now) entry.0 (vectors_of vectors.entry)
         bridges.old words.old result bridges.new }
 {
     let n = rows.len() / (1 + degree as usize);
@@ -45,16 +46,15 @@ pub fn ensure_connectivity(
     let shape = Shape {
         n: n as u32,
         degree,
-        dimension,
     };
     let mut state = [0u32; 2048];
-    repair(rows, vectors, shape, entry, bridges, words, &mut state[..])
+    repair(rows, vectors, shape, entry, bridges, words, &mut state)
 }
 
 // The same, with links and marks passed in.
 fn repair(
     rows: &[u32],
-    vectors: &[f32],
+    vectors: Vectors,
     shape: Shape,
     entry: Node,
     bridges: &mut [u32],
@@ -63,17 +63,20 @@ fn repair(
 ) -> u32
     requires { shape.n ≤ 1024 }
     ensures { work result bridges.new links.new state.new
-        ≡ repaired shape rows.now (vectors_in shape.dimension vectors.now) entry.0
+        ≡ repaired shape rows.now (vectors_of vectors.entry) entry.0
         bridges.old links.old state.old }
 {
-    let n = shape.n;
-    chains::clear_links(links, n);
-    marking::mark_reachable(rows, bridges, links, state, shape, entry);
+    chains::clear_links(links, shape.n);
+    let lists = Lists {
+        shape,
+        rows,
+        bridges,
+        links,
+    };
+    marking::mark_reachable(lists, state, entry);
     let mut count: u32 = 0;
-    let mut i: u32 = 0;
-    while i < n {
+    for i in 0..shape.n {
         count = turn(rows, vectors, shape, entry, bridges, links, state, count, i);
-        i += 1;
     }
     count
 }
@@ -81,7 +84,7 @@ fn repair(
 // The turn of node i: nothing if it is reached, else a bridge and what that makes reachable.
 fn turn(
     rows: &[u32],
-    vectors: &[f32],
+    vectors: Vectors,
     shape: Shape,
     entry: Node,
     bridges: &mut [u32],
@@ -92,7 +95,7 @@ fn turn(
 ) -> u32
     requires { count < 1024 }
     ensures { work result bridges.new links.new state.new
-        ≡ turned shape rows.now (vectors_in shape.dimension vectors.now) entry.0 i
+        ≡ turned shape rows.now (vectors_of vectors.entry) entry.0 i
         (work count bridges.old links.old state.old) }
 {
     let mark = store::word_at(state, i as usize);
@@ -100,16 +103,28 @@ fn turn(
         return count;
     }
     let node = Node(i);
-    let near = candidates::bridge_start(rows, bridges, links, state, vectors, shape, entry, node);
+    let before = Lists {
+        shape,
+        rows,
+        bridges,
+        links,
+    };
+    let near = candidates::bridge_start(before, state, vectors, entry, node);
     put_bridge(bridges, count, near, node);
     chains::chain_bridge(links, shape.n, count, near, node);
-    marking::mark_reachable(rows, bridges, links, state, shape, node);
+    let after = Lists {
+        shape,
+        rows,
+        bridges,
+        links,
+    };
+    marking::mark_reachable(after, state, node);
     count + 1
 }
 
 fn put_bridge(bridges: &mut [u32], count: u32, near: Node, far: Node)
     ensures { bridges.new ≡ put_bridge count near.0 far.0 bridges.old }
 {
-    slices::put_word(bridges, 2 * count as usize, near.0);
-    slices::put_word(bridges, 2 * count as usize + 1, far.0);
+    slices::put(bridges, 2 * count as usize, near.0);
+    slices::put(bridges, 2 * count as usize + 1, far.0);
 }

@@ -8,58 +8,38 @@
 // specs/Inside/Marking  marking on words
 // proofs/Refining       it is the walk of the definition
 ghost use Rattle.std.specs.Prelude.{◌≡◌};
-ghost use Rattle.lists.specs.Inside.Lists.{list_words};
+ghost use Rattle.lists.specs.Inside.Lists.{list_in};
 ghost use Rattle.graph_utils.specs.Inside.Marking.{marks, visited, visited_all, marked};
 
-use lists::{Shape, chains};
+use lists::chains::Lists;
 use words::ids::Node;
 use words::slices;
 
 // Marks every node that the lists lead to from a node that is not marked; from a marked one, nothing.
-pub fn mark_reachable(
-    rows: &[u32],
-    bridges: &[u32],
-    links: &[u32],
-    state: &mut [u32],
-    shape: Shape,
-    start: Node,
-)
-    ensures { state.new
-        ≡ marked shape.n (list_words shape rows.now bridges.now links.now) start.0 state.old }
+pub fn mark_reachable(lists: Lists, state: &mut [u32], start: Node)
+    ensures { state.new ≡ marked lists.entry.shape.n (list_in lists.entry) start.0 state.old }
 {
-    let n = shape.n;
+    let n = lists.shape.n;
     let mut top = visit(state, n, 0, start.0);
-    let mut more = n;
-    while (0 < top) & (0 < more) {
+    // no node comes onto the stack twice, so n turns are enough
+    'turns: for _ in 0..n {
+        if top == 0 {
+            return;
+        }
         top -= 1;
-        more -= 1;
         let u = Node(store::word_at(state, n as usize + top as usize));
-        top = visit_list(rows, bridges, links, state, shape, top, u);
+        top = visit_list(lists, state, top, u);
     }
 }
 
 // Visits the nodes of a node's list.
-fn visit_list(
-    rows: &[u32],
-    bridges: &[u32],
-    links: &[u32],
-    state: &mut [u32],
-    shape: Shape,
-    top: u32,
-    u: Node,
-) -> u32
+fn visit_list(lists: Lists, state: &mut [u32], top: u32, u: Node) -> u32
     ensures { marks state.new result
-        ≡ visited_all shape.n (list_words shape rows.now bridges.now links.now u.0)
-        (marks state.old top) }
+        ≡ visited_all lists.entry.shape.n (list_in lists.entry u.0) (marks state.old top) }
 {
-    let n = shape.n;
-    let row = lists::row_of(rows, shape.degree, u);
     let mut front = top;
-    let mut at = chains::list_start(links, n, u);
-    while chains::has_entry(row, at) {
-        let v = chains::list_entry(row, bridges, at);
-        front = visit(state, n, front, v.0);
-        at = chains::list_next(row, links, n, at);
+    for v in lists.of(u) {
+        front = visit(state, lists.shape.n, front, v.0);
     }
     front
 }
@@ -70,8 +50,8 @@ fn visit(state: &mut [u32], n: u32, top: u32, v: u32) -> u32
 {
     let mark = store::word_at(state, v as usize);
     if (v < n) & (mark == 0) & (top < n) {
-        slices::put_word(state, v as usize, 1);
-        slices::put_word(state, n as usize + top as usize, v);
+        slices::put(state, v as usize, 1);
+        slices::put(state, n as usize + top as usize, v);
         return top + 1;
     }
     top

@@ -12,7 +12,7 @@ use Rattle.basics.proofs.Pieces.{length_pieces}
 use Rattle.store.specs.Layout.{row_size}
 use Rattle.store.specs.View.{entries_in}
 use Rattle.lists.specs.Inside.Words.{row_lists}
-use Rattle.distance.specs.Vectors.{vectors_in}
+use Rattle.distance.specs.Vectors.{vectors_of}
 use Rattle.graph_utils.proofs.marking.Refining.{Marked}
 use Rattle.graph_utils.specs.Inside.Turns.{work}
 use Rattle.graph_utils.proofs.Refining.{all_repaired}
@@ -41,6 +41,6 @@ returns c =
     let a = c.args in
     let p = c.repair in
     let n : ℕ = length a.rows.now / row_size a.degree in
-    λ g. all_repaired a.degree a.dimension a.rows.now a.entry.0 (vectors_in a.dimension a.vectors.now) a.bridges.now a.words.now g (replicate 2048 0)
+    λ g. all_repaired a.degree a.rows.now a.entry.0 (vectors_of a.vectors) a.bridges.now a.words.now g (replicate 2048 0)
     (none_marked (length (row_lists a.degree a.rows.now)) g.many) n (sym (many_rows a.degree a.rows.now))
     (work p.result p.new.bridges p.new.links p.new.state) p.ensures

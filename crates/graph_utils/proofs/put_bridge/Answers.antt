@@ -8,4 +8,4 @@ use Rattle.graph_utils.proofs.put_bridge.Goals as goal
 pub returns : goal.returns
 returns c =
     let a = c.args in
-    c.put_word-2.ensures ∙ ap (λ (l : List ℕ). set l (2 * a.count + 1) a.far.0) c.put_word.ensures
+    c.put-2.ensures ∙ ap (λ (l : List ℕ). set l (2 * a.count + 1) a.far.0) c.put.ensures

@@ -5,9 +5,9 @@ use Rattle.std.specs.Float.{binary32}
 use Rattle.std.specs.Float.Ieee.{lt}
 use Rattle.basics.specs.Choice.{pick}
 use Rattle.distance.specs.Distance.{distance_of}
-use Rattle.distance.specs.Vectors.{vectors_in, vector_of}
-use Rattle.lists.specs.declared.Shape.{Shape}
+use Rattle.distance.specs.Vectors.{vectors_of, vector_of}
 use Rattle.graph_utils.specs.declared.candidates.Nearest.{Nearest}
+use Rattle.graph_utils.specs.declared.candidates.Seeker.{Seeker}
 
 -- what candidates for a bridge to a node are compared by: the marks of n nodes, the nodes' vectors, and the node's own vector, the query
 pub record Seeking : Type 0 where
@@ -17,8 +17,8 @@ pub record Seeking : Type 0 where
   pub query : List Float
 
 -- the same, of an index in slices
-abbrev pub seeking : Shape → List ℕ → List Float → List Float → Seeking
-seeking s marks vectors query = record { marks = marks; n = s.n; vs = vectors_in s.dimension vectors; query = query }
+abbrev pub seeking : Seeker → Seeking
+seeking s = record { marks = s.marks.now; n = s.n; vs = vectors_of s.vectors; query = s.query.now }
 
 abbrev pub nearest : ℕ → Float → Nearest
 nearest c d = record { node = record { 0 = c }; distance = d }

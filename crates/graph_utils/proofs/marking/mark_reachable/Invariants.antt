@@ -1,15 +1,8 @@
--- The invariant: the walk from here on makes the whole. The measure is how many expansions are left. Assumes nothing.
-use mathlib.Core.Path.{◌≡◌}
-use Prim.Native.Nat.{◌^◌, ◌<◌}
-use lib.ListN.{length}
-use Rattle.lists.specs.Inside.Lists.{list_words}
-use Rattle.graph_utils.specs.Inside.Marking.{marked_from}
+-- The walk from here on makes the whole. Assumes nothing.
+use Rattle.std.proofs.Common.{◌≡◌, ◌-◌}
+use Rattle.lists.specs.Inside.Lists.{list_in}
+use Rattle.graph_utils.specs.Inside.Marking.{marked_from, marked}
 use Rattle.graph_utils.proofs.marking.mark_reachable.Given as goal
 
-abbrev pub invariant-loop-top : goal.invariant-loop-top
-invariant-loop-top l =
-    (length l.state ≡ length l.initial.state) × (l.top < 2 ^ 32)
-    × (marked_from l.initial.n (list_words l.initial.shape l.initial.rows l.initial.bridges l.initial.links) l.more l.state l.top ≡ marked_from l.initial.n (list_words l.initial.shape l.initial.rows l.initial.bridges l.initial.links) l.initial.n l.initial.state l.initial.top)
-
-abbrev pub decreases-loop-top : goal.decreases-loop-top
-decreases-loop-top l = l.more
+abbrev pub invariant-turns : goal.invariant-turns
+invariant-turns l = marked_from l.n (list_in l.lists) (l.n - l.counter) l.state l.top ≡ marked l.n (list_in l.lists) l.fn.start.0 l.fn.state

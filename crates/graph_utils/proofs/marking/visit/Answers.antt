@@ -19,7 +19,7 @@ returns-then-v-n c =
     let a = c.args in
     let w = c.word_at-mark in
     visit_new a.n a.v a.top w.result a.state.now _ w.ensures c.if-v-n.true
-    (c.put_word-then-v-n.ensures ∙ ap (λ (l : List ℕ). set l (a.n + a.top) a.v) c.put_word.ensures)
+    (c.put-then-v-n.ensures ∙ ap (λ (l : List ℕ). set l (a.n + a.top) a.v) c.put.ensures)
 
 pub returns : goal.returns
 returns c =
