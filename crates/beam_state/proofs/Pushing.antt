@@ -18,14 +18,15 @@ use Rattle.basics.specs.Nodes.{NoDup, Below}
 use Rattle.basics.proofs.Counting.{at_most}
 use Rattle.basics.proofs.Keeping.{keep_yes, keep_no, keep_few}
 use Rattle.distance.specs.Order.{key_of}
-use Rattle.sorting.specs.Inside.Pairs.{kept_pairs, kept_keys, kept_ids}
+use Rattle.sorting.specs.declared.Keyed.{Keyed}
+use Rattle.sorting.specs.Inside.Pairs.{put_front, kept_pairs}
 use Rattle.def_walk.specs.Walk.{State}
 use Rattle.def_walk.specs.KeepClosest.{key_at, keep_closest, held_of, cutoff_of}
 use Rattle.def_walk.specs.Beam.{to_frontier}
 use Rattle.beam_state.specs.Inside.Queues.{front_rank, Queue, Held, Known, Entering, Keeping}
 use Rattle.beam_state.specs.declared.queues.Closest.{Closest}
 use Rattle.def_walk.proofs.beam.Inserting.{frontier_laws, held_length}
-use Rattle.beam_state.specs.Inside.State.{part, frontier_at, held_at, keys_at, words_for, held_end, frontier_part, keys_part, live_by, Memory, AnswerHeld, Scored, Standing, Pushing, PushingAll, pushed}
+use Rattle.beam_state.specs.Inside.State.{part, frontier_at, held_at, words_for, held_end, frontier_part, live_by, Memory, Scored, Standing, Pushing, PushingAll, pushed}
 use Rattle.beam_state.specs.declared.Walk.{Walk}
 use Rattle.beam_state.proofs.Parts.{lay, lay_length, part_here, part_before, part_after, take_before}
 use Rattle.beam_state.proofs.Pushed.{pushed_append, pushed_keeps, pushed_once}
@@ -35,7 +36,7 @@ use Rattle.beam_state.proofs.Answers.{answer_more}
 -- ---- one node
 
 -- The frontier is written first: x is what it becomes, and the parts behind it stay.
-module _ (n b v : ℕ) (floats : List Float) (walk : Walk) (words nodes withdrawn : List ℕ) (long : words_for n ≤ length words) (x : List ℕ)
+module _ (n b v : ℕ) (floats : List Float) (walk : Walk) (words : List ℕ) (answer : List Keyed) (withdrawn : List ℕ) (long : words_for n ≤ length words) (x : List ℕ)
     (lx : length x ≡ length (frontier_part n words)) where
   abbrev w₁ : List ℕ
   w₁ = lay (frontier_at n) (held_at n) x words
@@ -56,9 +57,9 @@ module _ (n b v : ℕ) (floats : List Float) (walk : Walk) (words nodes withdraw
   behind₁ from to h = part_after (frontier_at n) (held_at n) x words (omega arith) (omega arith) size_x from to h
 
   -- what a node that has its distance and key does to what stands, whatever the words are that it leaves
-  module _ (d : Float) (key : ℕ) (enter : Entering v key (frontier_part n words) x) (di : d ≡ get_or floats v (inf false)) (ki : key ≡ key_of binary32 d) (far : ℕ → Float) (live : ℕ → Bool) (nodes₀ seen front : List ℕ) (known : Known far n (v ∷ seen) floats)
+  module _ (d : Float) (key : ℕ) (enter : Entering v key (frontier_part n words) x) (di : d ≡ get_or floats v (inf false)) (ki : key ≡ key_of binary32 d) (far : ℕ → Float) (live : ℕ → Bool) (answer₀ : List Keyed) (seen front : List ℕ) (known : Known far n (v ∷ seen) floats)
       (low : v < n) (out : In v seen → ⊥)
-      (s : Standing far live n b nodes₀ (record { words = words; floats = floats; nodes = nodes; walk = walk }) seen front) where
+      (s : Standing far live n b answer₀ (record { words = words; floats = floats; answer = answer; walk = walk }) seen front) where
     same_distance : d ≡ far v
     same_distance = di ∙ known.there v (here refl)
 
@@ -71,8 +72,8 @@ module _ (n b v : ℕ) (floats : List Float) (walk : Walk) (words nodes withdraw
     few : suc (length (keep live seen)) ≤ n
     few = omega (arith, keep_few live seen, at_most n (v ∷ seen) (out, s.once) below)
 
-    stands_more : (m' : Memory) → frontier_part n m'.words ≡ x → Scored far n b nodes₀ m' (keep live (v ∷ seen))
-        → Standing far live n b nodes₀ m' (v ∷ seen) (to_frontier far v front)
+    stands_more : (m' : Memory) → frontier_part n m'.words ≡ x → Scored far n b answer₀ m' (keep live (v ∷ seen))
+        → Standing far live n b answer₀ m' (v ∷ seen) (to_frontier far v front)
     stands_more m' fi scored = record {
       frontier = subst (Queue (front_rank far) n (to_frontier far v front)) (sym fi) (enter far n front known.few known.f32s same_key low (λ m. out (s.sub v m)) s.frontier);
       scored = scored;
@@ -83,20 +84,20 @@ module _ (n b v : ℕ) (floats : List Float) (walk : Walk) (words nodes withdraw
 
   -- a node that is not live changes nothing else
   pub push_not : (d : Float) (key : ℕ) → Entering v key (frontier_part n words) x → d ≡ get_or floats v (inf false) → key ≡ key_of binary32 d
-      → live_by withdrawn v ≡ false → Pushing n b v withdrawn (record { words = words; floats = floats; nodes = nodes; walk = walk })
-      (record { words = w₁; floats = floats; nodes = nodes; walk = walk })
-  push_not d key enter di ki off far nodes₀ seen front known low out s =
+      → live_by withdrawn v ≡ false → Pushing n b v withdrawn (record { words = words; floats = floats; answer = answer; walk = walk })
+      (record { words = w₁; floats = floats; answer = answer; walk = walk })
+  push_not d key enter di ki off far answer₀ seen front known low out s =
       let live : ℕ → Bool = live_by withdrawn in
-      stands_more d key enter di ki far live nodes₀ seen front known low out s _ front₁
-      (subst (Scored far n b nodes₀ _) (sym (keep_no live v seen (subst (λ (t : Bool). T (mathlib.Core.Bool.not t)) (sym off) tt)))
-      (scored_moved words w₁ floats floats (sym (behind₁ (held_at n) (held_end n b) (omega arith))) (sym (behind₁ (keys_at n) (words_for n) (omega arith))) s.scored))
+      stands_more d key enter di ki far live answer₀ seen front known low out s _ front₁
+      (subst (Scored far n b answer₀ _) (sym (keep_no live v seen (subst (λ (t : Bool). T (mathlib.Core.Bool.not t)) (sym off) tt)))
+      (scored_moved words w₁ floats floats (sym (behind₁ (held_at n) (held_end n b) (omega arith))) s.scored))
 
-  -- then the held, y, and the answer, z and nodes'
-  module _ (e : ℕ) (e-is : e ≡ held_end n b) (y z nodes' : List ℕ) (ly : length y ≡ length (part (held_at n) e w₁)) where
+  -- then the held, y, and the answer
+  module _ (e : ℕ) (e-is : e ≡ held_end n b) (y : List ℕ) (answer' : List Keyed) (ly : length y ≡ length (part (held_at n) e w₁)) where
     from : held_at n ≤ e
     from = omega arith
 
-    upto : e ≤ keys_at n
+    upto : e ≤ words_for n
     upto = omega arith
 
     abbrev w₂ : List ℕ
@@ -105,82 +106,55 @@ module _ (n b v : ℕ) (floats : List Float) (walk : Walk) (words nodes withdraw
     size_y : length y ≡ e - held_at n
     size_y = ly ∙ length-take-le (e - held_at n) (drop (held_at n) w₁) (omega (arith, length-drop (held_at n) w₁, l₁, upto))
 
-    l₂ : length w₂ ≡ length words
-    l₂ = lay_length (held_at n) e y w₁ from (omega (arith, l₁, upto)) size_y ∙ l₁
+    pub push_frame : take (frontier_at n) w₂ ≡ take (frontier_at n) words
+    push_frame = take_before (held_at n) e y w₁ from (omega (arith, l₁, upto)) size_y (frontier_at n) (omega arith) ∙ enter_frame
 
-    module _ (lz : length z ≡ length (keys_part n w₂)) where
-      abbrev w₃ : List ℕ
-      w₃ = lay (keys_at n) (words_for n) z w₂
+    front_is : frontier_part n w₂ ≡ x
+    front_is =
+        part_before (held_at n) e y w₁ from (omega (arith, l₁, upto)) size_y (frontier_at n) (held_at n) (omega arith) (omega arith) ∙ front₁
 
-      size_z : length z ≡ words_for n - keys_at n
-      size_z = lz ∙ length-take-le (words_for n - keys_at n) (drop (keys_at n) w₂) (omega (arith, length-drop (keys_at n) w₂, l₂))
+    held_is : part (held_at n) e w₂ ≡ y
+    held_is = part_here (held_at n) e y w₁ from (omega (arith, l₁, upto)) size_y
 
-      pub push_frame : take (frontier_at n) w₃ ≡ take (frontier_at n) words
-      push_frame =
-          take_before (keys_at n) (words_for n) z w₂ (omega arith) (omega (arith, l₂)) size_z (frontier_at n) (omega arith)
-          ∙ take_before (held_at n) e y w₁ from (omega (arith, l₁, upto)) size_y (frontier_at n) (omega arith)
-          ∙ enter_frame
+    pub push_is : (closest : Closest) (d : Float) (key r scored' : ℕ) → Entering v key (frontier_part n words) x
+        → Keeping b walk.held d key (part (held_at n) e w₁) y closest → d ≡ get_or floats v (inf false) → key ≡ key_of binary32 d
+        → (r ≡ length (kept_pairs walk.kept (record { key = key; id = v }) answer)) × (answer' ≡ put_front (kept_pairs walk.kept (record { key = key; id = v }) answer) answer)
+        → length answer' ≡ length answer → scored' ≡ min (walk.scored + 1) 4294967295 → live_by withdrawn v ≡ true
+        → Pushing n b v withdrawn (record { words = words; floats = floats; answer = answer; walk = walk })
+        (record { words = w₂; floats = floats; answer = answer'; walk = record { scored = scored'; held = closest.held; cutoff = closest.cutoff; kept = r } })
+    unfolding held_of cutoff_of
+    push_is closest d key r scored' enter keeping di ki first ln sc on far answer₀ seen front known low out s =
+        stands_more d key enter di ki far live answer₀ seen front known low out s _ front_is
+        (subst (Scored far n b answer₀ _) (sym (keep_yes live v seen (subst T (sym on) tt))) (record {
+          held = subst (λ (i : ℕ). Held far (min b n) (keep_closest far b v (held_of far b scored)) (part (held_at n) i w₂)) e-is
+              (subst (Held far (min b n) (keep_closest far b v (held_of far b scored))) (sym held_is) kept.stands);
+          held_count = kept.count;
+          cutoff_is = kept.cutoff;
+          answer = answer_more far answer₀ answer walk.kept v key r scored answer' at_key first ln s.scored.answer;
+          scored_is = omega (arith, sc, s.scored.scored_is, enough, known.few);
+        }))
+      where
+        live : ℕ → Bool
+        live = live_by withdrawn
 
-      front_is : frontier_part n w₃ ≡ x
-      front_is =
-          part_before (keys_at n) (words_for n) z w₂ (omega arith) (omega (arith, l₂)) size_z (frontier_at n) (held_at n) (omega arith) (omega arith)
-          ∙ part_before (held_at n) e y w₁ from (omega (arith, l₁, upto)) size_y (frontier_at n) (held_at n) (omega arith) (omega arith)
-          ∙ front₁
+        scored : List ℕ
+        scored = keep live seen
 
-      held_is : part (held_at n) e w₃ ≡ y
-      held_is =
-          part_before (keys_at n) (words_for n) z w₂ (omega arith) (omega (arith, l₂)) size_z (held_at n) e from upto
-          ∙ part_here (held_at n) e y w₁ from (omega (arith, l₁, upto)) size_y
+        at_key : key ≡ key_at far v
+        at_key = same_key d key enter di ki far live answer₀ seen front known low out s
 
-      keys_is : keys_part n w₃ ≡ z
-      keys_is = part_here (keys_at n) (words_for n) z w₂ (omega arith) (omega (arith, l₂)) size_z
+        enough : suc (length scored) ≤ n
+        enough = few d key enter di ki far live answer₀ seen front known low out s
 
-      keys_was : keys_part n w₂ ≡ keys_part n words
-      keys_was =
-          part_after (held_at n) e y w₁ from (omega (arith, l₁, upto)) size_y (keys_at n) (words_for n) upto
-          ∙ behind₁ (keys_at n) (words_for n) (omega arith)
+        -- the held are among the nodes scored, so that there is a free slot while they are fewer than b
+        slot : length (held_of far b scored) < b → length (held_of far b scored) < min b n
+        slot h = omega (arith, held_length far b scored, enough)
 
-      pub push_is : (closest : Closest) (d : Float) (key r scored' : ℕ) → Entering v key (frontier_part n words) x
-          → Keeping b walk.held d key (part (held_at n) e w₁) y closest → d ≡ get_or floats v (inf false) → key ≡ key_of binary32 d
-          → (r ≡ length (kept_pairs walk.kept key v (keys_part n w₂) nodes)) × (z ≡ kept_keys walk.kept key v (keys_part n w₂) nodes) × (nodes' ≡ kept_ids walk.kept key v (keys_part n w₂) nodes)
-          → length nodes' ≡ length nodes → scored' ≡ min (walk.scored + 1) 4294967295 → live_by withdrawn v ≡ true
-          → Pushing n b v withdrawn (record { words = words; floats = floats; nodes = nodes; walk = walk })
-          (record { words = w₃; floats = floats; nodes = nodes'; walk = record { scored = scored'; held = closest.held; cutoff = closest.cutoff; kept = r } })
-      unfolding held_of cutoff_of
-      push_is closest d key r scored' enter keeping di ki first ln sc on far nodes₀ seen front known low out s =
-          stands_more d key enter di ki far live nodes₀ seen front known low out s _ front_is
-          (subst (Scored far n b nodes₀ _) (sym (keep_yes live v seen (subst T (sym on) tt))) (record {
-            held = subst (λ (i : ℕ). Held far (min b n) (keep_closest far b v (held_of far b scored)) (part (held_at n) i w₃)) e-is
-                (subst (Held far (min b n) (keep_closest far b v (held_of far b scored))) (sym held_is) kept.stands);
-            held_count = kept.count;
-            cutoff_is = kept.cutoff;
-            answer = subst (λ (k : List ℕ). AnswerHeld far nodes₀ k nodes' r (v ∷ scored)) (sym keys_is)
-                (answer_more far nodes₀ (keys_part n w₂) nodes walk.kept v key r scored z nodes' at_key first lz ln
-                (subst (λ (k : List ℕ). AnswerHeld far nodes₀ k nodes walk.kept scored) (sym keys_was) s.scored.answer));
-            scored_is = omega (arith, sc, s.scored.scored_is, enough, known.few);
-          }))
-        where
-          live : ℕ → Bool
-          live = live_by withdrawn
-
-          scored : List ℕ
-          scored = keep live seen
-
-          at_key : key ≡ key_at far v
-          at_key = same_key d key enter di ki far live nodes₀ seen front known low out s
-
-          enough : suc (length scored) ≤ n
-          enough = few d key enter di ki far live nodes₀ seen front known low out s
-
-          -- the held are among the nodes scored, so that there is a free slot while they are fewer than b
-          slot : length (held_of far b scored) < b → length (held_of far b scored) < min b n
-          slot h = omega (arith, held_length far b scored, enough)
-
-          kept : Rattle.beam_state.specs.Inside.Queues.Kept far (min b n) b v (held_of far b scored) y closest
-          kept = keeping far v (min b n) (held_of far b scored) known.f32s (same_distance d key enter di ki far live nodes₀ seen front known low out s) at_key
-              s.scored.held_count slot
-              (subst (Held far (min b n) (held_of far b scored)) (sym (behind₁ (held_at n) e (omega arith)))
-              (subst (λ (i : ℕ). Held far (min b n) (held_of far b scored) (part (held_at n) i words)) (sym e-is) s.scored.held))
+        kept : Rattle.beam_state.specs.Inside.Queues.Kept far (min b n) b v (held_of far b scored) y closest
+        kept = keeping far v (min b n) (held_of far b scored) known.f32s (same_distance d key enter di ki far live answer₀ seen front known low out s) at_key
+            s.scored.held_count slot
+            (subst (Held far (min b n) (held_of far b scored)) (sym (behind₁ (held_at n) e (omega arith)))
+            (subst (λ (i : ℕ). Held far (min b n) (held_of far b scored) (part (held_at n) i words)) (sym e-is) s.scored.held))
 
 -- ---- several
 
@@ -188,30 +162,30 @@ module _ (n b v : ℕ) (floats : List Float) (walk : Walk) (words nodes withdraw
 pub record Going (n b count many : ℕ) (withdrawn : List ℕ) (m₀ m : Memory) (i : ℕ) : Type 0 where
   pub within : i ≤ many
   pub words_kept : length m.words ≡ length m₀.words
-  pub nodes_kept : length m.nodes ≡ length m₀.nodes
+  pub answer_kept : length m.answer ≡ length m₀.answer
   pub frame : take (frontier_at n) m.words ≡ take (frontier_at n) m₀.words
-  pub so_far : (far : ℕ → Float) (old fresh : List ℕ) (s : State) → fresh ≡ take count (drop n m₀.words) → count ≡ length fresh → count ≤ n → NoDup (pushed far fresh s).seen
+  pub so_far : (far : ℕ → Float) (old : List Keyed) (fresh : List ℕ) (s : State) → fresh ≡ take count (drop n m₀.words) → count ≡ length fresh → count ≤ n → NoDup (pushed far fresh s).seen
       → Below n (pushed far fresh s).seen → Known far n (pushed far fresh s).seen m₀.floats → Standing far (live_by withdrawn) n b old m₀ s.seen s.front
       → Standing far (live_by withdrawn) n b old m (pushed far (take i fresh) s).seen (pushed far (take i fresh) s).front
 
 pub going_none : (n b count many : ℕ) (withdrawn : List ℕ) (m : Memory) → Going n b count many withdrawn m m 0
 unfolding pushed
-going_none n b count many withdrawn m = record { within = omega arith; words_kept = refl; nodes_kept = refl; frame = refl; so_far = λ far old fresh s f c l d w k t. t }
+going_none n b count many withdrawn m = record { within = omega arith; words_kept = refl; answer_kept = refl; frame = refl; so_far = λ far old fresh s f c l d w k t. t }
 
 module _ {n b count many i : ℕ} {withdrawn : List ℕ} {m₀ m : Memory} where
   pub going_more : {m' : Memory} → Going n b count many withdrawn m₀ m i → m.floats ≡ m₀.floats → many ≡ min count n → i < many → frontier_at n ≤ length m₀.words
-      → length m'.words ≡ length m.words → length m'.nodes ≡ length m.nodes → take (frontier_at n) m'.words ≡ take (frontier_at n) m.words
+      → length m'.words ≡ length m.words → length m'.answer ≡ length m.answer → take (frontier_at n) m'.words ≡ take (frontier_at n) m.words
       → Pushing n b (get_or m.words (n + i) 0) withdrawn m m' → Going n b count many withdrawn m₀ m' (i + 1)
   unfolding pushed
   going_more {m'} g same mi h long lw ln f push = record {
     within = omega arith;
     words_kept = lw ∙ g.words_kept;
-    nodes_kept = ln ∙ g.nodes_kept;
+    answer_kept = ln ∙ g.answer_kept;
     frame = f ∙ g.frame;
     so_far = λ far old fresh s fi ci cn d w k t. one far old fresh s fi ci cn d w k (g.so_far far old fresh s fi ci cn d w k t);
   }
     where
-      one : (far : ℕ → Float) (old fresh : List ℕ) (s : State) → fresh ≡ take count (drop n m₀.words) → count ≡ length fresh → count ≤ n → NoDup (pushed far fresh s).seen
+      one : (far : ℕ → Float) (old : List Keyed) (fresh : List ℕ) (s : State) → fresh ≡ take count (drop n m₀.words) → count ≡ length fresh → count ≤ n → NoDup (pushed far fresh s).seen
           → Below n (pushed far fresh s).seen → Known far n (pushed far fresh s).seen m₀.floats
           → Standing far (live_by withdrawn) n b old m (pushed far (take i fresh) s).seen (pushed far (take i fresh) s).front
           → Standing far (live_by withdrawn) n b old m' (pushed far (take (i + 1) fresh) s).seen (pushed far (take (i + 1) fresh) s).front

@@ -9,22 +9,21 @@
 //   n             n      the fresh nodes of a list (`gathering`)
 //   FRONTIER * n  4·n    the frontier, a tournament over the nodes (`queues`)
 //   HELD * n      4·n    the held, a tournament over the walk's places; min(places, n) of its slots are used
-//   KEYS * n      n      the keys of the answer's nodes
 //   WORDS * n            the end
 //
-// specs/Inside/State  has the same names: `frontier_at`, `held_at`, `keys_at`, `words_for`. The answer's nodes stand in the
-// slice that the caller wants them in, nearest first: `keep_first` keeps the first of what it is offered, as
-// many as that slice has room for, so that nothing is sorted at the end. Counts and the cutoff are a struct by
-// value.
+// specs/Inside/State  has the same names: `frontier_at`, `held_at`, `words_for`. The answer stands in a slice of its own, nearest
+// first, each node with its key: `keep_first` keeps the first of what it is offered, as many as that slice has room for, so that
+// nothing is sorted at the end. Counts and the cutoff are a struct by value.
 #![tactic(auto)]
 
 pub mod queues;
 pub mod tournament;
 
-ghost use Rattle.std.specs.Prelude.{◌≡◌, ◌+◌, ◌≤◌, min, length, take};
+ghost use Rattle.std.specs.Prelude.{◌≡◌, ◌≤◌, length, take};
 ghost use Rattle.beam_state.specs.Inside.State.{frontier_at, words_for, live_by, Pushing, PushingAll};
 
 use distance::order;
+use sorting::Keyed;
 use words::ids::Node;
 use words::slices;
 
@@ -33,9 +32,7 @@ pub const FRONTIER: usize = 2;
 
 pub const HELD: usize = 6;
 
-pub const KEYS: usize = 10;
-
-pub const WORDS: usize = 11;
+pub const WORDS: usize = 10;
 
 // How many nodes are scored (those seen that are live), how many are held for the cutoff, the cutoff, and how many
 // are in the answer.
@@ -47,33 +44,19 @@ pub struct Walk {
     pub kept: usize,
 }
 
-// One more; no walk comes near the largest number.
-fn one_more(count: u32) -> u32
-    ensures { result ≡ min (count + 1) 4294967295 }
-{
-    if count == 0xffff_ffff {
-        return count;
-    }
-    count + 1
-}
-
 // Whether a node is live: `withdrawn` has a word for each node, 0 where it is live. A node past its end is live, so
 // an empty slice says that all are.
 fn is_live(withdrawn: &[u32], node: Node) -> bool
     ensures { result ≡ live_by withdrawn.now node.0 }
 {
-    let at = node.0 as usize;
-    if at < withdrawn.len() {
-        return withdrawn[at] == 0;
-    }
-    true
+    slices::word_at(withdrawn, node.0 as usize) == 0
 }
 
 // A node that has its distance goes into the frontier. A live one is offered to the held and to the answer.
 fn push(
     words: &mut [u32],
     floats: &[f32],
-    nodes: &mut [u32],
+    answer: &mut [Keyed],
     withdrawn: &[u32],
     size: usize,
     places: u32,
@@ -83,8 +66,8 @@ fn push(
     requires { words_for size ≤ length words.old }
     ensures marks { take (frontier_at size) words.new ≡ take (frontier_at size) words.old }
     ensures pushed { Pushing size places node.0 withdrawn.now
-        (record { words = words.old; floats = floats.now; nodes = nodes.old; walk = walk })
-        (record { words = words.new; floats = floats.now; nodes = nodes.new; walk = result }) }
+        (record { words = words.old; floats = floats.now; answer = answer.old; walk = walk })
+        (record { words = words.new; floats = floats.now; answer = answer.new; walk = result }) }
 {
     let distance = queues::distance_of(floats, node);
     let key = order::key(distance);
@@ -94,9 +77,7 @@ fn push(
     if !is_live(withdrawn, node) {
         return walk;
     }
-    let held_end = held + 4 * slices::lesser(places as usize, size);
-    let keys = KEYS * size;
-    let end = WORDS * size;
+    let held_end = held + 4 * (places as usize).min(size);
     let closest = queues::keep_closest(
         &mut words[held..held_end],
         walk.held,
@@ -104,9 +85,9 @@ fn push(
         distance,
         key,
     );
-    let kept = sorting::keep_first(&mut words[keys..end], nodes, walk.kept, key, node.0);
+    let kept = sorting::keep_first(answer, walk.kept, Keyed { key, id: node.0 });
     Walk {
-        scored: one_more(walk.scored),
+        scored: walk.scored.saturating_add(1),
         held: closest.held,
         cutoff: closest.cutoff,
         kept,
@@ -117,7 +98,7 @@ fn push(
 pub fn push_all(
     words: &mut [u32],
     floats: &[f32],
-    nodes: &mut [u32],
+    answer: &mut [Keyed],
     withdrawn: &[u32],
     size: usize,
     places: u32,
@@ -126,19 +107,17 @@ pub fn push_all(
 ) -> Walk
     ensures marks { take (frontier_at size) words.new ≡ take (frontier_at size) words.old }
     ensures pushed { PushingAll size places count withdrawn.now
-        (record { words = words.old; floats = floats.now; nodes = nodes.old; walk = walk })
-        (record { words = words.new; floats = floats.now; nodes = nodes.new; walk = result }) }
+        (record { words = words.old; floats = floats.now; answer = answer.old; walk = walk })
+        (record { words = words.new; floats = floats.now; answer = answer.new; walk = result }) }
 {
     if words.len() / WORDS < size {
         return walk;
     }
-    let many = slices::lesser(count, size);
+    let many = count.min(size);
     let mut now = walk;
-    let mut i = 0;
-    while i < many {
+    for i in 0..many {
         let node = Node(words[size + i]);
-        now = push(words, floats, nodes, withdrawn, size, places, now, node);
-        i += 1;
+        now = push(words, floats, answer, withdrawn, size, places, now, node);
     }
     now
 }

@@ -12,23 +12,15 @@
 // proofs/Laws     the frontier: empty, a node put in, the first taken out
 // proofs/Holding  the held: none, one more, the worst's slot taken, which pair is first
 // proofs/Keeping  the cases of `keep_closest`
-ghost use Rattle.std.specs.Prelude.{◌≡◌, false, get_or};
+ghost use Rattle.std.specs.Prelude.{◌≡◌, ◌-◌, false, get_or};
 ghost use Rattle.std.specs.Float.{inf};
 ghost use Rattle.beam_state.specs.Inside.Tournament.{Putting};
 ghost use Rattle.beam_state.specs.Inside.Queues.{Popping, Worst, Keeping, Entering, held_rank};
 
 use super::tournament;
+use super::tournament::Pair;
 use distance::order;
 use words::ids::Node;
-
-const NOTHING: u32 = 0xffff_ffff;
-
-// The nearest node of the frontier with its distance, or nothing where the frontier is empty.
-#[derive(Clone, Copy)]
-pub enum Popped {
-    At(f32, Node),
-    Empty,
-}
 
 // How many nodes are held, and the cutoff.
 #[derive(Clone, Copy)]
@@ -41,50 +33,57 @@ pub struct Closest {
 pub fn distance_of(floats: &[f32], node: Node) -> f32
     ensures { result ≡ get_or floats.now node.0 (inf false) }
 {
-    let at = node.0 as usize;
-    if at < floats.len() {
-        return floats[at];
+    match floats.get(node.0 as usize) {
+        Some(distance) => *distance,
+        None => f32::INFINITY,
     }
-    f32::from_bits(0x7f80_0000)
 }
 
 // Puts a node into the frontier, by its distance's key.
 pub fn enter(tree: &mut [u32], key: u32, node: Node)
     ensures { Entering node.0 key tree.old tree.new }
 {
-    tournament::put(tree, node.0, key, node.0);
+    tournament::put(tree, node.0, Pair { key, id: node.0 });
 }
 
-// Takes the nearest node from the frontier, the lower one of equally near nodes.
-pub fn pop(tree: &mut [u32], floats: &[f32]) -> Popped
+// Takes the nearest node from the frontier, the lower one of equally near nodes, with its distance.
+pub fn pop(tree: &mut [u32], floats: &[f32]) -> Option<(f32, Node)>
     ensures { Popping floats.now tree.old tree.new result }
 {
-    let top = tournament::first(tree);
-    let id = top.id;
-    if id == NOTHING {
-        return Popped::Empty;
-    }
-    tournament::put(tree, id, NOTHING, NOTHING);
-    let node = Node(id);
-    Popped::At(distance_of(floats, node), node)
+    let Some(top) = tournament::first(tree) else {
+        return None;
+    };
+    tournament::remove(tree, top.id);
+    let node = Node(top.id);
+    Some((distance_of(floats, node), node))
+}
+
+// A held distance's key, turned so that the worst is first, and back.
+fn turned(key: u32) -> u32
+    ensures { result ≡ 4294967295 - key }
+{
+    0xffff_ffff - key
 }
 
 // Puts a distance's key into a slot of the held.
 fn hold(tree: &mut [u32], slot: u32, key: u32)
     ensures { Putting slot (held_rank key slot) tree.old tree.new }
 {
-    tournament::put(tree, slot, NOTHING - key, slot);
+    let pair = Pair {
+        key: turned(key),
+        id: slot,
+    };
+    tournament::put(tree, slot, pair);
 }
 
 // The worst distance held; infinity where none is.
 fn worst_of(tree: &[u32]) -> f32
     ensures { Worst tree.now result }
 {
-    let worst = tournament::first(tree);
-    if worst.id == NOTHING {
-        return f32::from_bits(0x7f80_0000);
+    match tournament::first(tree) {
+        None => f32::INFINITY,
+        Some(worst) => order::value(turned(worst.key)),
     }
-    order::value(NOTHING - worst.key)
 }
 
 // Offers a scored node, by its distance and the distance's key, to the held, which have `places` slots, and
@@ -97,20 +96,18 @@ pub fn keep_closest(tree: &mut [u32], held: u32, places: u32, distance: f32, key
         hold(tree, held, key);
         return Closest {
             held: held + 1,
-            cutoff: f32::from_bits(0x7f80_0000),
+            cutoff: f32::INFINITY,
         };
     }
-    let worst = tournament::first(tree);
-    let slot = worst.id;
-    if slot == NOTHING {
+    let Some(worst) = tournament::first(tree) else {
         return Closest {
             held,
-            cutoff: f32::from_bits(0x7f80_0000),
+            cutoff: f32::INFINITY,
         };
-    }
-    let most = order::value(NOTHING - worst.key);
+    };
+    let most = order::value(turned(worst.key));
     if distance < most {
-        hold(tree, slot, key);
+        hold(tree, worst.id, key);
         let cutoff = worst_of(tree);
         return Closest { held, cutoff };
     }

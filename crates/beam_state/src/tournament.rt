@@ -11,11 +11,7 @@
 // Every function is total. What a tree stands for is `Tournament` of specs/Inside/Tournament; proofs/Laws says that
 // its first pair is that of a slot and that no slot's comes before it.
 ghost use Rattle.std.specs.Prelude.{◌≡◌, ◌*◌, ◌+◌, ◌-◌, ◌/◌, ◌%◌, ◌<◌, length, replicate};
-ghost use Rattle.beam_state.specs.Inside.Tournament.{rank_of, rank_at, with_pair, empty_rank, Tournament, first_of, Putting, Climbing};
-
-use words::slices;
-
-const NOTHING: u32 = 0xffff_ffff;
+ghost use Rattle.beam_state.specs.Inside.Tournament.{rank_of, rank_at, with_pair, empty_rank, Tournament, First, Putting, Climbing};
 
 #[derive(Clone, Copy)]
 pub struct Pair {
@@ -23,22 +19,26 @@ pub struct Pair {
     pub id: u32,
 }
 
+// What stands in an empty slot.
+const NOTHING: u32 = 0xffff_ffff;
+
+const EMPTY: Pair = Pair {
+    key: NOTHING,
+    id: NOTHING,
+};
+
 // A pair as one number: pairs stand in the order of these numbers.
-fn rank(key: u32, id: u32) -> u64
-    ensures { result ≡ rank_of key id }
+fn rank(pair: Pair) -> u64
+    ensures { result ≡ rank_of pair.key pair.id }
 {
-    (key as u64) * 4294967296 + (id as u64)
+    (pair.key as u64) * 4294967296 + (pair.id as u64)
 }
 
 // Leaves every place empty.
 pub fn clear(tree: &mut [u32])
     ensures { Tournament (replicate (length tree.old / 4) empty_rank) tree.new }
 {
-    let mut i = 0;
-    while i < tree.len() {
-        tree[i] = NOTHING;
-        i += 1;
-    }
+    tree.fill(NOTHING);
 }
 
 // The rank of pair p.
@@ -46,7 +46,10 @@ fn rank_at(tree: &[u32], p: usize) -> u64
     requires { 2 * p + 1 < length tree.now }
     ensures { result ≡ rank_at tree.now p }
 {
-    rank(tree[2 * p + 1], tree[2 * p])
+    rank(Pair {
+        key: tree[2 * p + 1],
+        id: tree[2 * p],
+    })
 }
 
 // The rank of pair p becomes this one.
@@ -67,15 +70,15 @@ fn climb(tree: &mut [u32], from: usize, rank: u64)
     let mut least = rank;
     while p > 1 {
         let beside = p + 1 - 2 * (p % 2);
-        least = slices::lesser_u64(least, rank_at(tree, beside));
+        least = least.min(rank_at(tree, beside));
         p = p / 2;
         lay(tree, p, least);
     }
 }
 
-// Puts a pair at one of the tree's places; (0xffff_ffff, 0xffff_ffff) empties it.
-pub fn put(tree: &mut [u32], place: u32, key: u32, id: u32)
-    ensures { Putting place (rank_of key id) tree.old tree.new }
+// Puts a pair at one of the tree's places.
+pub fn put(tree: &mut [u32], place: u32, pair: Pair)
+    ensures { Putting place (rank_of pair.key pair.id) tree.old tree.new }
 {
     let size = tree.len() / 4;
     let at = place as usize;
@@ -83,23 +86,28 @@ pub fn put(tree: &mut [u32], place: u32, key: u32, id: u32)
         return;
     }
     let p = size + at;
-    let new = rank(key, id);
+    let new = rank(pair);
     lay(tree, p, new);
     climb(tree, p, new);
 }
 
-// The first pair of all, (0xffff_ffff, 0xffff_ffff) where all places are empty or there is none.
-pub fn first(tree: &[u32]) -> Pair
-    ensures { result ≡ first_of tree.now }
+// Leaves one of the tree's places empty.
+pub fn remove(tree: &mut [u32], place: u32)
+    ensures { Putting place empty_rank tree.old tree.new }
+{
+    put(tree, place, EMPTY);
+}
+
+// The first pair of all, if there is one.
+pub fn first(tree: &[u32]) -> Option<Pair>
+    ensures { First tree.now result }
 {
     if tree.len() < 4 {
-        return Pair {
-            key: NOTHING,
-            id: NOTHING,
-        };
+        return None;
     }
-    Pair {
-        key: tree[3],
-        id: tree[2],
+    let id = tree[2];
+    if id == NOTHING {
+        return None;
     }
+    Some(Pair { key: tree[3], id })
 }

@@ -1,4 +1,4 @@
--- `beam_state::push` meets its contract: the frontier's part of the words is written, and for a live node the other two, each by its own function.
+-- `beam_state::push` meets its contract: the frontier's part of the words is written, and for a live node the held's, and the answer, each by its own function.
 -- Assumes nothing.
 use mathlib.Core.Path.{sym, ap, ◌∙◌}
 use Prim.Native.Nat.{ℕ, ◌+◌, ◌*◌}
@@ -11,8 +11,8 @@ returns-then-not-is_live c =
     let a = c.args in
     let enter = c.enter in
     let far = c.distance_of-distance in record {
-      marks = enter_frame a.size a.places a.node.0 a.floats.now a.walk a.words.now a.nodes.now a.withdrawn.now c.requires enter.new.tree enter.auto.tree;
-      pushed = push_not a.size a.places a.node.0 a.floats.now a.walk a.words.now a.nodes.now a.withdrawn.now c.requires enter.new.tree enter.auto.tree
+      marks = enter_frame a.size a.places a.node.0 a.floats.now a.walk a.words.now a.answer.now a.withdrawn.now c.requires enter.new.tree enter.auto.tree;
+      pushed = push_not a.size a.places a.node.0 a.floats.now a.walk a.words.now a.answer.now a.withdrawn.now c.requires enter.new.tree enter.auto.tree
           far.result c.key-key.result enter.ensures far.ensures c.key-key.ensures (sym c.is_live.ensures ∙ c.if-not-is_live.true);
     }
 
@@ -23,12 +23,12 @@ returns c =
     let keep = c.keep_closest-closest in
     let far = c.distance_of-distance in
     let first = c.keep_first-kept in
-    let end = ap (λ (m : ℕ). held_at a.size + 4 * m) c.lesser.ensures in record {
-      marks = push_frame a.size a.places a.node.0 a.floats.now a.walk a.words.now a.nodes.now a.withdrawn.now c.requires enter.new.tree enter.auto.tree
-          _ end keep.new.tree first.new.keys first.new.ids keep.auto.tree first.auto.keys;
-      pushed = push_is a.size a.places a.node.0 a.floats.now a.walk a.words.now a.nodes.now a.withdrawn.now c.requires enter.new.tree enter.auto.tree
-          _ end keep.new.tree first.new.keys first.new.ids keep.auto.tree first.auto.keys
-          keep.result far.result c.key-key.result first.result c.one_more.result
-          enter.ensures keep.ensures far.ensures c.key-key.ensures first.ensures first.auto.ids c.one_more.ensures
+    let end = ap (λ (m : ℕ). held_at a.size + 4 * m) c.min.ensures in record {
+      marks = push_frame a.size a.places a.node.0 a.floats.now a.walk a.words.now a.answer.now a.withdrawn.now c.requires enter.new.tree enter.auto.tree
+          _ end keep.new.tree first.new.pairs keep.auto.tree;
+      pushed = push_is a.size a.places a.node.0 a.floats.now a.walk a.words.now a.answer.now a.withdrawn.now c.requires enter.new.tree enter.auto.tree
+          _ end keep.new.tree first.new.pairs keep.auto.tree
+          keep.result far.result c.key-key.result first.result c.saturating_add.result
+          enter.ensures keep.ensures far.ensures c.key-key.ensures first.ensures first.auto.pairs c.saturating_add.ensures
           (sym c.is_live.ensures ∙ c.if-not-is_live.false);
     }

@@ -1,6 +1,6 @@
 -- A tournament over slots 0 up, in a list of words, four for each slot (the Rust's `BinaryHeap`). A pair of a key and an id is one number, its rank,
 -- and pairs stand in the order of their ranks.
-use Rattle.std.specs.Prelude.{◌≡◌, List, ℕ, ◌+◌, ◌*◌, ◌/◌, ◌%◌, ◌≤◌, ◌<◌, min, ltb, length, get_or, set}
+use Rattle.std.specs.Prelude.{◌≡◌, List, ℕ, ◌+◌, ◌*◌, ◌/◌, ◌%◌, ◌≤◌, ◌<◌, min, ltb, length, get_or, set, Option, Some, None}
 use Rattle.basics.specs.Choice.{pick}
 use Rattle.beam_state.specs.declared.tournament.Pair.{Pair}
 
@@ -29,6 +29,11 @@ Putting place rank tree tree' = (leaves : List ℕ) → Tournament leaves tree �
 unfoldable pub first_of : List ℕ → Pair
 unfolding pick
 first_of tree = pick (ltb (length tree) 4) (record { key = 0xffff_ffff; id = 0xffff_ffff }) (record { key = get_or tree 3 0; id = get_or tree 2 0 })
+
+-- that pair, unless it is an empty place's
+abbrev pub First : List ℕ → Option Pair → Type 0
+First tree None = (first_of tree).id ≡ 0xffff_ffff
+First tree (Some top) = (top ≡ first_of tree) × (top.id ≡ 0xffff_ffff → ⊥)
 
 -- ---- inside this crate
 

@@ -1,16 +1,16 @@
--- `queues::pop` meets its contract: the first pair's id is the first node's, or all ones where there is none. Assumes nothing.
-use mathlib.Core.Path.{ap}
+-- The first pair's id is the first node's, if there is one. Assumes nothing.
+use Rattle.std.proofs.Common.{rules, refl, ap}
 use Rattle.beam_state.specs.declared.tournament.Pair.{Pair}
+use Rattle.beam_state.specs.Inside.Tournament.{first_of}
 use Rattle.beam_state.proofs.queues.Steps.{pop_empty, pop_at}
-use borrow.Author.Rules.{rules}
 use Rattle.beam_state.proofs.queues.pop.Goals as goal
 
-pub returns-then-id : goal.returns-then-id
-returns-then-id c =
-    let a = c.args in
-    pop_empty a.floats.now a.tree.now a.tree.now c.first-top.result.id (ap (λ (p : Pair). p.id) c.first-top.ensures) (search rules) (search rules) c.if-id.true
+pub returns-in_default : goal.returns-in_default
+returns-in_default c =
+    let tree = c.args.tree.now in
+    pop_empty c.args.floats.now tree tree (first_of tree).id refl (search rules) (search rules) c.in_default.ensures
 
 pub returns : goal.returns
 returns c =
-    let a = c.args in
-    pop_at a.floats.now a.tree.now c.put.new.tree c.first-top.result.id (ap (λ (p : Pair). p.id) c.first-top.ensures) (search rules) (search rules) c.if-id.false c.distance_of.result c.distance_of.ensures c.put.ensures
+    let top = c.in-Some.ensures in
+    pop_at c.args.floats.now c.args.tree.now c.remove.new.tree c.in-Some.top.id (ap (λ (p : Pair). p.id) top.0) (search rules) (search rules) top.1 c.distance_of.result c.distance_of.ensures c.remove.ensures

@@ -14,8 +14,8 @@ lay-requires c = let l = c.loop-p.invariant in omega (arith, l.inside, l.kept)
 pub loop-p-preserved : goal.loop-p-preserved
 loop-p-preserved c =
     let a = c.args in
-    climbed_more a.tree.now c.loop-p.tree c.lay.new.tree a.from c.loop-p.p c.loop-p.least c.rank_at.result c.lesser_u64-least.result c.loop-p.invariant
-    (omega arith) c.rank_at.ensures c.lesser_u64-least.ensures c.lay.ensures
+    climbed_more a.tree.now c.loop-p.tree c.lay.new.tree a.from c.loop-p.p c.loop-p.least c.rank_at.result c.min-least.result c.loop-p.invariant
+    (omega arith) c.rank_at.ensures c.min-least.ensures c.lay.ensures
 
 pub returns : goal.returns
 returns c = λ leaves o. open_end leaves c.loop-p.p c.loop-p.tree (omega arith) (c.loop-p.invariant.so_far leaves o)
