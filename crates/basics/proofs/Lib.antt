@@ -11,3 +11,4 @@ pub mod Members
 pub mod Keeping
 pub mod Rows
 pub mod Examples
+pub mod Arrays

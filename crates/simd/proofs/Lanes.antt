@@ -1,7 +1,7 @@
 -- A row of a block: how long it is, and where its components stand. Assumes nothing.
 use mathlib.Core.Path.{◌≡◌, refl, sym, ap, subst, ◌∙◌}
 use mathlib.Core.List.{List, [], ◌∷◌, ◌++◌}
-use Prim.Native.Nat.{ℕ, zero, suc, ◌+◌, ◌*◌, ◌/◌, ◌≤◌, ◌<◌}
+use Prim.Native.Nat.{ℕ, zero, suc, ◌+◌, ◌*◌, ◌/◌, ◌<◌}
 use native.Mathlib.Decide.{dec_lt}
 use native.Mathlib.Omega.{arith}
 use lib.ListN.{length, get_or, length-append, get_or-append}
@@ -29,11 +29,10 @@ lane_at block j (suc n) i h = elim (dec_lt i n) [
     last : i ≡ n → get_or (lane_of block j n ++ (get_or block (8 * n + j) nan ∷ [])) i nan ≡ get_or block (8 * i + j) nan
     last e = get_or_at (lane_of block j n) (get_or block (8 * n + j) nan) [] nan i (length_lane block j n ∙ sym e) ∙ ap (λ (k : ℕ). get_or block (8 * k + j) nan) (sym e)
 
--- a step of the sum with row j of a block, whose component i stands at p
-pub block_step : (q block : List Float) (j : ℕ) (s : Float) (i p : ℕ) → i < length q → length q ≤ length block / 8 → p ≡ 8 * i + j
-    → Left q (row_in block j) s i → Left q (row_in block j) (add binary32 s (mul binary32 (get_or q i nan) (get_or block p nan))) (i + 1)
-block_step q block j s i p h l e left =
-    let m = length_lane block j (length block / 8) in
+-- a step of the sum with row j of a block
+pub block_step : (q block : List Float) (j : ℕ) (s : Float) (i : ℕ) → i < length q → i < length block / 8 → Left q (row_in block j) s i
+    → Left q (row_in block j) (add binary32 s (mul binary32 (get_or q i nan) (get_or block (8 * i + j) nan))) (i + 1)
+block_step q block j s i h l left =
     subst (λ (x : Float). Left q (row_in block j) (add binary32 s (mul binary32 (get_or q i nan) x)) (i + 1))
-    (lane_at block j (length block / 8) i (omega arith) ∙ ap (λ (k : ℕ). get_or block k nan) (sym e))
-    (left_step q (row_in block j) s i h (omega arith) left)
+    (lane_at block j (length block / 8) i l)
+    (left_step q (row_in block j) s i h (omega (arith, length_lane block j (length block / 8))) left)

@@ -1,11 +1,13 @@
 -- A loop over components holds `s` after i of them where what is left of the sum from `s` on is the whole dot. What each step keeps of that,
 -- and what it says at the end. Assumes nothing.
-use mathlib.Core.Path.{◌≡◌, refl, sym, subst, ◌∙◌}
-use mathlib.Core.List.{List}
-use Prim.Native.Nat.{ℕ, ◌+◌, ◌≤◌, ◌<◌}
+use mathlib.Core.Path.{◌≡◌, refl, sym, ap, ap₂, ◌∙◌}
+use mathlib.Core.List.{List, [], ◌∷◌, ◌++◌}
+use Prim.Native.Nat.{ℕ, zero, suc, ◌+◌, ◌-◌, ◌≤◌, ◌<◌}
 use native.Mathlib.Omega.{arith}
-use lib.ListN.{length, get_or, drop}
+use lib.ListN.{length, get_or, take, drop, drop_of_length-le}
 use lib.Ieee.{Float, nan, binary32, add, mul}
+use Rattle.std.specs.List.{slice_range}
+use Rattle.std.proofs.lemmas.List.{drop-drop}
 use Rattle.basics.specs.Sum.{+zero, sum_from, products}
 use Rattle.basics.proofs.Sums.{sum_step, sum_end_left}
 use Rattle.simd.specs.Dot.{dot_of}
@@ -25,24 +27,47 @@ left_start q r = refl
 abbrev pub term : List Float → List Float → ℕ → Float
 term q r i = mul binary32 (get_or q i nan) (get_or r i nan)
 
-pub left_step : {total : Float} (q r : List Float) (s : Float) (i : ℕ) → i < length q → length q ≤ length r → Rest q r s i total
+pub left_step : {total : Float} (q r : List Float) (s : Float) (i : ℕ) → i < length q → i < length r → Rest q r s i total
     → Rest q r (add binary32 s (term q r i)) (i + 1) total
-left_step q r s i h e l = sym (sum_step binary32 s q r i h (omega arith)) ∙ l
+left_step q r s i h e l = sym (sum_step binary32 s q r i h e) ∙ l
 
--- four steps
-pub left_four : {total : Float} (q r : List Float) (s : Float) (i : ℕ) → i + 4 ≤ length q → length q ≤ length r → Rest q r s i total
-    → Rest q r (add binary32 (add binary32 (add binary32 (add binary32 s (term q r i)) (term q r (i + 1))) (term q r (i + 2))) (term q r (i + 3))) (i + 4) total
-left_four {total} q r s i h e l =
-    let s1 : Float = add binary32 s (term q r i) in
-    let s2 : Float = add binary32 s1 (term q r (i + 1)) in
-    let s3 : Float = add binary32 s2 (term q r (i + 2)) in
-    let at_two : i + 1 + 1 ≡ i + 2 = omega arith in
-    let at-three : i + 2 + 1 ≡ i + 3 = omega arith in
-    let at-four : i + 3 + 1 ≡ i + 4 = omega arith in
-    let one = left_step q r s i (omega arith) e l in
-    let two : Rest q r s2 (i + 2) total = subst (λ (k : ℕ). Rest q r s2 k total) at_two (left_step q r s1 (i + 1) (omega arith) e one) in
-    let three : Rest q r s3 (i + 3) total = subst (λ (k : ℕ). Rest q r s3 k total) at-three (left_step q r s2 (i + 2) (omega arith) e two) in
-    subst (λ (k : ℕ). Rest q r (add binary32 s3 (term q r (i + 3))) k total) at-four (left_step q r s3 (i + 3) (omega arith) e three)
+products-none : (xs : List Float) → products binary32 xs [] ≡ []
+unfolding products
+products-none [] = refl
+products-none (x ∷ xs) = refl
+
+-- all the products of the components from i on and before e
+products-split : (n : ℕ) (xs ys : List Float) → products binary32 xs ys ≡ products binary32 (take n xs) (take n ys) ++ products binary32 (drop n xs) (drop n ys)
+unfolding products
+products-split zero xs ys = refl
+products-split (suc n) [] ys = refl
+products-split (suc n) (x ∷ xs) [] = sym (products-none (drop n xs))
+products-split (suc n) (x ∷ xs) (y ∷ ys) = ap (λ (l : List Float). mul binary32 x y ∷ l) (products-split n xs ys)
+
+sum-append : (s : Float) (xs ys : List Float) → sum_from binary32 s (xs ++ ys) ≡ sum_from binary32 (sum_from binary32 s xs) ys
+unfolding sum_from
+sum-append s [] ys = refl
+sum-append s (x ∷ xs) ys = sum-append (add binary32 s x) xs ys
+
+sum-none : (s : Float) → sum_from binary32 s [] ≡ s
+unfolding sum_from
+sum-none s = refl
+
+pub left_part : {total : Float} (q r : List Float) (s : Float) (i e : ℕ) → i ≤ e → Rest q r s i total
+    → Rest q r (sum_from binary32 s (products binary32 (slice_range q i e) (slice_range r i e))) e total
+left_part {total} q r s i e h l =
+    let n : ℕ = e - i in
+    let at : i + n ≡ e = omega arith in
+    let end : (xs : List Float) → drop n (drop i xs) ≡ drop e xs = λ xs. drop-drop n i xs ∙ ap (λ (k : ℕ). drop k xs) at in
+    sym (ap₂ (λ (xs ys : List Float). sum_from binary32 (sum_from binary32 s (products binary32 (slice_range q i e) (slice_range r i e))) (products binary32 xs ys)) (end q) (end r))
+    ∙ sym (sum-append s (products binary32 (take n (drop i q)) (take n (drop i r))) (products binary32 (drop n (drop i q)) (drop n (drop i r))))
+    ∙ ap (sum_from binary32 s) (sym (products-split n (drop i q) (drop i r)))
+    ∙ l
 
 pub left_end : {total : Float} (q r : List Float) (s : Float) (i : ℕ) → length q ≤ i → Rest q r s i total → s ≡ total
 left_end q r s i h l = sym (sum_end_left binary32 s q r i h) ∙ l
+
+-- where the row ends
+pub left_end_row : {total : Float} (q r : List Float) (s : Float) (i : ℕ) → length r ≤ i → Rest q r s i total → s ≡ total
+left_end_row q r s i h l =
+    sym (ap (λ (ys : List Float). sum_from binary32 s (products binary32 (drop i q) ys)) (drop_of_length-le r h) ∙ ap (sum_from binary32 s) (products-none (drop i q)) ∙ sum-none s) ∙ l

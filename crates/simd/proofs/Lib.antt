@@ -1,3 +1,3 @@
 pub mod Left
 pub mod Lanes
-pub mod Tests
+pub mod Eight

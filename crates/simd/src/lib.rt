@@ -8,247 +8,81 @@
 // the sum ends with the shorter one.
 #![tactic(auto)]
 
-ghost use Rattle.std.specs.Prelude.{◌≡◌, ◌+◌, ◌/◌, ◌≤◌, length};
-ghost use Rattle.std.specs.Float.{binary32};
+ghost use Rattle.std.specs.Prelude.{◌≡◌, ◌+◌, ◌/◌, ◌≤◌, ◌<◌, ℕ, length, get_or, slice_range};
+ghost use Rattle.std.specs.Float.{binary32, nan};
+ghost use Rattle.std.specs.Float.Ieee.{add, mul};
+ghost use Rattle.basics.specs.Sum.{sum_from, products};
 ghost use Rattle.simd.specs.Dot.{dot_of};
-ghost use Rattle.simd.specs.Inside.Eight.{NoneShorter, dots_of, four_from, fours, sums_from, block_dots_of};
+ghost use Rattle.simd.specs.Inside.Eight.{NoneShorter, dots_of, block_dots_of, none};
 
+// A sum with the products of two slices added, as far as the shorter one goes.
+fn add_products(sum: f32, a: &[f32], b: &[f32]) -> f32
+    ensures { result ≡ sum_from binary32 sum (products binary32 a.now b.now) }
+{
+    a.iter().zip(b).fold(sum, |total, (x, y)| total + *x * *y)
+}
+
+#[tactic(auto, unfolding(crate::specs::Dot::dot_of))]
 pub fn dot(a: &[f32], b: &[f32]) -> f32
     ensures { result ≡ dot_of binary32 a.now b.now }
 {
-    if a.len() <= b.len() {
-        return dot_within(a, b);
-    }
-    let n = b.len();
-    dot_within(&a[..n], b)
-}
-
-// The sum over all of `a`, which is not the longer one.
-fn dot_within(a: &[f32], b: &[f32]) -> f32
-    requires { length a.now ≤ length b.now }
-    ensures { result ≡ dot_of binary32 a.now b.now }
-{
-    let mut sum: f32 = 0.0;
-    let mut i = 0;
-    while i < a.len() {
-        sum = sum + a[i] * b[i];
-        i += 1;
-    }
-    sum
-}
-
-// One number for each of eight rows.
-#[derive(Clone, Copy)]
-pub struct Eight {
-    pub a: f32,
-    pub b: f32,
-    pub c: f32,
-    pub d: f32,
-    pub e: f32,
-    pub f: f32,
-    pub g: f32,
-    pub h: f32,
+    add_products(0.0, a, b)
 }
 
 // The dots of one query with eight rows.
-pub fn dot8(
-    q: &[f32],
-    a: &[f32],
-    b: &[f32],
-    c: &[f32],
-    d: &[f32],
-    e: &[f32],
-    f: &[f32],
-    g: &[f32],
-    h: &[f32],
-) -> Eight
-    ensures { result ≡ dots_of q.now a.now b.now c.now d.now
-        e.now f.now g.now h.now }
+pub fn dot8(q: &[f32], rows: [&[f32]; 8]) -> [f32; 8]
+    ensures { result ≡ dots_of q.now rows.entry }
 {
-    let n = q.len();
-    if (n <= a.len())
-        & (n <= b.len())
-        & (n <= c.len())
-        & (n <= d.len())
-        & (n <= e.len())
-        & (n <= f.len())
-        & (n <= g.len())
-        & (n <= h.len())
-    {
-        return dot8_within(q, a, b, c, d, e, f, g, h);
+    if rows.iter().all(|row| q.len() <= row.len()) {
+        return dot8_within(q, rows);
     }
-    Eight {
-        a: dot(q, a),
-        b: dot(q, b),
-        c: dot(q, c),
-        d: dot(q, d),
-        e: dot(q, e),
-        f: dot(q, f),
-        g: dot(q, g),
-        h: dot(q, h),
-    }
+    rows.map(|row| dot(q, row))
 }
 
 // Eight sums that do not wait for each other. Four components are taken in a turn: the compiler loads and
 // multiplies four numbers of a row at once, and turns them so that four rows are added at once.
-fn dot8_within(
-    q: &[f32],
-    a: &[f32],
-    b: &[f32],
-    c: &[f32],
-    d: &[f32],
-    e: &[f32],
-    f: &[f32],
-    g: &[f32],
-    h: &[f32],
-) -> Eight
-    requires { NoneShorter q.now a.now b.now c.now d.now e.now f.now g.now h.now }
-    ensures { result ≡ dots_of q.now a.now b.now c.now d.now
-        e.now f.now g.now h.now }
+fn dot8_within(q: &[f32], rows: [&[f32]; 8]) -> [f32; 8]
+    requires { NoneShorter q.now rows }
+    ensures { result ≡ dots_of q.now rows.entry }
 {
-    let mut sum_a: f32 = 0.0;
-    let mut sum_b: f32 = 0.0;
-    let mut sum_c: f32 = 0.0;
-    let mut sum_d: f32 = 0.0;
-    let mut sum_e: f32 = 0.0;
-    let mut sum_f: f32 = 0.0;
-    let mut sum_g: f32 = 0.0;
-    let mut sum_h: f32 = 0.0;
-    let mut i: usize = 0;
-    while q.len() - i >= 4 {
-        let next = i + 4;
-        let x = q[i];
-        let y = q[i + 1];
-        let z = q[i + 2];
-        let w = q[i + 3];
-        sum_a = add_four(sum_a, x, y, z, w, a, i);
-        sum_b = add_four(sum_b, x, y, z, w, b, i);
-        sum_c = add_four(sum_c, x, y, z, w, c, i);
-        sum_d = add_four(sum_d, x, y, z, w, d, i);
-        sum_e = add_four(sum_e, x, y, z, w, e, i);
-        sum_f = add_four(sum_f, x, y, z, w, f, i);
-        sum_g = add_four(sum_g, x, y, z, w, g, i);
-        sum_h = add_four(sum_h, x, y, z, w, h, i);
-        i = next;
+    let mut sums = [0.0f32; 8];
+    let whole = q.len() / 4;
+    for k in 0..whole {
+        add_part(&mut sums, q, &rows, 4 * k, 4 * k + 4);
     }
-    let sums = Eight {
-        a: sum_a,
-        b: sum_b,
-        c: sum_c,
-        d: sum_d,
-        e: sum_e,
-        f: sum_f,
-        g: sum_g,
-        h: sum_h,
-    };
-    dot8_rest(q, a, b, c, d, e, f, g, h, sums)
+    add_part(&mut sums, q, &rows, 4 * whole, q.len());
+    sums
 }
 
-// Four products added to a sum, one after the other: those of a row's components from i on.
-fn add_four(sum: f32, x: f32, y: f32, z: f32, w: f32, row: &[f32], i: usize) -> f32
-    requires { i + 4 ≤ length row.now }
-    ensures { result ≡ four_from sum x y z w row.now i }
+// The products of some components, from one on and before another, added to eight sums.
+fn add_part(sums: &mut [f32; 8], q: &[f32], rows: &[&[f32]; 8], from: usize, to: usize)
+    requires { (from ≤ to) × (to ≤ length q.now) × NoneShorter q.now rows.now }
+    ensures { (j : ℕ) → j < 8 → get_or sums.new j nan
+        ≡ sum_from binary32 (get_or sums.old j nan) (products binary32 (slice_range q.now from to) (slice_range (get_or rows.now j none).now from to)) }
 {
-    sum + x * row[i] + y * row[i + 1] + z * row[i + 2] + w * row[i + 3]
-}
-
-// The last components, fewer than four, added to what the sums are before.
-fn dot8_rest(
-    q: &[f32],
-    a: &[f32],
-    b: &[f32],
-    c: &[f32],
-    d: &[f32],
-    e: &[f32],
-    f: &[f32],
-    g: &[f32],
-    h: &[f32],
-    sums: Eight,
-) -> Eight
-    requires { NoneShorter q.now a.now b.now c.now d.now e.now f.now g.now h.now }
-    ensures { result ≡ sums_from (fours q.now) sums
-        q.now a.now b.now c.now d.now
-        e.now f.now g.now h.now }
-{
-    let mut sum_a = sums.a;
-    let mut sum_b = sums.b;
-    let mut sum_c = sums.c;
-    let mut sum_d = sums.d;
-    let mut sum_e = sums.e;
-    let mut sum_f = sums.f;
-    let mut sum_g = sums.g;
-    let mut sum_h = sums.h;
-    let mut i = q.len() - q.len() % 4;
-    while i < q.len() {
-        let x = q[i];
-        sum_a = sum_a + x * a[i];
-        sum_b = sum_b + x * b[i];
-        sum_c = sum_c + x * c[i];
-        sum_d = sum_d + x * d[i];
-        sum_e = sum_e + x * e[i];
-        sum_f = sum_f + x * f[i];
-        sum_g = sum_g + x * g[i];
-        sum_h = sum_h + x * h[i];
-        i += 1;
-    }
-    Eight {
-        a: sum_a,
-        b: sum_b,
-        c: sum_c,
-        d: sum_d,
-        e: sum_e,
-        f: sum_f,
-        g: sum_g,
-        h: sum_h,
+    for (j, sum) in sums.iter_mut().enumerate() {
+        *sum = add_products(*sum, &q[from..to], &rows[j][from..to]);
     }
 }
 
 // The dots of one query with the eight rows of a block: component i of row j stands at 8 · i + j.
-pub fn dot_block(q: &[f32], block: &[f32]) -> Eight
+pub fn dot_block(q: &[f32], block: &[f32]) -> [f32; 8]
     ensures { result ≡ block_dots_of q.now block.now }
 {
-    let n = block.len() / 8;
-    if q.len() <= n {
-        return dot_block_within(q, block);
+    let mut sums = [0.0f32; 8];
+    let n = q.len().min(block.len() / 8);
+    for (i, x) in q[..n].iter().enumerate() {
+        add_column(&mut sums, *x, &block[8 * i..8 * i + 8]);
     }
-    dot_block_within(&q[..n], block)
+    sums
 }
 
-fn dot_block_within(q: &[f32], block: &[f32]) -> Eight
-    requires { length q.now ≤ length block.now / 8 }
-    ensures { result ≡ block_dots_of q.now block.now }
+// The products of one component of the query with those of eight rows, added to eight sums.
+fn add_column(sums: &mut [f32; 8], x: f32, column: &[f32])
+    requires { length column.now ≡ 8 }
+    ensures { (j : ℕ) → j < 8 → get_or sums.new j nan ≡ add binary32 (get_or sums.old j nan) (mul binary32 x (get_or column.now j nan)) }
 {
-    let mut sum_a: f32 = 0.0;
-    let mut sum_b: f32 = 0.0;
-    let mut sum_c: f32 = 0.0;
-    let mut sum_d: f32 = 0.0;
-    let mut sum_e: f32 = 0.0;
-    let mut sum_f: f32 = 0.0;
-    let mut sum_g: f32 = 0.0;
-    let mut sum_h: f32 = 0.0;
-    let mut at: usize = 0;
-    let mut i: usize = 0;
-    while i < q.len() {
-        let x = q[i];
-        sum_a = sum_a + x * block[at];
-        sum_b = sum_b + x * block[at + 1];
-        sum_c = sum_c + x * block[at + 2];
-        sum_d = sum_d + x * block[at + 3];
-        sum_e = sum_e + x * block[at + 4];
-        sum_f = sum_f + x * block[at + 5];
-        sum_g = sum_g + x * block[at + 6];
-        sum_h = sum_h + x * block[at + 7];
-        at += 8;
-        i += 1;
-    }
-    Eight {
-        a: sum_a,
-        b: sum_b,
-        c: sum_c,
-        d: sum_d,
-        e: sum_e,
-        f: sum_f,
-        g: sum_g,
-        h: sum_h,
+    for (j, sum) in sums.iter_mut().enumerate() {
+        *sum = *sum + x * column[j];
     }
 }

@@ -1,15 +1,11 @@
--- The invariant: of each of the eight sums, what is left from it on is the whole dot. The measure is what is left of the query. Assumes nothing.
+-- Of each of the eight sums, what is left from it on is the whole dot with its row.
+use Prim.Native.Nat.{ℕ, ◌*◌, ◌<◌}
 use mathlib.Core.Path.{◌≡◌}
-use Prim.Native.Nat.{◌-◌, ◌%◌, ◌≤◌}
-use lib.ListN.{length}
+use lib.ListN.{length, get_or}
+use lib.Ieee.{nan}
+use Rattle.simd.specs.Inside.Eight.{none}
 use Rattle.simd.proofs.Left.{Left}
 use Rattle.simd.proofs.dot8_within.Given as goal
 
-abbrev pub invariant-loop-i : goal.invariant-loop-i
-invariant-loop-i l =
-    (l.i ≤ length l.initial.q) × Left l.initial.q l.initial.a l.sum_a l.i × Left l.initial.q l.initial.b l.sum_b l.i × Left l.initial.q l.initial.c l.sum_c l.i × Left l.initial.q l.initial.d l.sum_d l.i
-    × Left l.initial.q l.initial.e l.sum_e l.i × Left l.initial.q l.initial.f l.sum_f l.i × Left l.initial.q l.initial.g l.sum_g l.i × Left l.initial.q l.initial.h l.sum_h l.i × (l.i % 4 ≡ 0)
-
-abbrev pub decreases-loop-i : goal.decreases-loop-i
-decreases-loop-i l =
-    length l.initial.q - l.i
+abbrev pub invariant-loop-k : goal.invariant-loop-k
+invariant-loop-k l = (length l.sums ≡ 8) × ((j : ℕ) → j < 8 → Left l.q (get_or l.rows j none).now (get_or l.sums j nan) (4 * l.k))
