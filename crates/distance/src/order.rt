@@ -19,10 +19,10 @@ use words::bits;
 pub fn key(x: f32) -> u32
     ensures { result ≡ key_of binary32 x }
 {
-    if x != x {
-        return 0xffff_ffff;
+    if x.is_nan() {
+        return u32::MAX;
     }
-    let bits = f32::to_bits(x);
+    let bits = x.to_bits();
     let sign = bits / 0x8000_0000;
     bits ^ (0x8000_0000 + sign * 0x7fff_ffff)
 }

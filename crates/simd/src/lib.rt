@@ -50,7 +50,9 @@ fn dot8_within(q: &[f32], rows: [&[f32]; 8]) -> [f32; 8]
     for k in 0..whole {
         add_part(&mut sums, q, &rows, 4 * k, 4 * k + 4);
     }
-    add_part(&mut sums, q, &rows, 4 * whole, q.len());
+    for i in 4 * whole..q.len() {
+        add_part(&mut sums, q, &rows, i, i + 1);
+    }
     sums
 }
 

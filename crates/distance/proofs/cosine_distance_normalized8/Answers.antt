@@ -1,37 +1,46 @@
 -- Of rows as long as the query each number is 1 − its dot; otherwise eight single distances are the definition itself. Assumes nothing.
-use mathlib.Core.Path.{ap}
-use lib.Ieee.{binary32, of_bits}
-use Rattle.simd.proofs.Tests.{eight_true}
-use Rattle.simd.specs.declared.Eight.{Eight}
-use Rattle.distance.proofs.Laws.{from_dot}
+use native.Mathlib.Omega.{arith}
+use mathlib.Core.Path.{◌≡◌, sym, ap, ◌∙◌}
+use mathlib.Core.List.{List, map}
+use borrow.Author.Tests.{eq-eqb}
+use lib.ListN.{length}
+use lib.Ieee.{Float, binary32, sub, of_bits}
+use denote.Ref.{Bor}
+use Rattle.std.proofs.Common.{rules}
+use Rattle.std.specs.List.{All}
+use Rattle.std.proofs.lemmas.List.{same_lists, length-map, get_or-map}
+use Rattle.std.proofs.lemmas.List.Elements.{All-get_or}
+use Rattle.std.proofs.lemmas.Simd.{map-map}
+use Rattle.basics.specs.Sum.{+one}
+use Rattle.basics.proofs.Arrays.{array_map}
+use Rattle.simd.specs.Dot.{dot_of}
+use Rattle.simd.specs.Inside.Eight.{none}
+use Rattle.distance.specs.Distance.{distance_of}
+use Rattle.distance.proofs.Laws.{one_minus_dot}
 use Rattle.distance.proofs.cosine_distance_normalized8.Goals as goal
 
-pub returns-then-n-a : goal.returns-then-n-a
+-- the distances of rows that are as long as the query
+long_rows : (q : List Float) (rows : List (Bor (List Float))) → All (λ (r : Bor (List Float)). length q ≡ length r.now) rows
+    → map (λ (r : Bor (List Float)). sub binary32 +one (dot_of binary32 q r.now)) rows ≡ map (λ (r : Bor (List Float)). distance_of binary32 q r.now) rows
+long_rows q rows all = same_lists (map far rows) (map (λ (r : Bor (List Float)). distance_of binary32 q r.now) rows) (length-map rows far ∙ sym (length-map rows _))
+    (λ k d h. get_or-map far rows k none d (omega (arith, length-map rows far))
+    ∙ one_minus_dot binary32 q _ (eq-eqb _ _ (All-get_or (λ (r : Bor (List Float)). length q ≡ length r.now) rows k none (omega (arith, length-map rows far)) all))
+    ∙ sym (get_or-map (λ (r : Bor (List Float)). distance_of binary32 q r.now) rows k none d (omega (arith, length-map rows far))))
+  where
+    far : Bor (List Float) → Float
+    far r = sub binary32 +one (dot_of binary32 q r.now)
+
+pub returns-then-all : goal.returns-then-all
 unfolding of_bits
-returns-then-n-a c =
-    let x = c.args in
-    let dots = c.dot8-dots in
-    let long = eight_true _ _ _ _ _ _ _ _ c.if-n-a.true in
-    λ i. record {
-      a = from_dot binary32 x.q.now x.a.now dots.result.a (ap (λ (r : Eight). r.a) dots.ensures) long.0 i;
-      b = from_dot binary32 x.q.now x.b.now dots.result.b (ap (λ (r : Eight). r.b) dots.ensures) long.1 i;
-      c = from_dot binary32 x.q.now x.c.now dots.result.c (ap (λ (r : Eight). r.c) dots.ensures) long.2 i;
-      d = from_dot binary32 x.q.now x.d.now dots.result.d (ap (λ (r : Eight). r.d) dots.ensures) long.3 i;
-      e = from_dot binary32 x.q.now x.e.now dots.result.e (ap (λ (r : Eight). r.e) dots.ensures) long.4 i;
-      f = from_dot binary32 x.q.now x.f.now dots.result.f (ap (λ (r : Eight). r.f) dots.ensures) long.5 i;
-      g = from_dot binary32 x.q.now x.g.now dots.result.g (ap (λ (r : Eight). r.g) dots.ensures) long.6 i;
-      h = from_dot binary32 x.q.now x.h.now dots.result.h (ap (λ (r : Eight). r.h) dots.ensures) long.7 i;
-    }
+returns-then-all c =
+    let q = c.args.q.now in
+    let rows = c.args.rows in
+    let long : All (λ (r : Bor (List Float)). length q ≡ length r.now) rows = search rules in
+    array_map _ (λ (x : Float). sub binary32 +one x) _ (λ x y q k. search rules) c.dot8.result c.map.result 8 (omega (arith, ap length c.dot8.ensures, length-map rows (λ (r : Bor (List Float)). dot_of binary32 q r.now), c.well_formed)) c.map.ensures.items
+    ∙ ap (map (λ (x : Float). sub binary32 +one x)) c.dot8.ensures
+    ∙ map-map (λ (x : Float). sub binary32 +one x) (λ (r : Bor (List Float)). dot_of binary32 q r.now) rows
+    ∙ long_rows q rows long
 
 pub returns : goal.returns
 returns c =
-    λ i. record {
-      a = c.cosine_distance_normalized.ensures i;
-      b = c.cosine_distance_normalized-2.ensures i;
-      c = c.cosine_distance_normalized-3.ensures i;
-      d = c.cosine_distance_normalized-4.ensures i;
-      e = c.cosine_distance_normalized-5.ensures i;
-      f = c.cosine_distance_normalized-6.ensures i;
-      g = c.cosine_distance_normalized-7.ensures i;
-      h = c.cosine_distance_normalized-8.ensures i;
-    }
+    array_map _ (λ (r : Bor (List Float)). distance_of binary32 c.args.q.now r.now) _ (λ x y q k. search rules) c.args.rows c.map-2.result 8 (omega (arith, c.well_formed)) c.map-2.ensures.items

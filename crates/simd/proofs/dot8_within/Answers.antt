@@ -1,9 +1,9 @@
--- Each turn adds four products to each sum, and the last call the rest.
+-- Each turn adds four products to each sum, or one.
 use mathlib.Core.Path.{◌≡◌, refl, sym, subst}
 use mathlib.Core.List.{List}
 use Prim.Native.Nat.{ℕ, ◌+◌, ◌*◌, ◌≤◌, ◌<◌}
 use native.Mathlib.Omega.{arith}
-use lib.ListN.{length, get_or}
+use lib.ListN.{get_or}
 use lib.Ieee.{Float, nan, binary32, of_bits}
 use denote.Ref.{Bor}
 use Rattle.std.specs.List.{slice_range}
@@ -31,14 +31,27 @@ loop-k-preserved c =
           (part x.q.now r (get_or l.sums j nan) _ (4 * l.k) (4 * l.k + 4) (omega arith) (l.invariant.1 j h) (c.add_part.ensures j h)),
     )
 
+pub loop-i-init : goal.loop-i-init
+loop-i-init c =
+    let x = c.args in
+    let l = c.loop-k in
+    (l.invariant.0, λ (j : ℕ) (h : j < 8). subst (Left x.q.now (get_or x.rows j none).now (get_or l.sums j nan)) (omega arith) (l.invariant.1 j h))
+
+pub loop-i-preserved : goal.loop-i-preserved
+loop-i-preserved c =
+    let x = c.args in
+    let l = c.loop-i in (
+      c.add_part-in-loop-i.array_long,
+      λ (j : ℕ) (h : j < 8).
+          part x.q.now (get_or x.rows j none).now (get_or l.sums j nan) _ l.i (l.i + 1) (omega arith) (l.invariant.1 j h) (c.add_part-in-loop-i.ensures j h),
+    )
+
 pub returns : goal.returns
 returns c =
     let x = c.args in
-    let l = c.loop-k in
-    numbers_of (λ (r : Bor (List Float)). dot_of binary32 x.q.now r.now) x.rows c.add_part-2.new.sums (omega (arith, c.well_formed)) c.add_part-2.array_long (λ (j : ℕ) (h : j < 8).
-    let r = (get_or x.rows j none).now in
-    left_end x.q.now r _ (length x.q.now) (omega arith)
-    (part x.q.now r (get_or l.sums j nan) (get_or c.add_part-2.new.sums j nan) _ (length x.q.now) (omega arith) (subst (Left x.q.now r (get_or l.sums j nan)) (omega arith) (l.invariant.1 j h)) (c.add_part-2.ensures j h)))
+    let l = c.loop-i in
+    numbers_of (λ (r : Bor (List Float)). dot_of binary32 x.q.now r.now) x.rows l.sums (omega (arith, c.well_formed)) l.invariant.0
+    (λ (j : ℕ) (h : j < 8). left_end x.q.now (get_or x.rows j none).now _ l.i (omega arith) (l.invariant.1 j h))
 
 pub loop-k-init : goal.loop-k-init
 unfolding of_bits

@@ -9,3 +9,6 @@ use Rattle.simd.proofs.dot8_within.Given as goal
 
 abbrev pub invariant-loop-k : goal.invariant-loop-k
 invariant-loop-k l = (length l.sums ≡ 8) × ((j : ℕ) → j < 8 → Left l.q (get_or l.rows j none).now (get_or l.sums j nan) (4 * l.k))
+
+abbrev pub invariant-loop-i : goal.invariant-loop-i
+invariant-loop-i l = (length l.sums ≡ 8) × ((j : ℕ) → j < 8 → Left l.q (get_or l.rows j none).now (get_or l.sums j nan) l.i)
