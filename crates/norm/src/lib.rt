@@ -16,14 +16,7 @@ ghost use Rattle.norm.specs.Norm.{squares_of, length_of, scaled_of};
 fn sum_of_squares(v: &[f32]) -> f32
     ensures { result ≡ squares_of binary32 v.now }
 {
-    let mut sum: f32 = 0.0;
-    let mut i: usize = 0;
-    while i < v.len() {
-        let x = v[i];
-        sum = sum + x * x;
-        i += 1;
-    }
-    sum
+    v.iter().fold(0.0, |sum, x| sum + *x * *x)
 }
 
 pub fn norm(v: &[f32]) -> f32
@@ -47,9 +40,7 @@ pub fn normalize(v: &mut [f32])
 pub fn divide(v: &mut [f32], by: f32)
     ensures { v.new ≡ map (λ (x : Float). div binary32 x by) v.old }
 {
-    let mut i: usize = 0;
-    while i < v.len() {
-        v[i] = v[i] / by;
-        i += 1;
+    for x in v.iter_mut() {
+        *x = *x / by;
     }
 }

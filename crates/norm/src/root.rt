@@ -16,14 +16,14 @@ pub fn sqrt(s: f32) -> f32
     ensures { result ≡ root_of binary32 s }
 {
     if s > 0.0 {
-        let b = f32::to_bits(s);
+        let b = s.to_bits();
         if b >= 0x7f80_0000 {
             return s;
         }
         return f32::from_bits(root_bits(b));
     }
     if s < 0.0 {
-        return 0.0 / 0.0;
+        return f32::NAN;
     }
     s
 }
@@ -33,9 +33,7 @@ fn root_bits(b: u32) -> u32
     requires { (0 < b) × (b < 0x7f80_0000) }
     ensures { (of_bits binary32 result ≡ root_of binary32 (of_bits binary32 b)) × (result < 0x7f80_0000) }
 {
-    let v = scale(b);
-    let q = v.q;
-    let k = v.k;
+    let Scaled { q, k } = scale(b);
     let n = q << (24 - k % 2);
     let m = (whole_root(4 * n) + 1) / 2;
     (((k + 1) / 2 + 51) * 0x80_0000 + m) as u32
@@ -60,13 +58,11 @@ fn scale(b: u32) -> Scaled
             k: (field + 22) as u64,
         };
     }
-    let mut q = digits as u64;
-    let mut k: u64 = 23;
-    while q < 0x80_0000 {
-        q = q + q;
-        k -= 1;
+    let shift = digits.leading_zeros() - 8;
+    Scaled {
+        q: (digits << shift) as u64,
+        k: (23 - shift) as u64,
     }
-    Scaled { q, k }
 }
 
 // The largest r with r · r ≤ n, digit by digit.
@@ -75,9 +71,7 @@ fn whole_root(n: u64) -> u64
     ensures { result ≡ isqrt n }
 {
     let mut r: u64 = 0;
-    let mut k: u64 = 25;
-    while k > 0 {
-        k -= 1;
+    for k in (0..25u64).rev() {
         let t = r + (1u64 << k);
         if t * t <= n {
             r = t;

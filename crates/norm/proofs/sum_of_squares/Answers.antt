@@ -1,23 +1,22 @@
--- The invariant: what is left of the sum from `sum` on is the whole sum. The measure is what is left of `v`. Assumes nothing.
-use borrow.Author.Rules.{rules}
-use native.Mathlib.Omega.{arith}
-use mathlib.Core.Path.{refl, sym, ◌∙◌}
-use lib.Ieee.{binary32, of_bits}
-use Rattle.basics.proofs.Sums.{sum_step, sum_end_left}
+-- The fold is the sum of the products of the vector with itself. Assumes nothing.
+use mathlib.Core.Path.{◌≡◌, refl, ◌∙◌}
+use mathlib.Core.List.{List, [], ◌∷◌}
+use lib.Ieee.{Float, binary32, add, mul, of_bits}
+use Rattle.std.proofs.Common.{rules, tests}
+use Rattle.std.specs.List.{fold}
+use Rattle.std.proofs.lemmas.Iterator.{YieldsList-from_slice}
+use Rattle.std.proofs.lemmas.Iterator.Consumers.{fold_from_yields_List}
+use Rattle.basics.specs.Sum.{+zero, sum_from, products}
 use Rattle.norm.specs.Norm.{squares_of}
 use Rattle.norm.proofs.sum_of_squares.Goals as goal
 
-pub loop-i-init : goal.loop-i-init
-unfolding of_bits squares_of
-loop-i-init c = (search rules, refl)
-
-pub loop-i-preserved : goal.loop-i-preserved
-loop-i-preserved c =
-    let v = c.args.v.now in
-    (omega arith, sym (sum_step binary32 c.loop-i.sum v v c.loop-i.i (omega arith) (omega arith)) ∙ c.loop-i.invariant.1)
+fold_of_squares : (s : Float) (xs : List Float) → fold (λ (sum x : Float). add binary32 sum (mul binary32 x x)) s xs ≡ sum_from binary32 s (products binary32 xs xs)
+unfolding sum_from products
+fold_of_squares s [] = refl
+fold_of_squares s (x ∷ xs) = fold_of_squares (add binary32 s (mul binary32 x x)) xs
 
 pub returns : goal.returns
+unfolding of_bits squares_of
 returns c =
-    let v = c.args.v.now in
-    let l = c.loop-i in
-    sym (sum_end_left binary32 l.sum v v l.i (omega arith)) ∙ l.invariant.1
+    fold_from_yields_List _ (λ (sum x : Float). add binary32 sum (mul binary32 x x)) +zero c.fold.result c.fold.ensures.ran (YieldsList-from_slice c.args.v.now cc)
+    (λ s x r q k. search (rules, tests)) ∙ fold_of_squares +zero c.args.v.now

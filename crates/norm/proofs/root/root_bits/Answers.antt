@@ -27,23 +27,23 @@ digits g q k l h e =
     subst (λ (m : ℕ). m < 2 ^ 24) (sym (root_is g q k h e)) (m_bounds (q * 2 ^ (24 - k % 2)) n.0 n.1).1
 
 few : (c : After-whole_root) → (c.whole_root.result + 1) / 2 < 2 ^ 24
-few c = digits c.whole_root.result c.scale-v.result.q c.scale-v.result.k (omega arith) (omega arith) c.whole_root.ensures
+few c = digits c.whole_root.result c.scale-q.result.q c.scale-q.result.k (omega arith) (omega arith) c.whole_root.ensures
 
 pub returns : goal.returns
 returns c =
     let b = c.args.b in
-    let v = c.scale-v.result in
-    let e = c.scale-v.ensures in (
+    let v = c.scale-q.result in
+    let e = c.scale-q.ensures in (
       ap (λ (m : ℕ). of_bits binary32 (((v.k + 1) / 2 + 51) * 2 ^ 23 + m)) (root_is c.whole_root.result v.q v.k e.2 c.whole_root.ensures)
           ∙ root_law b v.q v.k c.requires.1 e.0 e.1 e.2 e.3,
       omega (arith, few (goal.at.returns c).After-whole_root),
     )
 
 pub overflow_mul-n : goal.overflow_mul-n
-overflow_mul-n c = omega (arith, small c.scale-v.result.q c.scale-v.result.k (omega arith) (omega arith))
+overflow_mul-n c = omega (arith, small c.scale-q.result.q c.scale-q.result.k (omega arith) (omega arith))
 
 pub whole_root-requires : goal.whole_root-requires
-whole_root-requires c = small c.scale-v.result.q c.scale-v.result.k (omega arith) (omega arith)
+whole_root-requires c = small c.scale-q.result.q c.scale-q.result.k (omega arith) (omega arith)
 
 pub overflow_add-m : goal.overflow_add-m
 overflow_add-m c = omega (arith, few (goal.at.overflow_add-m c).After-whole_root)

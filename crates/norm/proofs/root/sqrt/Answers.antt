@@ -6,7 +6,7 @@ use mathlib.Core.Bool.{Bool, not}
 use Prim.Native.Nat.{ℕ, ◌%◌, ◌<◌, ◌^◌}
 use borrow.Author.Tests.{le-ltb}
 use lib.Dec.{T}
-use lib.Ieee.{Float, nan, binary32, lt, fits, div, of_bits, nan_bits}
+use lib.Ieee.{Float, nan, binary32, lt, fits, of_bits, nan_bits}
 use lib.Ieee.Bits.{of_bits-to_bits, nan_bits_above}
 use Rattle.norm.specs.Root.{root_of}
 use Rattle.norm.proofs.root.Signs.{zero+, zero_is, real, negative, neither, infinite, bits_pos}
@@ -26,8 +26,8 @@ under x h = ap (λ (z : Float). lt x z) (sym zero_is) ∙ h
 no_nan : (n : ℕ) → n < 0x7f80_0000 → T (not (nan_bits binary32 n))
 no_nan n h = subst (λ (b : Bool). T (not b)) (sym (nan_bits_above binary32 n ∙ le-ltb 0x7f80_0000 (n % 2 ^ 31) (omega arith))) tt
 
-nan_is : div binary32 (of_bits binary32 0) (of_bits binary32 0) ≡ nan
-unfolding div of_bits
+nan_is : of_bits binary32 0x7fc0_0000 ≡ nan
+unfolding of_bits
 nan_is = refl
 
 pub returns-then-b-ge2139095040 : goal.returns-then-b-ge2139095040

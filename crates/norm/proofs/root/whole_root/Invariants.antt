@@ -9,6 +9,3 @@ J n r k = (k ≤ 25) × (r + 2 ^ k ≤ 2 ^ 25) × Bounds n r (2 ^ k)
 
 abbrev pub invariant-loop-k : goal.invariant-loop-k
 invariant-loop-k l = J l.initial.n l.r l.k
-
-abbrev pub decreases-loop-k : goal.decreases-loop-k
-decreases-loop-k l = l.k
