@@ -2,7 +2,7 @@
 use mathlib.Core.Path.{◌≡◌, refl, subst}
 use mathlib.Core.List.Memᴰ.{not-nil as in-nil}
 use mathlib.Core.List.{List, [], ◌∷◌}
-use Prim.Native.Nat.{ℕ, ◌+◌, ◌*◌, ◌/◌, ◌≤◌, ◌<◌}
+use Prim.Native.Nat.{ℕ, ◌+◌, ◌*◌, ◌/◌, ◌<◌}
 use native.Mathlib.Omega.{arith}
 use lib.ListN.{length, get_or}
 use Rattle.basics.specs.Graph.{other_ends, list_of}
@@ -22,10 +22,10 @@ no_chain n ws links zero = record {
 }
 
 -- no bridges need no links
-pub none_linked : (n : ℕ) (bridges links : List ℕ) → n ≤ 4294967295 → length bridges < 2 → ((i : ℕ) → i < 2 * n → get_or links i 0 ≡ 0) → Linked n bridges links
-none_linked n bridges links few none zero =
+pub none_linked : (n : ℕ) (bridges links : List ℕ) → length bridges < 2 → ((i : ℕ) → i < 2 * n → get_or links i 0 ≡ 0) → Linked n bridges links
+none_linked n bridges links none zero =
     let all : 0 ≡ length bridges / 2 = omega arith in
-    record { few = few; chained = subst (λ (m : ℕ). Chained n (bridges_in m bridges) links) all (no_chain n bridges links zero) }
+    subst (λ (m : ℕ). Chained n (bridges_in m bridges) links) all (no_chain n bridges links zero)
 
 pub one_alone : (v : ℕ) → list_of (row_lists 1 (1 ∷ v ∷ [])) (bridge_list []) 0 ≡ v ∷ []
 unfolding list_of other_ends pieces

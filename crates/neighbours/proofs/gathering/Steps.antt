@@ -1,5 +1,5 @@
 -- One node looked at, a list piece by piece, and the other ends of bridges by their chain. Assumes nothing.
-use mathlib.Core.Path.{◌≡◌, refl, sym, ap, ap₂, ◌∙◌, subst}
+use mathlib.Core.Path.{◌≡◌, refl, sym, ap, ◌∙◌, subst}
 use mathlib.Core.Logic.{inl, inr}
 use mathlib.Core.Bool.{Bool, true, false, ◌||◌}
 use mathlib.Core.List.Memᴰ.{cases_cons as in-cons}
@@ -22,8 +22,7 @@ use Rattle.basics.proofs.Pieces.{length_pieces}
 use Rattle.store.specs.Layout.{bridge_size}
 use Rattle.store.specs.View.{bridge_in}
 use Rattle.lists.specs.Inside.Words.{bridge_list}
-use Rattle.lists.specs.Inside.Chains.{other_end_at, first_link, next_link, linked_ends, bridges_in}
-use Rattle.lists.proofs.chains.Reading.{first_place, next_place, linked_none, linked_step}
+use Rattle.lists.specs.Inside.Chains.{first_link, linked_ends, bridges_in}
 use Rattle.lists.proofs.chains.Laws.{chained_ends}
 use Rattle.neighbours.specs.Inside.Gathering.{Fresh, visit_one, gather_fresh, fresh_end, FreshIn, Gathering, Linked}
 
@@ -172,17 +171,15 @@ module _ (n count v : ℕ) (words : List ℕ) where
 
 -- the first i of a list have been looked at
 pub record Passed (n : ℕ) (list : List ℕ) (i : ℕ) (words₀ : List ℕ) (count₀ : ℕ) (words : List ℕ) (count : ℕ) : Type 0 where
-  pub within : i ≤ length list
   pub kept : length words ≡ length words₀
   pub so_far : Gathering n count₀ (take i list) words₀ words count
 
 pub passed_none : (n : ℕ) (list words : List ℕ) (count : ℕ) → Passed n list 0 words count words count
-passed_none n list words count = record { within = omega arith; kept = refl; so_far = gathering_none n count words }
+passed_none n list words count = record { kept = refl; so_far = gathering_none n count words }
 
 pub passed_more : {n i count₀ count r : ℕ} {list words₀ words words' : List ℕ} → Passed n list i words₀ count₀ words count → i < length list
     → length words' ≡ length words → Gathering n count (get_or list i 0 ∷ []) words words' r → Passed n list (i + 1) words₀ count₀ words' r
 passed_more {n} {i} {count₀} {count} {r} {list} {words₀} {words} {words'} p h k g = record {
-  within = omega arith;
   kept = k ∙ p.kept;
   so_far = subst (λ (l : List ℕ). Gathering n count₀ l words₀ words' r) (sym (ap (λ (j : ℕ). take j list) (add-one i) ∙ take-suc list i 0 h))
       (gathering_then (take i list) (get_or list i 0 ∷ []) p.so_far g);
@@ -191,48 +188,26 @@ passed_more {n} {i} {count₀} {count} {r} {list} {words₀} {words} {words'} p 
 pub passed_all : {n i count₀ count : ℕ} {list words₀ words : List ℕ} → Passed n list i words₀ count₀ words count → length list ≤ i → Gathering n count₀ list words₀ words count
 passed_all {n} {i} {count₀} {count} {list} {words₀} {words} p h = subst (λ (l : List ℕ). Gathering n count₀ l words₀ words count) (take_all i list h) p.so_far
 
--- the links up to here have been followed: what is gathered from this one on is gathered from the first on
-pub record Followed (n : ℕ) (bridges links : List ℕ) (first link : ℕ) (words₀ : List ℕ) (count₀ : ℕ) (words : List ℕ) (count : ℕ) : Type 0 where
-  pub place : link ≤ length links
+-- a list of which `left` is still to be looked at: what is gathered from there is gathered from the list
+pub record Onward (n : ℕ) (list left words₀ : List ℕ) (count₀ : ℕ) (words : List ℕ) (count : ℕ) : Type 0 where
   pub kept : length words ≡ length words₀
-  pub onward : (words' : List ℕ) (r : ℕ) → Gathering n count (linked_ends n bridges links link) words words' r → Gathering n count₀ (linked_ends n bridges links first) words₀ words' r
+  pub onward : (words' : List ℕ) (r : ℕ) → Gathering n count left words words' r → Gathering n count₀ list words₀ words' r
 
-module _ (n : ℕ) (bridges links : List ℕ) where
-  pub followed_none : (u link : ℕ) (words : List ℕ) (count : ℕ) → link ≡ first_link n links u → Followed n bridges links link link words count words count
-  followed_none u link words count e = record {
-    place = omega (arith, first_place n links u);
-    kept = refl;
-    onward = λ words' r g. g;
+pub onward_none : (n : ℕ) (list left words : List ℕ) (count : ℕ) → left ≡ list → Onward n list left words count words count
+onward_none n list left words count e = record { kept = refl; onward = λ words' r g. subst (λ (l : List ℕ). Gathering n count l words words' r) e g }
+
+module _ {n count₀ count : ℕ} {list left words₀ words : List ℕ} (p : Onward n list left words₀ count₀ words count) where
+  pub onward_more : (v r : ℕ) (rest words' : List ℕ) → left ≡ v ∷ rest → length words' ≡ length words → Gathering n count (v ∷ []) words words' r → Onward n list rest words₀ count₀ words' r
+  onward_more v r rest words' e k g = record {
+    kept = k ∙ p.kept;
+    onward = λ words'' r' h. p.onward words'' r' (subst (λ (l : List ℕ). Gathering n count l words words'' r') (sym e) (gathering_then (v ∷ []) rest g h));
   }
 
-  module _ {first link count₀ count : ℕ} {words₀ words : List ℕ} (p : Followed n bridges links first link words₀ count₀ words count) where
-    pub followed_more : (next node r : ℕ) (words' : List ℕ) → (link ≡ 0 → ⊥) → next ≡ next_link n links link → node ≡ other_end_at bridges link → length words' ≡ length words
-        → Gathering n count (node ∷ []) words words' r → Followed n bridges links first next words₀ count₀ words' r
-    followed_more next node r words' some e at k g = record {
-      place = omega (arith, next_place n links link);
-      kept = k ∙ p.kept;
-      onward = λ words'' r' rest.
-          p.onward words'' r' (subst (λ (l : List ℕ). Gathering n count l words words'' r') (sym whole) (gathering_then (node ∷ []) (linked_ends n bridges links next) g rest));
-    }
-      where
-        whole : linked_ends n bridges links link ≡ node ∷ linked_ends n bridges links next
-        whole = linked_step n bridges links link some p.place ∙ ap₂ (λ (v : ℕ) (m : ℕ). v ∷ linked_ends n bridges links m) (sym at) (sym e)
-
-    pub followed_less : (next : ℕ) → (link ≡ 0 → ⊥) → next ≡ next_link n links link → length (linked_ends n bridges links next) < length (linked_ends n bridges links link)
-    followed_less next some e =
-        omega (
-          arith,
-          ap (λ (l : List ℕ). length l) (linked_step n bridges links link some p.place),
-          ap (λ (m : ℕ). length (linked_ends n bridges links m)) e,
-        )
-
-    pub followed_all : (u : ℕ) → first ≡ first_link n links u → link ≡ 0 → Gathering n count₀ (linked_ends n bridges links (first_link n links u)) words₀ words count
-    followed_all u f e =
-        rw f at (p.onward words count
-        (subst (λ (l : List ℕ). Gathering n count l words words count) (sym (ap (linked_ends n bridges links) e ∙ linked_none n bridges links)) (gathering_none n count words)))
+  pub onward_all : left ≡ [] → Gathering n count₀ list words₀ words count
+  onward_all e = p.onward words count (subst (λ (l : List ℕ). Gathering n count l words words count) (sym e) (gathering_none n count words))
 
 -- what is read from a node's first link on is the other ends of its bridges
 pub linked_ends_lem : (n : ℕ) (bridges links : List ℕ) (u : ℕ) → Linked n bridges links → u < n → linked_ends n bridges links (first_link n links u) ≡ other_ends (bridge_list bridges) u
 linked_ends_lem n bridges links u l h =
     let many : length (bridge_list bridges) ≡ length bridges / bridge_size = length-map (pieces bridge_size (length bridges / bridge_size) bridges) bridge_in ∙ length_pieces bridge_size (length bridges / bridge_size) bridges in
-    chained_ends n (bridge_list bridges) bridges links l.chained (ap (λ (k : ℕ). bridges_in k bridges) (sym many)) u h
+    chained_ends n (bridge_list bridges) bridges links l (ap (λ (k : ℕ). bridges_in k bridges) (sym many)) u h

@@ -6,6 +6,7 @@ use Rattle.basics.specs.Graph.{list_of}
 use Rattle.basics.specs.Nodes.{has, NoDup, Below}
 use Rattle.lists.specs.Inside.Words.{row_lists, bridge_list}
 use Rattle.lists.specs.Inside.Chains.{Chained}
+use Rattle.lists.specs.declared.chains.Lists.{Lists}
 
 -- the nodes seen, latest first, and those of them that are fresh, in order
 pub record Fresh : Type 0 where
@@ -47,16 +48,16 @@ Gathering n count list words words' r =
 abbrev pub GatheringAll : ℕ → List ℕ → List ℕ → List ℕ → ℕ → Type 0
 GatheringAll n list words words' r = fresh_end n ≤ length words → Gathering n 0 list words words' r
 
--- the links of some bridges among n nodes, which chains know by 32 bits
-pub record Linked (n : ℕ) (bridges links : List ℕ) : Type 0 where
-  pub few : n ≤ 4294967295
-  pub chained : Chained n (bridge_list bridges) links
+-- the links of some bridges among n nodes
+abbrev pub Linked : ℕ → List ℕ → List ℕ → Type 0
+Linked n bridges links = Chained n (bridge_list bridges) links
 
 -- words in which the list of node u has been looked at, of rows and linked bridges
-abbrev pub GatheringList : ℕ → ℕ → List ℕ → List ℕ → List ℕ → ℕ → List ℕ → List ℕ → ℕ → Type 0
-GatheringList n degree rows bridges links u words words' r =
-    Linked n bridges links → u < n → GatheringAll n (list_of (row_lists degree rows) (bridge_list bridges) u) words words' r
+abbrev pub GatheringList : Lists → ℕ → List ℕ → List ℕ → ℕ → Type 0
+GatheringList l u words words' r =
+    Linked l.shape.n l.bridges.now l.links.now → u < l.shape.n
+    → GatheringAll l.shape.n (list_of (row_lists l.shape.degree l.rows.now) (bridge_list l.bridges.now) u) words words' r
 
--- words in which node u alone has been looked at; a list's chains know nodes by 32 bits
+-- words in which node u alone has been looked at
 abbrev pub Beginning : ℕ → ℕ → List ℕ → List ℕ → ℕ → Type 0
-Beginning n u words words' r = n ≤ 4294967295 → u < n → GatheringAll n (u ∷ []) words words' r
+Beginning n u words words' r = u < n → GatheringAll n (u ∷ []) words words' r

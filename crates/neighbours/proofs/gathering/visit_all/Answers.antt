@@ -1,19 +1,16 @@
--- `gathering::visit_all` meets its contract: the first i have been looked at. The measure is how many are left. Assumes nothing.
+-- One node more, and the end. Assumes nothing.
+use Rattle.std.proofs.Common.{arith}
 use Rattle.neighbours.proofs.gathering.Steps.{passed_none, passed_more, passed_all}
-use native.Mathlib.Omega.{arith}
 use Rattle.neighbours.proofs.gathering.visit_all.Goals as goal
 
-pub loop-i-init : goal.loop-i-init
-loop-i-init c = passed_none c.args.size c.args.list.now c.args.words.now c.args.count
+pub loop-node-init : goal.loop-node-init
+loop-node-init c = passed_none c.args.size c.args.row.now c.args.words.now c.args.count
 
 pub visit-fresh-requires : goal.visit-fresh-requires
-visit-fresh-requires c = let l = c.loop-i in omega (arith, l.invariant.kept, c.requires)
+visit-fresh-requires c = let l = c.loop-node in omega (arith, l.invariant.kept, c.requires)
 
-pub loop-i-preserved : goal.loop-i-preserved
-loop-i-preserved c = let l = c.loop-i in let v = c.visit-fresh in passed_more l.invariant c.loop-i-test.true v.auto.words v.ensures
-
-pub shape_of-words : goal.shape_of-words
-shape_of-words c = c.loop-i.invariant.kept
+pub loop-node-preserved : goal.loop-node-preserved
+loop-node-preserved c = let v = c.visit-fresh in passed_more c.loop-node.invariant (omega arith) v.auto.words v.ensures
 
 pub returns : goal.returns
-returns c = let l = c.loop-i in passed_all l.invariant c.loop-i-test.false
+returns c = passed_all c.loop-node.invariant (omega arith)

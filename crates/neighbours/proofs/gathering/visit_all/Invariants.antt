@@ -1,11 +1,6 @@
--- `gathering::visit_all` meets its contract: the first i have been looked at. The measure is how many are left. Assumes nothing.
-use Prim.Native.Nat.{◌-◌}
-use lib.ListN.{length}
+-- The nodes before this one have been looked at. Assumes nothing.
 use Rattle.neighbours.proofs.gathering.Steps.{Passed}
 use Rattle.neighbours.proofs.gathering.visit_all.Given as goal
 
-abbrev pub invariant-loop-i : goal.invariant-loop-i
-invariant-loop-i l = Passed l.initial.size l.initial.list l.i l.initial.words l.initial.fresh l.words l.fresh
-
-abbrev pub decreases-loop-i : goal.decreases-loop-i
-decreases-loop-i l = length l.initial.list - l.i
+abbrev pub invariant-loop-node : goal.invariant-loop-node
+invariant-loop-node l = Passed l.size l.row l.node-index l.fn.words l.fn.count l.words l.fresh

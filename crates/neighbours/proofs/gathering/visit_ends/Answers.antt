@@ -1,34 +1,17 @@
--- `gathering::visit_ends` meets its contract: what is gathered from a link on is gathered from the first one on. The measure is how many ends are
--- left. Assumes nothing.
-use Rattle.neighbours.proofs.gathering.Steps.{followed_none, followed_more, followed_less, followed_all}
-use native.Mathlib.Omega.{arith}
+-- One end more, and the end of the chain. Assumes nothing.
+use Rattle.std.proofs.Common.{ap, ◌∙◌, arith}
+use Rattle.lists.specs.Inside.Lists.{ends_left}
+use Rattle.neighbours.proofs.gathering.Steps.{onward_none, onward_more, onward_all}
 use Rattle.neighbours.proofs.gathering.visit_ends.Goals as goal
 
-pub loop-link-init : goal.loop-link-init
-loop-link-init c = let a = c.args in followed_none a.n a.bridges.now a.links.now a.node.0 c.first_link-link.result a.words.now a.count c.first_link-link.ensures
+pub loop-end-init : goal.loop-end-init
+loop-end-init c = onward_none c.args.lists.shape.n _ _ c.args.words.now c.args.count (ap ends_left c.into_iter-end-iterator.ensures.into_iter_gives ∙ c.ends-end-items.ensures)
 
 pub visit-fresh-requires : goal.visit-fresh-requires
-visit-fresh-requires c = let l = c.loop-link in omega (arith, l.invariant.kept, c.requires)
+visit-fresh-requires c = let l = c.loop-end in omega (arith, l.invariant.kept, c.requires)
 
-pub loop-link-smaller : goal.loop-link-smaller
-loop-link-smaller c =
-    let l = c.loop-link in
-    let a = c.args in
-    followed_less a.n a.bridges.now a.links.now l.invariant c.next_link-link.result c.loop-link-test.true c.next_link-link.ensures
-
-pub loop-link-preserved : goal.loop-link-preserved
-loop-link-preserved c =
-    let l = c.loop-link in
-    let a = c.args in
-    let v = c.visit-fresh in
-    followed_more a.n a.bridges.now a.links.now l.invariant c.next_link-link.result c.other_end.result.0 v.result v.new.words c.loop-link-test.true c.next_link-link.ensures
-    c.other_end.ensures v.auto.words v.ensures
+pub loop-end-preserved : goal.loop-end-preserved
+loop-end-preserved c = let v = c.visit-fresh in onward_more c.loop-end.invariant _ v.result _ v.new.words c.in-Some.ensures.steps v.auto.words v.ensures
 
 pub returns : goal.returns
-returns c =
-    let l = c.loop-link in
-    let a = c.args in
-    followed_all a.n a.bridges.now a.links.now l.invariant a.node.0 c.first_link-link.ensures c.loop-link-test.false
-
-pub shape_of-words : goal.shape_of-words
-shape_of-words c = c.loop-link.invariant.kept
+returns c = onward_all c.loop-end.invariant c.in-None.ensures.steps.0

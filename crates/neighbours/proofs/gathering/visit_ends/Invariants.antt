@@ -1,12 +1,7 @@
--- `gathering::visit_ends` meets its contract: what is gathered from a link on is gathered from the first one on. The measure is how many ends are
--- left. Assumes nothing.
-use lib.ListN.{length}
-use Rattle.lists.specs.Inside.Chains.{linked_ends}
-use Rattle.neighbours.proofs.gathering.Steps.{Followed}
+-- What is gathered from the ends that are left is gathered from all. Assumes nothing.
+use Rattle.lists.specs.Inside.Lists.{ends_of, ends_left}
+use Rattle.neighbours.proofs.gathering.Steps.{Onward}
 use Rattle.neighbours.proofs.gathering.visit_ends.Given as goal
 
-abbrev pub invariant-loop-link : goal.invariant-loop-link
-invariant-loop-link l = Followed l.initial.n l.initial.bridges l.initial.links l.initial.link l.link l.initial.words l.initial.fresh l.words l.fresh
-
-abbrev pub decreases-loop-link : goal.decreases-loop-link
-decreases-loop-link l = length (linked_ends l.initial.n l.initial.bridges l.initial.links l.link)
+abbrev pub invariant-loop-end : goal.invariant-loop-end
+invariant-loop-end l = Onward l.fn.lists.shape.n (ends_of l.fn.lists l.fn.node.0) (ends_left l.end-iterator) l.fn.words l.fn.count l.words l.fresh

@@ -1,26 +1,34 @@
--- `scoring::score` meets its contract: what is left from place i on is the whole, eight at a time. The measure is how many are left. Assumes nothing.
-use mathlib.Core.Path.{refl, ◌∙◌}
-use Rattle.distance.specs.Vectors.{vectors_in}
+-- Some nodes more, and the end. Assumes nothing.
+use Rattle.std.proofs.Common.{◌≡◌, ℕ, List, ◌++◌, sym, ap, ◌∙◌, arith}
+use lib.Ieee.{Float}
+use Rattle.distance.specs.Vectors.{vectors_of}
 use Rattle.def_walk.specs.Beam.{far_from}
-use Rattle.neighbours.proofs.scoring.Laws.{eight_step}
-use native.Mathlib.Omega.{arith}
+use Rattle.neighbours.specs.Inside.Scoring.{scored_at}
+use Rattle.neighbours.proofs.scoring.Laws.{scored_append, scored_none}
 use Rattle.neighbours.proofs.scoring.score.Goals as goal
 
-pub loop-i-preserved : goal.loop-i-preserved
-loop-i-preserved c =
-    let a = c.args in
-    let l = c.loop-i in
-    let s = c.score_eight in (
-      omega (arith, c.lesser-i.ensures),
-      s.auto.floats ∙ l.invariant.1,
-      eight_step (far_from a.query.now (vectors_in a.dimension a.vectors.now)) a.nodes.now l.i c.lesser-i.result l.floats s.new.floats c.lesser-i.ensures s.ensures ∙ l.invariant.2,
-    )
+-- some nodes of those that are left scored, then the others
+turn : (far : ℕ → Float) (left some rest : List ℕ) (floats floats' : List Float) → left ≡ some ++ rest → floats' ≡ scored_at far some floats
+    → scored_at far rest floats' ≡ scored_at far left floats
+turn far left some rest floats floats' e s =
+    ap (scored_at far rest) s ∙ sym (scored_append far some rest floats) ∙ sym (ap (λ (l : List ℕ). scored_at far l floats) e)
 
-pub loop-i-init : goal.loop-i-init
-loop-i-init c = (omega arith, refl, refl)
+pub loop-some-preserved-then-some-gt-FEW : goal.loop-some-preserved-then-some-gt-FEW
+loop-some-preserved-then-some-gt-FEW c =
+    let l = c.loop-some in
+    let steps = c.in-Some.ensures.steps in
+    (steps.0 ∙ l.invariant.0, turn (far_from c.args.query.now (vectors_of c.args.vectors)) _ _ _ l.floats _ steps.1.0 c.score_eight.ensures ∙ l.invariant.1)
 
-pub shape_of-floats : goal.shape_of-floats
-shape_of-floats c = c.score_rest.auto.floats ∙ c.loop-i.invariant.1
+pub loop-some-preserved : goal.loop-some-preserved
+loop-some-preserved c =
+    let l = c.loop-some in
+    let steps = c.in-Some.ensures.steps in
+    (steps.0 ∙ l.invariant.0, turn (far_from c.args.query.now (vectors_of c.args.vectors)) _ _ _ l.floats _ steps.1.0 c.score_each.ensures ∙ l.invariant.1)
+
+pub score_eight-requires : goal.score_eight-requires
+score_eight-requires c = let steps = c.in-Some.ensures.steps in (omega arith, omega (arith, steps.1.1, c.loop-some.invariant.0))
 
 pub returns : goal.returns
-returns c = c.score_rest.ensures ∙ c.loop-i.invariant.2
+returns c =
+    let l = c.loop-some in
+    sym (scored_none (far_from c.args.query.now (vectors_of c.args.vectors)) l.some-iterator.rest.now l.floats c.in-None.ensures.steps.1.0) ∙ l.invariant.1

@@ -1,14 +1,11 @@
--- `scoring::score` meets its contract: what is left from place i on is the whole, eight at a time. The measure is how many are left. Assumes nothing.
-use mathlib.Core.Path.{◌≡◌}
-use Prim.Native.Nat.{◌-◌, ◌≤◌}
-use lib.ListN.{length, drop}
-use Rattle.distance.specs.Vectors.{vectors_in}
+-- Scoring the nodes that are left makes the whole. Assumes nothing.
+use Rattle.std.proofs.Common.{◌≡◌}
+use Rattle.distance.specs.Vectors.{vectors_of}
 use Rattle.def_walk.specs.Beam.{far_from}
 use Rattle.neighbours.specs.Inside.Scoring.{scored_at}
 use Rattle.neighbours.proofs.scoring.score.Given as goal
 
-abbrev pub invariant-loop-i : goal.invariant-loop-i
-invariant-loop-i l = (l.i ≤ length l.initial.nodes) × (length l.floats ≡ length l.initial.floats) × (scored_at (far_from l.initial.query (vectors_in l.initial.dimension l.initial.vectors)) (drop l.i l.initial.nodes) l.floats ≡ scored_at (far_from l.initial.query (vectors_in l.initial.dimension l.initial.vectors)) l.initial.nodes l.initial.floats)
-
-abbrev pub decreases-loop-i : goal.decreases-loop-i
-decreases-loop-i l = length l.initial.nodes - l.i
+abbrev pub invariant-loop-some : goal.invariant-loop-some
+invariant-loop-some l =
+    (l.some-iterator.size ≡ 8)
+    × (scored_at (far_from l.query (vectors_of l.vectors)) l.some-iterator.rest.now l.floats ≡ scored_at (far_from l.query (vectors_of l.vectors)) l.nodes l.fn.floats)

@@ -1,15 +1,33 @@
--- `scoring::score_eight` meets its contract: eight at once are one after the other. Assumes nothing.
-use mathlib.Core.Path.{ap, ◌∙◌}
-use Rattle.simd.specs.declared.Eight.{Eight}
-use Rattle.distance.specs.Vectors.{vectors_in}
+-- One node more, and the end. Assumes nothing.
+use Rattle.std.proofs.Common.{◌≡◌, ℕ, List, get_or, map, sym, ap, ◌∙◌, arith}
+use Rattle.std.proofs.lemmas.List.{length-map, get_or_default}
+use lib.ListN.{get_or-map}
+use lib.Ieee.{Float, binary32, nan}
+use denote.Ref.{Bor}
+use Rattle.simd.specs.Inside.Eight.{none}
+use Rattle.distance.specs.Distance.{distance_of}
+use Rattle.distance.specs.Vectors.{vectors_of}
 use Rattle.def_walk.specs.Beam.{far_from}
-use Rattle.neighbours.specs.Inside.Scoring.{placed_eight}
-use Rattle.neighbours.proofs.scoring.Laws.{eight_are}
+use Rattle.neighbours.proofs.scoring.Laws.{scored_step, scored_end}
 use Rattle.neighbours.proofs.scoring.score_eight.Goals as goal
+
+pub loop-k-preserved : goal.loop-k-preserved
+unfolding far_from
+loop-k-preserved c =
+    let a = c.args in
+    let l = c.loop-k in
+    let rows = c.rows_of-rows in
+    let far : ℕ → Float = far_from a.query.now (vectors_of a.vectors) in
+    let from : Bor (List Float) → Float = λ r. distance_of binary32 a.query.now r.now in
+    let is : get_or c.cosine_distance_normalized8-distances.result l.k nan ≡ far (get_or a.nodes.now l.k 0) =
+    ap (λ (x : List Float). get_or x l.k nan) c.cosine_distance_normalized8-distances.ensures
+    ∙ get_or_default (map from rows.result) l.k nan (from none) (omega (arith, length-map rows.result from))
+    ∙ get_or-map from rows.result l.k none
+    ∙ ap (distance_of binary32 a.query.now) (rows.ensures l.k (omega arith)) in
+    rw (c.place.ensures, is) (scored_step far a.nodes.now l.k l.floats (omega arith) ∙ l.invariant)
 
 pub returns : goal.returns
 returns c =
     let a = c.args in
-    c.place_eight.ensures
-    ∙ ap (λ (x : Eight). placed_eight a.nodes.now a.at x a.floats.now) c.eight-distances.ensures
-    ∙ eight_are (far_from a.query.now (vectors_in a.dimension a.vectors.now)) a.nodes.now a.at a.floats.now c.requires
+    let l = c.loop-k in
+    sym (scored_end (far_from a.query.now (vectors_of a.vectors)) a.nodes.now l.k l.floats (omega arith)) ∙ l.invariant
