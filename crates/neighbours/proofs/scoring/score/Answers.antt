@@ -1,6 +1,7 @@
 -- Some nodes more, and the end. Assumes nothing.
 use Rattle.std.proofs.Common.{◌≡◌, ℕ, List, ◌++◌, sym, ap, ◌∙◌, arith}
 use lib.Ieee.{Float}
+use Rattle.std.specs.declared.slice.Chunks.{Chunks}
 use Rattle.distance.specs.Vectors.{vectors_of}
 use Rattle.def_walk.specs.Beam.{far_from}
 use Rattle.neighbours.specs.Inside.Scoring.{scored_at}
@@ -26,7 +27,10 @@ loop-some-preserved c =
     (steps.0 ∙ l.invariant.0, turn (far_from c.args.query.now (vectors_of c.args.vectors)) _ _ _ l.floats _ steps.1.0 c.score_each.ensures ∙ l.invariant.1)
 
 pub score_eight-requires : goal.score_eight-requires
-score_eight-requires c = let steps = c.in-Some.ensures.steps in (omega arith, omega (arith, steps.1.1, c.loop-some.invariant.0))
+score_eight-requires c =
+    let steps = c.in-Some.ensures.steps in
+    let whole = ap (λ (i : Chunks ℕ). i.size) c.into_iter-some-iterator.ensures.into_iter_gives in
+    (omega arith, omega (arith, steps.1.1, c.loop-some.invariant.0, whole, c.chunks-some-items.ensures.size))
 
 pub returns : goal.returns
 returns c =

@@ -7,5 +7,5 @@ use Rattle.neighbours.proofs.scoring.score.Given as goal
 
 abbrev pub invariant-loop-some : goal.invariant-loop-some
 invariant-loop-some l =
-    (l.some-iterator.size ≡ 8)
+    (l.some-iterator.size ≡ l.initial.some-iterator.size)
     × (scored_at (far_from l.query (vectors_of l.vectors)) l.some-iterator.rest.now l.floats ≡ scored_at (far_from l.query (vectors_of l.vectors)) l.nodes l.fn.floats)
