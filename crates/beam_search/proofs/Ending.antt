@@ -10,21 +10,20 @@ use native.Mathlib.Omega.{arith}
 use native.Mathlib.Numerals.{add-one}
 use lib.Dec.{T, ltb}
 use borrow.Author.Tests.{lt-ltb, le-ltb, ltb-false}
-use lib.ListN.{length, get_or, take, drop, set, replicate, length-take, length-drop, length-map, length-append, length-replicate, length-reverse, get_or-replicate, get_or-append}
+use lib.ListN.{length, get_or, take, drop, set, replicate, length-drop, length-map, length-append, length-replicate, length-reverse, get_or-replicate, get_or-append}
 use lib.Seq.{length-take-le, take-suc, take-nil, take_at}
 use lib.Ieee.{Float, binary32, fits, inf}
 use Rattle.basics.specs.Choice.{pick, pick_true}
 use Rattle.basics.specs.Lists.{keep}
 use Rattle.basics.specs.Nodes.{has}
-use Rattle.basics.proofs.Loops.{front_set, front_length}
-use Rattle.basics.proofs.Members.{map_in, take_min}
+use Rattle.basics.proofs.Loops.{front_set}
+use Rattle.basics.proofs.Members.{map_in}
 use Rattle.basics.proofs.Tests.{both_false}
 use Rattle.basics.proofs.Counting.{at_most}
 use Rattle.basics.proofs.Keeping.{in_keep, keep_few}
-use Rattle.sorting.specs.Sorting.{sort_by}
-use Rattle.sorting.specs.Inside.Pairs.{both}
-use Rattle.sorting.proofs.Laws.{length_sort, first_in}
-use Rattle.sorting.proofs.Pairs.{none_kept}
+use Rattle.sorting.specs.declared.Keyed.{Keyed}
+use Rattle.sorting.specs.Sorting.{sort_by, first_by}
+use Rattle.sorting.proofs.Laws.{length_first, first_in}
 use Rattle.beam_state.specs.Inside.Tournament.{empty_rank, Tournament}
 use Rattle.def_walk.specs.Walk.{State, visit, expand}
 use Rattle.def_walk.specs.KeepClosest.{key_at, insert_in, held_of, cutoff_of}
@@ -34,11 +33,12 @@ use Rattle.beam_state.specs.Inside.Queues.{front_rank}
 use Rattle.beam_state.proofs.queues.Laws.{empty_queue}
 use Rattle.beam_state.proofs.queues.Holding.{none_held}
 use Rattle.neighbours.specs.Inside.Gathering.{fresh_end, Beginning}
-use Rattle.beam_state.specs.Inside.State.{part, frontier_at, held_at, keys_at, words_for, held_end, frontier_part, held_part, keys_part, Memory, AnswerHeld, Standing}
+use Rattle.beam_state.specs.Inside.State.{part, frontier_at, held_at, words_for, held_end, frontier_part, held_part, pair_of, Memory, AnswerHeld, Standing}
 use Rattle.beam_state.specs.declared.Walk.{Walk}
 use Rattle.beam_state.proofs.Parts.{lay, lay_length, part_here, part_before, take_before}
 use Rattle.beam_search.specs.declared.Sizes.{Sizes}
-use Rattle.beam_search.specs.Inside.Search.{within, Reads, far_of, live_of, scored_by, Searched}
+use Rattle.beam_search.specs.declared.Reads.{Reads}
+use Rattle.beam_search.specs.Inside.Search.{within, far_of, live_of, scored_by, Searched}
 use Rattle.beam_search.specs.Inside.Steps.{Between, TakingIn, walk_on, Prepared, Starting, PutDistances}
 use Rattle.beam_search.proofs.Taking.{gathered_in, same_mark}
 
@@ -46,19 +46,19 @@ use Rattle.beam_search.proofs.Taking.{gathered_in, same_mark}
 
 -- the words of scratch, the nodes or the words of bridges do not fit
 abbrev short : ℕ → ℕ → ℕ → Bool
-short words n bridges = (ltb (words / 11) n || ltb 1024 n) || ltb n (bridges / 2)
+short words n bridges = (ltb (words / 10) n || ltb 1024 n) || ltb n (bridges / 2)
 
 pub record Room (words n bridges : ℕ) : Type 0 where
-  pub scratch : n ≤ words / 11
+  pub scratch : n ≤ words / 10
   pub nodes : n ≤ 1024
   pub pairs : bridges / 2 ≤ n
 
 module _ (words n bridges : ℕ) where
   pub has_room : short words n bridges ≡ false → Room words n bridges
   has_room e =
-      let t2 = both_false (ltb (words / 11) n || ltb 1024 n) (ltb n (bridges / 2)) e in
-      let t1 = both_false (ltb (words / 11) n) (ltb 1024 n) t2.0 in record {
-        scratch = ltb-false (words / 11) n t1.0;
+      let t2 = both_false (ltb (words / 10) n || ltb 1024 n) (ltb n (bridges / 2)) e in
+      let t1 = both_false (ltb (words / 10) n) (ltb 1024 n) t2.0 in record {
+        scratch = ltb-false (words / 10) n t1.0;
         nodes = ltb-false 1024 n t1.1;
         pairs = ltb-false n (bridges / 2) t2.1;
       }
@@ -66,25 +66,19 @@ module _ (words n bridges : ℕ) where
   pub no_room : short words n bridges ≡ true → Room words n bridges → ⊥
   no_room e r =
       mathlib.Core.Bool.true≢false
-      (sym e ∙ ap₂ ◌||◌ (ap₂ ◌||◌ (le-ltb (words / 11) n r.scratch) (le-ltb 1024 n r.nodes)) (le-ltb n (bridges / 2) r.pairs))
+      (sym e ∙ ap₂ ◌||◌ (ap₂ ◌||◌ (le-ltb (words / 10) n r.scratch) (le-ltb 1024 n r.nodes)) (le-ltb n (bridges / 2) r.pairs))
 
 -- ---- the distances of the answer
 
-module _ (g : ℕ → Float) (nodes : List ℕ) (ds : List Float) where
+module _ (g : Keyed → Float) (answer : List Keyed) (ds : List Float) where
   abbrev pub put_so_far : ℕ → List Float
-  put_so_far i = map g (take i nodes) ++ drop i ds
+  put_so_far i = map g (take i answer) ++ drop i ds
 
-  images : (i : ℕ) → i ≤ length nodes → length (map g (take i nodes)) ≡ i
-  images i h = length-map (take i nodes) g ∙ length-take-le i nodes h
-
-  pub put_length : (i : ℕ) → i ≤ length nodes → i ≤ length ds → length (put_so_far i) ≡ length ds
-  put_length i h k = front_length ds (map g (take i nodes)) i (images i h) k
-
-  pub put_more : (i : ℕ) → i < length nodes → i < length ds → set (put_so_far i) i (g (get_or nodes i 0)) ≡ put_so_far (i + 1)
-  put_more i h k =
-      front_set ds (map g (take i nodes)) i (g (get_or nodes i 0)) (images i (omega arith)) k
+  pub put_more : (d : Keyed) (i : ℕ) → i < length answer → i < length ds → set (put_so_far i) i (g (get_or answer i d)) ≡ put_so_far (i + 1)
+  put_more d i h k =
+      front_set ds (map g (take i answer)) i (g (get_or answer i d)) (length-map (take i answer) g ∙ length-take-le i answer (omega arith)) k
       ∙ ap (λ (l : List Float). l ++ drop (i + 1) ds)
-      (sym (ap (λ (j : ℕ). map g (take j nodes)) (add-one i) ∙ ap (map g) (take-suc nodes i 0 h) ∙ map-append g (take i nodes) (get_or nodes i 0 ∷ [])))
+      (sym (ap (λ (j : ℕ). map g (take j answer)) (add-one i) ∙ ap (map g) (take-suc answer i d h) ∙ map-append g (take i answer) (get_or answer i d ∷ [])))
 
 -- ---- cleared
 
@@ -147,18 +141,17 @@ module _ (n b : ℕ) (words x y z : List ℕ) (long : words_for n ≤ length wor
 abbrev pub no_walk : Walk
 no_walk = record { scored = 0; held = 0; cutoff = inf false; kept = 0 }
 
-none_standing : (far : ℕ → Float) (live : ℕ → Bool) (n b : ℕ) (words : List ℕ) (floats : List Float) (nodes : List ℕ) → n ≤ 1024 → Prepared n b words
-    → Standing far live n b nodes (record { words = words; floats = floats; nodes = nodes; walk = no_walk }) [] []
+none_standing : (far : ℕ → Float) (live : ℕ → Bool) (n b : ℕ) (words : List ℕ) (floats : List Float) (answer : List Keyed) → n ≤ 1024 → Prepared n b words
+    → Standing far live n b answer (record { words = words; floats = floats; answer = answer; walk = no_walk }) [] []
 unfolding held_of cutoff_of sort_by keep
-none_standing far live n b words floats nodes few p = record {
+none_standing far live n b words floats answer few p = record {
   frontier = empty_queue (front_rank far) n (frontier_part n words) p.front;
   scored = record {
     held = none_held far (min b n) (held_part n b words) (omega arith) p.held;
     held_count = refl;
     cutoff_is = refl;
     answer = record {
-      pairs_are = none_kept (both (keys_part n words) nodes) (keys_part n words) nodes;
-      nodes_are = sym (ap (λ (l : List ℕ). l ++ nodes) (take-nil (both (keys_part n words) nodes)));
+      pairs_are = sym (ap (λ (l : List ℕ). map (pair_of far) l ++ answer) (take-nil (length answer)));
       kept_is = omega arith;
       long = refl;
     };
@@ -174,23 +167,23 @@ first_one : (far : ℕ → Float) (n e : ℕ) → e < n → expand (to_frontier 
 unfolding keep expand visit has pick to_frontier insert_in
 first_one far n e h = ap (λ (l : List ℕ). expand (to_frontier far) (record { seen = []; front = [] }) l) (pick_true (e ∷ []) [] (lt-ltb e n h))
 
-pub started : (sizes : Sizes) (far : ℕ → Float) (live : ℕ → Bool) (count : ℕ) (words between : List ℕ) (floats : List Float) (nodes : List ℕ) (m' : Memory) → ((v : ℕ) → T (fits binary32 (far v)))
-    → fresh_end sizes.n ≤ length words → Prepared sizes.n sizes.places words → Beginning sizes.n sizes.entry.0 words between count
-    → TakingIn sizes far live count (record { words = between; floats = floats; nodes = nodes; walk = no_walk }) m'
-    → take (frontier_at sizes.n) m'.words ≡ take (frontier_at sizes.n) between → Starting sizes far live floats nodes m'
+pub started : (sizes : Sizes) (far : ℕ → Float) (live : ℕ → Bool) (count : ℕ) (words between : List ℕ) (floats : List Float) (answer : List Keyed) (m' : Memory) → ((v : ℕ) → T (fits binary32 (far v)))
+    → fresh_end sizes.shape.n ≤ length words → Prepared sizes.shape.n sizes.places words → Beginning sizes.shape.n sizes.entry.0 words between count
+    → TakingIn sizes far live count (record { words = between; floats = floats; answer = answer; walk = no_walk }) m'
+    → take (frontier_at sizes.shape.n) m'.words ≡ take (frontier_at sizes.shape.n) between → Starting sizes far live floats answer m'
 unfolding has pick
-started sizes far live count words between floats nodes m' f32s long p begin taking frame h few room =
-    subst (λ (s : State). Between sizes far live nodes m' s.seen s.front) (first_one far sizes.n sizes.entry.0 h)
-    (gathered_in sizes far live count (sizes.entry.0 ∷ []) between (record { words = words; floats = floats; nodes = nodes; walk = no_walk }) m' nodes (record { seen = []; front = [] }) long (begin (omega arith) h) taking frame
-    p.marks (none_standing far live sizes.n sizes.places words floats nodes few p) (record { few = few; f32s = f32s; there = λ v i. absurd (in-nil i) }) room)
+started sizes far live count words between floats answer m' f32s long p begin taking frame h few room =
+    subst (λ (s : State). Between sizes far live answer m' s.seen s.front) (first_one far sizes.shape.n sizes.entry.0 h)
+    (gathered_in sizes far live count (sizes.entry.0 ∷ []) between (record { words = words; floats = floats; answer = answer; walk = no_walk }) m' answer (record { seen = []; front = [] }) long (begin h) taking frame
+    p.marks (none_standing far live sizes.shape.n sizes.places words floats answer few p) (record { few = few; f32s = f32s; there = λ v i. absurd (in-nil i) }) room)
 
 -- ---- ended
 
-module _ (sizes : Sizes) (reads : Reads) (nodes : List ℕ) (m : Memory) (front : List ℕ) (distances distances' : List Float) (count : ℕ)
-    (t : Between sizes (far_of sizes reads) (live_of reads) nodes m (walk_on sizes reads sizes.n (sizes.entry.0 ∷ []) (sizes.entry.0 ∷ [])) front) (long : words_for sizes.n ≤ length m.words) (few : sizes.n ≤ 1024)
-    (room : length nodes ≤ length distances) (put : PutDistances m.walk.kept m.nodes m.floats distances distances') (count_is : count ≡ min m.walk.kept 4294967295) where
+module _ (sizes : Sizes) (reads : Reads) (answer : List Keyed) (m : Memory) (front : List ℕ) (distances distances' : List Float) (count : ℕ)
+    (t : Between sizes (far_of sizes reads) (live_of reads) answer m (walk_on sizes reads sizes.shape.n (sizes.entry.0 ∷ []) (sizes.entry.0 ∷ [])) front) (few : sizes.shape.n ≤ 1024)
+    (room : length answer ≤ length distances) (put : PutDistances m.walk.kept m.answer m.floats distances distances') (count_is : m.walk.kept < 4294967296 → count ≡ m.walk.kept) where
   abbrev n : ℕ
-  n = sizes.n
+  n = sizes.shape.n
 
   abbrev far : ℕ → Float
   far = far_of sizes reads
@@ -205,60 +198,52 @@ module _ (sizes : Sizes) (reads : Reads) (nodes : List ℕ) (m : Memory) (front 
   abbrev scored : List ℕ
   scored = keep (live_of reads) seen
 
-  a : AnswerHeld far nodes (keys_part n m.words) m.nodes r.kept scored
+  a : AnswerHeld far answer m.answer r.kept scored
   a = t.standing.scored.answer
 
   scored_few : length scored ≤ n
   scored_few = omega (arith, keep_few (live_of reads) seen, at_most n seen t.standing.once t.standing.inside)
 
-  keys_length : length (keys_part n m.words) ≡ n
-  keys_length =
-      let s : words_for n - keys_at n ≡ n = omega arith in
-      length-take-le (words_for n - keys_at n) (drop (keys_at n) m.words) (omega (arith, length-drop (keys_at n) m.words)) ∙ s
-
-  abbrev sorted : List ℕ
-  sorted = sort_by (key_at far) (reverse scored)
-
-  sorted_length : length sorted ≡ length scored
-  sorted_length = length_sort (key_at far) (reverse scored) ∙ length-reverse scored
-
-  abbrev most : ℕ
-  most = both (keys_part n m.words) m.nodes
-
-  first_is : take most sorted ≡ answer_of far (length nodes) (reverse scored)
-  unfolding answer_of
-  first_is = ap₂ (λ (i : ℕ) (j : ℕ). take (min i j) sorted) keys_length a.long ∙ take_min n (length nodes) sorted (omega (arith, sorted_length, scored_few))
-
   abbrev found : List ℕ
-  found = answer_of far (length nodes) (reverse scored)
+  found = answer_of far (length answer) (reverse scored)
 
   found_length : length found ≡ r.kept
-  found_length = ap length (sym first_is) ∙ length-take most sorted ∙ ap (min most) sorted_length ∙ sym a.kept_is
+  unfolding answer_of
+  found_length =
+      length_first (key_at far) (length answer) (reverse scored) ∙ ap (min (length answer)) (length-reverse scored)
+      ∙ ap (λ (k : ℕ). min k (length scored)) (sym a.long) ∙ sym a.kept_is
 
-  kept_few : (r.kept ≤ n) × (r.kept ≤ length nodes)
+  kept_few : (r.kept ≤ n) × (r.kept ≤ length answer)
   kept_few = (omega (arith, a.kept_is, scored_few), omega (arith, a.kept_is, a.long))
 
-  nodes_is : m.nodes ≡ found ++ drop r.kept nodes
-  nodes_is = a.nodes_are ∙ ap (λ (l : List ℕ). l ++ drop r.kept nodes) first_is
+  answer_is : m.answer ≡ map (pair_of far) found ++ drop r.kept answer
+  unfolding answer_of
+  answer_is = a.pairs_are ∙ ap (λ (k : ℕ). map (pair_of far) (first_by (key_at far) k (reverse scored)) ++ drop r.kept answer) a.long
 
-  front_is : take r.kept m.nodes ≡ found
-  front_is = ap (take r.kept) nodes_is ∙ take_at found (drop r.kept nodes) r.kept found_length
+  front_is : take r.kept m.answer ≡ map (pair_of far) found
+  front_is = ap (take r.kept) answer_is ∙ take_at (map (pair_of far) found) (drop r.kept answer) r.kept (length-map found (pair_of far) ∙ found_length)
 
   found_in_lem : (x : ℕ) → In x found → In x seen
   unfolding answer_of
-  found_in_lem x i = (in_keep (live_of reads) seen (in_reverse scored (first_in (key_at far) (length nodes) (reverse scored) i))).1
+  found_in_lem x i = (in_keep (live_of reads) seen (in_reverse scored (first_in (key_at far) (length answer) (reverse scored) i))).1
 
-  pub searched : Searched far (answer_of far (length nodes) (scored_by sizes reads)) (scored_by sizes reads) nodes m.nodes distances distances'
+  -- the distance of an answer's node is read at the node
+  read : (l : List ℕ) → map (λ (p : Keyed). get_or m.floats p.id (inf false)) (map (pair_of far) l) ≡ map (λ v. get_or m.floats v (inf false)) l
+  read [] = refl
+  read (v ∷ l) = ap (λ (x : List Float). get_or m.floats v (inf false) ∷ x) (read l)
+
+  pub searched : Searched far (answer_of far (length answer) (scored_by sizes reads)) (scored_by sizes reads) answer m.answer distances distances'
       (record { count = count; scored = r.scored })
   unfolding beam_search walked
   searched = record {
-    count_is = omega (arith, kept_few.0, found_length);
+    count_is = count_is (omega (arith, kept_few.0)) ∙ sym found_length;
     scored_is = t.standing.scored.scored_is ∙ sym (length-reverse scored);
-    nodes_are = nodes_is ∙ ap (λ (k : ℕ). found ++ drop k nodes) (sym found_length);
+    answer_is = answer_is ∙ ap (λ (k : ℕ). map (pair_of far) found ++ drop k answer) (sym found_length);
     distances_are =
         put (omega (arith, kept_few.1, a.long)) (omega (arith, kept_few.1))
         ∙ ap₂ (λ (l : List Float) (k : ℕ). l ++ drop k distances)
-        (ap (map (λ v. get_or m.floats v (inf false))) front_is
+        (ap (map (λ (p : Keyed). get_or m.floats p.id (inf false))) front_is
+        ∙ read found
         ∙ map_in (λ v. get_or m.floats v (inf false)) far found (λ x i. t.known.there x (found_in_lem x i)))
         (sym found_length);
   }

@@ -61,4 +61,4 @@ module _ (n : ℕ) (bridges links₀ : List ℕ) where
     pub chaining_all : length bridges / 2 ≤ j → Linking n bridges links₀ links
     chaining_all h few room zero ends =
         let all : j ≡ length bridges / 2 = omega (arith, p.within) in
-        record { few = omega arith; chained = subst (λ (m : ℕ). Chained n (bridges_in m bridges) links) all (p.so_far few room zero ends) }
+        subst (λ (m : ℕ). Chained n (bridges_in m bridges) links) all (p.so_far few room zero ends)

@@ -25,23 +25,26 @@ use Rattle.neighbours.specs.Inside.Scoring.{scored_at}
 use Rattle.neighbours.proofs.scoring.Laws.{scored_known, scored_keeps}
 use Rattle.lists.specs.Inside.Words.{row_lists, bridge_list}
 use Rattle.neighbours.specs.Inside.Gathering.{Fresh, visit_one, gather_fresh, fresh_end, FreshIn, GatheringAll, Linked, GatheringList}
-use Rattle.beam_state.specs.Inside.State.{part, frontier_at, held_at, keys_at, words_for, held_end, live_by, Memory, Standing, PushingAll, pushed}
+use Rattle.beam_state.specs.Inside.State.{part, frontier_at, held_at, words_for, held_end, live_by, Memory, Standing, PushingAll, pushed}
 use Rattle.beam_state.specs.declared.Walk.{Walk}
 use Rattle.beam_state.proofs.Parts.{part_behind}
 use Rattle.beam_state.proofs.Moved.{scored_moved}
 use Rattle.beam_state.proofs.Pushed.{pushed_append}
 use Rattle.beam_search.specs.declared.Sizes.{Sizes}
-use Rattle.beam_search.specs.Inside.Search.{within, Reads, far_of, live_of, lists_of}
+use Rattle.sorting.specs.declared.Keyed.{Keyed}
+use denote.Ref.{Bor}
+use Rattle.beam_search.specs.declared.Reads.{Reads}
+use Rattle.beam_search.specs.Inside.Search.{within, far_of, live_of, lists_of}
 use Rattle.beam_search.specs.Inside.Steps.{Between, TakenIn, TakingIn}
 
 -- the same state in words that are the same behind marks and fresh nodes, whatever the floats
-standing_behind : {far : ℕ → Float} {live : ℕ → Bool} {n b : ℕ} {nodes₀ nodes : List ℕ} {w : Walk} {seen front : List ℕ} (words words' : List ℕ) (floats floats' : List Float)
+standing_behind : {far : ℕ → Float} {live : ℕ → Bool} {n b : ℕ} {answer₀ answer : List Keyed} {w : Walk} {seen front : List ℕ} (words words' : List ℕ) (floats floats' : List Float)
     → drop (fresh_end n) words' ≡ drop (fresh_end n) words
-    → Standing far live n b nodes₀ (record { words = words; floats = floats; nodes = nodes; walk = w }) seen front
-    → Standing far live n b nodes₀ (record { words = words'; floats = floats'; nodes = nodes; walk = w }) seen front
-standing_behind {far} {live} {n} {b} {nodes₀} {nodes} {w} {seen} {front} words words' floats floats' same t = record {
+    → Standing far live n b answer₀ (record { words = words; floats = floats; answer = answer; walk = w }) seen front
+    → Standing far live n b answer₀ (record { words = words'; floats = floats'; answer = answer; walk = w }) seen front
+standing_behind {far} {live} {n} {b} {answer₀} {answer} {w} {seen} {front} words words' floats floats' same t = record {
   frontier = subst (Queue (front_rank far) n front) (moved (frontier_at n) (held_at n) (omega arith)) t.frontier;
-  scored = scored_moved words words' floats floats' (moved (held_at n) (held_end n b) (omega arith)) (moved (keys_at n) (words_for n) (omega arith)) t.scored;
+  scored = scored_moved words words' floats floats' (moved (held_at n) (held_end n b) (omega arith)) t.scored;
   once = t.once;
   inside = t.inside;
   sub = t.sub;
@@ -61,12 +64,12 @@ pushed_in far (v ∷ vs) s x m = elim (pushed_in far vs (record { seen = v ∷ s
   | inr i ↦ inr (there i)
 ]
 
-pub taking_in : (sizes : Sizes) (far : ℕ → Float) (withdrawn : List ℕ) (count many : ℕ) (m m' : Memory) → many ≡ min count sizes.n
-    → words_for sizes.n ≤ length m.words → m'.floats ≡ scored_at far (take (sizes.n + many - sizes.n) (drop sizes.n m.words)) m.floats
+pub taking_in : (sizes : Sizes) (far : ℕ → Float) (withdrawn : List ℕ) (count many : ℕ) (m m' : Memory) → many ≡ min count sizes.shape.n
+    → words_for sizes.shape.n ≤ length m.words → m'.floats ≡ scored_at far (take (sizes.shape.n + many - sizes.shape.n) (drop sizes.shape.n m.words)) m.floats
     → length m'.floats ≡ length m.floats
-    → PushingAll sizes.n sizes.places many withdrawn (record { words = m.words; floats = m'.floats; nodes = m.nodes; walk = m.walk }) m' → TakingIn sizes far (live_by withdrawn) count m m'
-taking_in sizes far withdrawn count many m m' mi long score lf push nodes₀ fresh s fi ci cn d below room known t = record {
-  standing = push long far nodes₀ fresh s (fi ∙ ap (λ (k : ℕ). take k (drop sizes.n m.words)) (sym all)) (all ∙ ci) (omega arith) d below known'
+    → PushingAll sizes.shape.n sizes.places many withdrawn (record { words = m.words; floats = m'.floats; answer = m.answer; walk = m.walk }) m' → TakingIn sizes far (live_by withdrawn) count m m'
+taking_in sizes far withdrawn count many m m' mi long score lf push answer₀ fresh s fi ci cn d below room known t = record {
+  standing = push long far answer₀ fresh s (fi ∙ ap (λ (k : ℕ). take k (drop sizes.shape.n m.words)) (sym all)) (all ∙ ci) (omega arith) d below known'
       (standing_behind m.words m.words m.floats m'.floats refl t);
   known = known';
   room = omega arith;
@@ -75,13 +78,13 @@ taking_in sizes far withdrawn count many m m' mi long score lf push nodes₀ fre
     all : many ≡ count
     all = omega arith
 
-    ids : take (sizes.n + many - sizes.n) (drop sizes.n m.words) ≡ fresh
-    ids = let e : sizes.n + many - sizes.n ≡ count = omega (arith, all) in ap (λ (k : ℕ). take k (drop sizes.n m.words)) e ∙ sym fi
+    ids : take (sizes.shape.n + many - sizes.shape.n) (drop sizes.shape.n m.words) ≡ fresh
+    ids = let e : sizes.shape.n + many - sizes.shape.n ≡ count = omega (arith, all) in ap (λ (k : ℕ). take k (drop sizes.shape.n m.words)) e ∙ sym fi
 
     scored : m'.floats ≡ scored_at far fresh m.floats
     scored = score ∙ ap (λ (l : List ℕ). scored_at far l m.floats) ids
 
-    known' : Known far sizes.n (pushed far fresh s).seen m'.floats
+    known' : Known far sizes.shape.n (pushed far fresh s).seen m'.floats
     known' = record {
       few = known.few;
       f32s = known.f32s;
@@ -128,20 +131,20 @@ same_mark n v words words' h same =
 -- what is gathered is taken in: marks and all
 module _ (sizes : Sizes) (far : ℕ → Float) (live : ℕ → Bool) (count : ℕ) (list between : List ℕ) (m m' : Memory) where
   abbrev n : ℕ
-  n = sizes.n
+  n = sizes.shape.n
 
   -- the memory where the list has been gathered
   abbrev gathered : Memory
-  gathered = record { words = between; floats = m.floats; nodes = m.nodes; walk = m.walk }
+  gathered = record { words = between; floats = m.floats; answer = m.answer; walk = m.walk }
 
-  pub gathered_in : (nodes₀ : List ℕ) (s : State) → fresh_end n ≤ length m.words → GatheringAll n list m.words between count → TakingIn sizes far live count gathered m'
+  pub gathered_in : (answer₀ : List Keyed) (s : State) → fresh_end n ≤ length m.words → GatheringAll n list m.words between count → TakingIn sizes far live count gathered m'
       → take (frontier_at n) m'.words ≡ take (frontier_at n) between → ((v : ℕ) → v < n → get_or m.words v 0 ≡ pick (has v s.seen) 1 0)
-      → Standing far live n sizes.places nodes₀ m s.seen s.front → Known far n s.seen m.floats → n ≤ length m.floats
-      → Between sizes far live nodes₀ m' (expand (to_frontier far) s (within n list)).seen (expand (to_frontier far) s (within n list)).front
+      → Standing far live n sizes.places answer₀ m s.seen s.front → Known far n s.seen m.floats → n ≤ length m.floats
+      → Between sizes far live answer₀ m' (expand (to_frontier far) s (within n list)).seen (expand (to_frontier far) s (within n list)).front
   unfolding pushed
-  gathered_in nodes₀ s long gather taking frame marks t known room = record {
+  gathered_in answer₀ s long gather taking frame marks t known room = record {
     marks = λ v h. same_mark n v between m'.words h frame ∙ got.marks v h ∙ ap (λ (l : List ℕ). pick {X = ℕ} (has v l) 1 0) (sym like.seen_is);
-    standing = subst (λ (z : State). Standing far live n sizes.places nodes₀ m' z.seen z.front) like.made taken.standing;
+    standing = subst (λ (z : State). Standing far live n sizes.places answer₀ m' z.seen z.front) like.made taken.standing;
     known = subst (λ (z : State). Known far n z.seen m'.floats) like.made taken.known;
     room = taken.room;
   }
@@ -162,22 +165,22 @@ module _ (sizes : Sizes) (far : ℕ → Float) (live : ℕ → Bool) (count : �
       final : all.seen ≡ (pushed far all.fresh s).seen
       final = sym (ap (λ (z : State). z.seen) like.made ∙ like.seen_is)
 
-      taken : TakenIn sizes far live nodes₀ m' (pushed far all.fresh s)
-      taken = taking nodes₀ all.fresh s (sym got.buffer) got.count_is (omega (arith, at_most n all.seen got.once got.inside, got.fewer, got.count_is))
+      taken : TakenIn sizes far live answer₀ m' (pushed far all.fresh s)
+      taken = taking answer₀ all.fresh s (sym got.buffer) got.count_is (omega (arith, at_most n all.seen got.once got.inside, got.fewer, got.count_is))
           (subst NoDup final got.once) (subst (Below n) final got.inside) room known
           (standing_behind m.words between m.floats m.floats got.behind t)
 
 -- a node's list looked at, of linked bridges
 abbrev pub Expanding : Sizes → Reads → List ℕ → ℕ → Memory → Memory → Type 0
 Expanding sizes reads links u m m' =
-    Linked sizes.n reads.bridges links → u < sizes.n → (nodes₀ seen front : List ℕ) → Between sizes (far_of sizes reads) (live_of reads) nodes₀ m seen front
-    → Between sizes (far_of sizes reads) (live_of reads) nodes₀ m' (expand (to_frontier (far_of sizes reads)) (record { seen = seen; front = front }) (lists_of sizes reads u)).seen
+    Linked sizes.shape.n reads.bridges.now links → u < sizes.shape.n → (answer₀ : List Keyed) (seen front : List ℕ) → Between sizes (far_of sizes reads) (live_of reads) answer₀ m seen front
+    → Between sizes (far_of sizes reads) (live_of reads) answer₀ m' (expand (to_frontier (far_of sizes reads)) (record { seen = seen; front = front }) (lists_of sizes reads u)).seen
     (expand (to_frontier (far_of sizes reads)) (record { seen = seen; front = front }) (lists_of sizes reads u)).front
 
-pub expanding : (sizes : Sizes) (reads : Reads) (links : List ℕ) (u count : ℕ) (between : List ℕ) (m m' : Memory) → words_for sizes.n ≤ length m.words
-    → GatheringList sizes.n sizes.degree reads.rows reads.bridges links u m.words between count
+pub expanding : (sizes : Sizes) (reads : Reads) (links : Bor (List ℕ)) (u count : ℕ) (between : List ℕ) (m m' : Memory) → words_for sizes.shape.n ≤ length m.words
+    → GatheringList (record { shape = sizes.shape; rows = reads.rows; bridges = reads.bridges; links = links }) u m.words between count
     → TakingIn sizes (far_of sizes reads) (live_of reads) count (gathered sizes (far_of sizes reads) (live_of reads) count [] between m m') m'
-    → take (frontier_at sizes.n) m'.words ≡ take (frontier_at sizes.n) between → Expanding sizes reads links u m m'
-expanding sizes reads links u count between m m' long gather taking frame linked below nodes₀ seen front t =
-    gathered_in sizes (far_of sizes reads) (live_of reads) count (list_of (row_lists sizes.degree reads.rows) (bridge_list reads.bridges) u) between m m' nodes₀ (record { seen = seen; front = front })
+    → take (frontier_at sizes.shape.n) m'.words ≡ take (frontier_at sizes.shape.n) between → Expanding sizes reads links.now u m m'
+expanding sizes reads links u count between m m' long gather taking frame linked below answer₀ seen front t =
+    gathered_in sizes (far_of sizes reads) (live_of reads) count (list_of (row_lists sizes.shape.degree reads.rows.now) (bridge_list reads.bridges.now) u) between m m' answer₀ (record { seen = seen; front = front })
     (omega arith) (gather linked below) taking frame t.marks t.standing t.known t.room

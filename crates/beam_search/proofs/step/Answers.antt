@@ -1,40 +1,47 @@
--- `beam_search::step` meets its contract, by where it ends: an empty frontier, too far, or a node expanded. Assumes nothing.
-use Rattle.beam_search.specs.Inside.Search.{Reads}
+-- Where it ends: an empty frontier, too far, or a node expanded. Assumes nothing.
+use Rattle.std.proofs.Common.{◌≡◌, Bool, true, false, ◌||◌, ◌*◌, leb, ltb, sym, ◌∙◌}
 use Rattle.beam_state.specs.Inside.State.{Memory}
+use Rattle.beam_search.specs.Inside.Steps.{Stepping}
 use Rattle.beam_search.proofs.Taking.{expanding}
 use Rattle.beam_search.proofs.Walking.{popped_to, popped_long, step_empty, step_far, step_on}
 use Rattle.beam_search.proofs.step.Goals as goal
-use Rattle.beam_search.proofs.step.Goals.{Start}
-
-abbrev reads : Start → Reads
-reads s = let a = s.args in record { query = a.query.now; vectors = a.vectors.now; rows = a.rows.now; bridges = a.bridges.now; withdrawn = a.withdrawn.now }
+use Rattle.beam_search.proofs.step.Goals.{Start, After-ends_after}
 
 abbrev memory : Start → Memory
-memory s = let a = s.args in record { words = a.words.now; floats = a.floats.now; nodes = a.nodes.now; walk = a.walk }
+memory s = let a = s.args in record { words = a.words.now; floats = a.floats.now; answer = a.answer.now; walk = a.walk }
 
 pub returns-in_default : goal.returns-in_default
 returns-in_default c =
-    let pop = c.pop-popped in
-    step_empty c.args.sizes (reads (goal.at.returns-in_default c).Start) c.args.links.now (memory (goal.at.returns-in_default c).Start) pop.new.tree c.requires pop.auto.tree pop.result pop.ensures c.in_default.is
+    let a = c.args in
+    step_empty a.sizes a.reads a.links.now (memory (goal.at.returns-in_default c).Start) c.pop.new.tree c.requires c.pop.auto.tree c.pop.result c.pop.ensures c.in_default.is
 
 pub returns-then-too_far : goal.returns-then-too_far
 returns-then-too_far c =
-    let pop = c.pop-popped in
-    let far = c.too_far in
-    step_far c.args.sizes (reads (goal.at.returns-then-too_far c).Start) c.args.links.now (memory (goal.at.returns-then-too_far c).Start) pop.new.tree c.requires pop.auto.tree pop.result pop.ensures c.in-At.distance c.in-At.node c.in-At.is
-    far.result far.ensures c.if-too_far.true
+    let a = c.args in
+    step_far a.sizes a.reads a.links.now (memory (goal.at.returns-then-too_far c).Start) c.pop.new.tree c.requires c.pop.auto.tree c.pop.result c.pop.ensures
+    c.in-Some.distance c.in-Some.node c.in-Some.is c.too_far.result c.too_far.ensures c.if-too_far.true
+
+-- a node expanded
+module _ (c : After-ends_after) where
+  abbrev after : Memory
+  after = let take = c.take_in-next in record { words = take.new.words; floats = take.new.floats; answer = take.new.answer; walk = take.result }
+
+  expanded : (done : Bool) → done ≡ (ltb (c.args.sizes.stops.multiplier * c.args.sizes.places) c.take_in-next.result.scored || leb c.args.sizes.shape.n c.take_in-next.result.scored)
+      → Stepping c.args.sizes c.args.reads c.args.links.now (record { words = c.args.words.now; floats = c.args.floats.now; answer = c.args.answer.now; walk = c.args.walk }) after done
+  expanded done d =
+      let a = c.args in
+      let m : Memory = record { words = a.words.now; floats = a.floats.now; answer = a.answer.now; walk = a.walk } in
+      let gather = c.gather-count in
+      let take = c.take_in-next in
+      step_on a.sizes a.reads a.links.now m c.pop.new.tree c.requires c.pop.auto.tree c.pop.result c.pop.ensures c.in-Some.distance c.in-Some.node c.in-Some.is
+      c.too_far.result c.too_far.ensures after done c.if-too_far.false
+      (expanding a.sizes a.reads a.links c.in-Some.node.0 gather.result gather.new.words
+      (popped_to a.sizes a.reads a.links.now m c.pop.new.tree c.requires c.pop.auto.tree) after
+      (popped_long a.sizes a.reads a.links.now m c.pop.new.tree c.requires c.pop.auto.tree) gather.ensures take.ensures.pushed take.ensures.marks)
+      d
+
+pub returns-then-ends_after : goal.returns-then-ends_after
+returns-then-ends_after c = expanded (goal.at.returns-then-ends_after c).After-ends_after true (sym c.if-ends_after.true ∙ c.ends_after.ensures)
 
 pub returns : goal.returns
-returns c =
-    let a = c.args in
-    let pop = c.pop-popped in
-    let far = c.too_far in
-    let gather = c.gather-count in
-    let take = c.take_in-next in
-    let after : Memory = record { words = take.new.words; floats = take.new.floats; nodes = take.new.nodes; walk = take.result } in
-    step_on a.sizes (reads (goal.at.returns c).Start) a.links.now (memory (goal.at.returns c).Start) pop.new.tree c.requires pop.auto.tree pop.result pop.ensures c.in-At.distance c.in-At.node c.in-At.is
-    far.result far.ensures after c.ends_after-done.result c.if-too_far.false
-    (expanding a.sizes (reads (goal.at.returns c).Start) a.links.now c.in-At.node.0 gather.result gather.new.words
-    (popped_to a.sizes (reads (goal.at.returns c).Start) a.links.now (memory (goal.at.returns c).Start) pop.new.tree c.requires pop.auto.tree) after
-    (popped_long a.sizes (reads (goal.at.returns c).Start) a.links.now (memory (goal.at.returns c).Start) pop.new.tree c.requires pop.auto.tree) gather.ensures take.ensures.pushed take.ensures.marks)
-    c.ends_after-done.ensures
+returns c = expanded (goal.at.returns c).After-ends_after false (sym c.if-ends_after.false ∙ c.ends_after.ensures)

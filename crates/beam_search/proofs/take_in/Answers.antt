@@ -1,17 +1,16 @@
--- `beam_search::take_in` meets its contract: the fresh nodes are scored, then pushed. Assumes nothing.
-use Rattle.distance.specs.Vectors.{vectors_in}
+-- The fresh nodes are scored, then pushed. Assumes nothing.
+use Rattle.distance.specs.Vectors.{vectors_of}
 use Rattle.def_walk.specs.Beam.{far_from}
 use Rattle.beam_search.proofs.Taking.{taking_in}
 use Rattle.beam_search.proofs.take_in.Goals as goal
 
-pub returns : goal.returns
-returns c =
+pub returns-clause-pushed : goal.returns-clause-pushed
+returns-clause-pushed c =
     let a = c.args in
+    let r = a.reads in
     let push = c.push_all in
-    let score = c.score in record {
-      marks = push.ensures.marks;
-      pushed = taking_in a.sizes (far_from a.query.now (vectors_in a.sizes.dimension a.vectors.now)) a.withdrawn.now a.count c.lesser-many.result
-          (record { words = a.words.now; floats = a.floats.now; nodes = a.nodes.now; walk = a.walk })
-          (record { words = push.new.words; floats = score.new.floats; nodes = push.new.nodes; walk = push.result })
-          c.lesser-many.ensures c.requires score.ensures score.auto.floats push.ensures.pushed;
-    }
+    let score = c.score in
+    taking_in a.sizes (far_from r.query.now (vectors_of r.vectors)) r.withdrawn.now a.count c.min-many.result
+    (record { words = a.words.now; floats = a.floats.now; answer = a.answer.now; walk = a.walk })
+    (record { words = push.new.words; floats = score.new.floats; answer = push.new.answer; walk = push.result })
+    c.min-many.ensures c.requires score.ensures score.auto.floats push.ensures.pushed

@@ -1,4 +1,4 @@
--- `beam_search::too_far` meets its contract, which is what it computes. Assumes nothing.
+-- It is what it computes. Assumes nothing.
 use lib.Ieee.{lt, mul, of_bits}
 use borrow.Author.Rules.{rules}
 use Rattle.beam_search.proofs.too_far.Goals as goal

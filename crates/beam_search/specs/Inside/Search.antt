@@ -4,11 +4,13 @@ use Rattle.std.specs.Prelude.{◌≡◌, Bool, List, ◌++◌, map, ℕ, ◌*◌
 use Rattle.basics.specs.Lists.{keep}
 use Rattle.basics.specs.Graph.{list_of}
 use Rattle.lists.specs.Inside.Words.{row_lists, bridge_list}
-use Rattle.distance.specs.Vectors.{vectors_in}
+use Rattle.distance.specs.Vectors.{vectors_of}
 use Rattle.def_walk.specs.Beam.{Network, far_from, beam_search, answer_of}
-use Rattle.beam_state.specs.Inside.State.{live_by}
+use Rattle.beam_state.specs.Inside.State.{live_by, pair_of}
 use Rattle.beam_search.specs.declared.Sizes.{Sizes}
+use Rattle.beam_search.specs.declared.Reads.{Reads}
 use Rattle.beam_search.specs.declared.Walked.{Walked}
+use Rattle.sorting.specs.declared.Keyed.{Keyed}
 
 -- the entries below n
 abbrev pub within : ℕ → List ℕ → List ℕ
@@ -18,50 +20,42 @@ within n vs = keep (λ v. ltb v n) vs
 abbrev pub list_in_words : ℕ → ℕ → List ℕ → List ℕ → ℕ → List ℕ
 list_in_words n degree rows bridges u = within n (list_of (row_lists degree rows) (bridge_list bridges) u)
 
--- What a walk reads: a scaled query, the nodes' vectors, their rows as words hold them, the bridges, two words each, and which nodes are withdrawn.
-pub record Reads : Type 0 where
-  pub query : List Float
-  pub vectors : List Float
-  pub rows : List ℕ
-  pub bridges : List ℕ
-  pub withdrawn : List ℕ
-
 -- the distance of a node, the list of a node, which nodes are live, what is walked over, and the nodes that a walk scores
 abbrev pub far_of : Sizes → Reads → ℕ → Float
-far_of sizes reads = far_from reads.query (vectors_in sizes.dimension reads.vectors)
+far_of sizes reads = far_from reads.query.now (vectors_of reads.vectors)
 
 abbrev pub lists_of : Sizes → Reads → ℕ → List ℕ
-lists_of sizes reads = list_in_words sizes.n sizes.degree reads.rows reads.bridges
+lists_of sizes reads = list_in_words sizes.shape.n sizes.shape.degree reads.rows.now reads.bridges.now
 
 abbrev pub live_of : Reads → ℕ → Bool
-live_of reads = live_by reads.withdrawn
+live_of reads = live_by reads.withdrawn.now
 
 abbrev pub network_of : Sizes → Reads → Network
-network_of sizes reads = record { n = sizes.n; list = lists_of sizes reads; live = live_of reads; entry = sizes.entry.0 }
+network_of sizes reads = record { n = sizes.shape.n; list = lists_of sizes reads; live = live_of reads; entry = sizes.entry.0 }
 
 abbrev pub scored_by : Sizes → Reads → List ℕ
 scored_by sizes reads = beam_search sizes.stops (network_of sizes reads) (far_of sizes reads) sizes.places
 
 -- the sizes fit: bridges between nodes, at most one for each node, and enough words and floats of scratch
-pub record SearchFits (n entry : ℕ) (bridges nodes : List ℕ) (distances : List Float) (words floats : ℕ) : Type 0 where
+pub record SearchFits (n entry : ℕ) (bridges : List ℕ) (answer : List Keyed) (distances : List Float) (words floats : ℕ) : Type 0 where
   pub entry_below : entry < n
   pub few : n ≤ 1024
   pub bridges_few : length bridges ≤ 2 * n
   pub ends_below : (i : ℕ) → i < length bridges → get_or bridges i 0 < n
-  pub distances_room : length nodes ≤ length distances
+  pub distances_room : length answer ≤ length distances
   pub words_room : 64 * n ≤ words
   pub floats_room : 16 * n ≤ floats
 
 -- the answer found, of the nodes scored
-pub record Searched (far : ℕ → Float) (found scored nodes nodes' : List ℕ) (distances distances' : List Float) (r : Walked) : Type 0 where
+pub record Searched (far : ℕ → Float) (found scored : List ℕ) (answer answer' : List Keyed) (distances distances' : List Float) (r : Walked) : Type 0 where
   pub count_is : r.count ≡ length found
   pub scored_is : r.scored ≡ length scored
-  pub nodes_are : nodes' ≡ found ++ drop (length found) nodes
+  pub answer_is : answer' ≡ map (pair_of far) found ++ drop (length found) answer
   pub distances_are : distances' ≡ map far found ++ drop (length found) distances
 
 -- where the sizes fit, as many nodes are found as the output has room for
-abbrev pub Searching : Sizes → Reads → List ℕ → List ℕ → List Float → List Float → ℕ → ℕ → Walked → Type 0
-Searching sizes reads nodes nodes' distances distances' words floats r =
-    SearchFits sizes.n sizes.entry.0 reads.bridges nodes distances words floats
-    → Searched (far_of sizes reads) (answer_of (far_of sizes reads) (length nodes) (scored_by sizes reads)) (scored_by sizes reads)
-    nodes nodes' distances distances' r
+abbrev pub Searching : Sizes → Reads → List Keyed → List Keyed → List Float → List Float → ℕ → ℕ → Walked → Type 0
+Searching sizes reads answer answer' distances distances' words floats r =
+    SearchFits sizes.shape.n sizes.entry.0 reads.bridges.now answer distances words floats
+    → Searched (far_of sizes reads) (answer_of (far_of sizes reads) (length answer) (scored_by sizes reads)) (scored_by sizes reads)
+    answer answer' distances distances' r

@@ -9,8 +9,13 @@ use Rattle.def_walk.specs.Beam.{walk_from}
 use Rattle.beam_state.specs.Inside.Queues.{Known}
 use Rattle.neighbours.specs.Inside.Gathering.{Linked}
 use Rattle.beam_state.specs.Inside.State.{Memory, frontier_part, held_part, Standing, pushed}
+use Rattle.std.specs.declared.ops.ControlFlow.{ControlFlow}
+use Rattle.std.specs.declared.ops.ControlFlow.TheVariants.{Continue, Break}
+use Rattle.sorting.specs.declared.Keyed.{Keyed}
+use Rattle.beam_state.specs.declared.Walk.{Walk}
 use Rattle.beam_search.specs.declared.Sizes.{Sizes}
-use Rattle.beam_search.specs.Inside.Search.{Reads, far_of, live_of, network_of}
+use Rattle.beam_search.specs.declared.Reads.{Reads}
+use Rattle.beam_search.specs.Inside.Search.{far_of, live_of, network_of}
 
 -- bridges between nodes linked, where no node had a link
 abbrev pub Linking : ℕ → List ℕ → List ℕ → List ℕ → Type 0
@@ -22,70 +27,79 @@ Linking n bridges links links' =
     → Linked n bridges links'
 
 -- a walk between two expansions
-pub record Between (sizes : Sizes) (far : ℕ → Float) (live : ℕ → Bool) (nodes₀ : List ℕ) (m : Memory) (seen front : List ℕ) : Type 0 where
-  pub marks : (v : ℕ) → v < sizes.n → get_or m.words v 0 ≡ pick (has v seen) 1 0
-  pub standing : Standing far live sizes.n sizes.places nodes₀ m seen front
-  pub known : Known far sizes.n seen m.floats
-  pub room : sizes.n ≤ length m.floats
+pub record Between (sizes : Sizes) (far : ℕ → Float) (live : ℕ → Bool) (answer₀ : List Keyed) (m : Memory) (seen front : List ℕ) : Type 0 where
+  pub marks : (v : ℕ) → v < sizes.shape.n → get_or m.words v 0 ≡ pick (has v seen) 1 0
+  pub standing : Standing far live sizes.shape.n sizes.places answer₀ m seen front
+  pub known : Known far sizes.shape.n seen m.floats
+  pub room : sizes.shape.n ≤ length m.floats
 
 -- fresh nodes with their distances, pushed
-pub record TakenIn (sizes : Sizes) (far : ℕ → Float) (live : ℕ → Bool) (nodes₀ : List ℕ) (m : Memory) (s : State) : Type 0 where
-  pub standing : Standing far live sizes.n sizes.places nodes₀ m s.seen s.front
-  pub known : Known far sizes.n s.seen m.floats
-  pub room : sizes.n ≤ length m.floats
+pub record TakenIn (sizes : Sizes) (far : ℕ → Float) (live : ℕ → Bool) (answer₀ : List Keyed) (m : Memory) (s : State) : Type 0 where
+  pub standing : Standing far live sizes.shape.n sizes.places answer₀ m s.seen s.front
+  pub known : Known far sizes.shape.n s.seen m.floats
+  pub room : sizes.shape.n ≤ length m.floats
 
 abbrev pub TakingIn : Sizes → (ℕ → Float) → (ℕ → Bool) → ℕ → Memory → Memory → Type 0
 TakingIn sizes far live count m m' =
-    (nodes₀ fresh : List ℕ) (s : State)
-    → fresh ≡ take count (drop sizes.n m.words)
+    (answer₀ : List Keyed) (fresh : List ℕ) (s : State)
+    → fresh ≡ take count (drop sizes.shape.n m.words)
     → count ≡ length fresh
-    → count ≤ sizes.n
+    → count ≤ sizes.shape.n
     → NoDup (pushed far fresh s).seen
-    → Below sizes.n (pushed far fresh s).seen
-    → sizes.n ≤ length m.floats
-    → Known far sizes.n s.seen m.floats
-    → Standing far live sizes.n sizes.places nodes₀ m s.seen s.front
-    → TakenIn sizes far live nodes₀ m' (pushed far fresh s)
+    → Below sizes.shape.n (pushed far fresh s).seen
+    → sizes.shape.n ≤ length m.floats
+    → Known far sizes.shape.n s.seen m.floats
+    → Standing far live sizes.shape.n sizes.places answer₀ m s.seen s.front
+    → TakenIn sizes far live answer₀ m' (pushed far fresh s)
 
 -- the walk of the definition from where it stands, by at most `more` steps
 abbrev pub walk_on : Sizes → Reads → ℕ → List ℕ → List ℕ → List ℕ
 walk_on sizes reads more seen front =
     walk_from sizes.stops (network_of sizes reads) (far_of sizes reads) sizes.places more seen front
 
+-- what a step answers: the walk as it leaves it, and whether that is its end
+abbrev pub walk_of : ControlFlow Walk Walk → Walk
+walk_of (Break w) = w
+walk_of (Continue w) = w
+
+abbrev pub is_done : ControlFlow Walk Walk → Bool
+is_done (Break w) = true
+is_done (Continue w) = false
+
 -- one step: the walk ends there, or goes on from there
-pub record Stepped (sizes : Sizes) (reads : Reads) (nodes₀ : List ℕ) (m : Memory) (done : Bool) (seen front : List ℕ) : Type 0 where
+pub record Stepped (sizes : Sizes) (reads : Reads) (answer₀ : List Keyed) (m : Memory) (done : Bool) (seen front : List ℕ) : Type 0 where
   pub seen' : List ℕ
   pub front' : List ℕ
-  pub stands : Between sizes (far_of sizes reads) (live_of reads) nodes₀ m seen' front'
+  pub stands : Between sizes (far_of sizes reads) (live_of reads) answer₀ m seen' front'
   pub ends : done ≡ true → (more : ℕ) → walk_on sizes reads (suc more) seen front ≡ seen'
   pub goes : done ≡ false → (more : ℕ) → walk_on sizes reads (suc more) seen front ≡ walk_on sizes reads more seen' front'
 
 abbrev pub Stepping : Sizes → Reads → List ℕ → Memory → Memory → Bool → Type 0
 Stepping sizes reads links m m' done =
-    Linked sizes.n reads.bridges links
-    → (nodes₀ seen front : List ℕ)
-    → Between sizes (far_of sizes reads) (live_of reads) nodes₀ m seen front
-    → Stepped sizes reads nodes₀ m' done seen front
+    Linked sizes.shape.n reads.bridges.now links
+    → (answer₀ : List Keyed) (seen front : List ℕ)
+    → Between sizes (far_of sizes reads) (live_of reads) answer₀ m seen front
+    → Stepped sizes reads answer₀ m' done seen front
 
 -- all steps
-pub record Rested (sizes : Sizes) (far : ℕ → Float) (live : ℕ → Bool) (nodes₀ : List ℕ) (m : Memory) (seen : List ℕ) : Type 0 where
+pub record Rested (sizes : Sizes) (far : ℕ → Float) (live : ℕ → Bool) (answer₀ : List Keyed) (m : Memory) (seen : List ℕ) : Type 0 where
   pub front : List ℕ
-  pub stands : Between sizes far live nodes₀ m seen front
+  pub stands : Between sizes far live answer₀ m seen front
 
 abbrev pub Walking : Sizes → Reads → List ℕ → Memory → Memory → Type 0
 Walking sizes reads links m m' =
-    Linked sizes.n reads.bridges links
-    → (nodes₀ seen front : List ℕ)
-    → Between sizes (far_of sizes reads) (live_of reads) nodes₀ m seen front
-    → Rested sizes (far_of sizes reads) (live_of reads) nodes₀ m' (walk_on sizes reads sizes.n seen front)
+    Linked sizes.shape.n reads.bridges.now links
+    → (answer₀ : List Keyed) (seen front : List ℕ)
+    → Between sizes (far_of sizes reads) (live_of reads) answer₀ m seen front
+    → Rested sizes (far_of sizes reads) (live_of reads) answer₀ m' (walk_on sizes reads sizes.shape.n seen front)
 
 -- the same of bridges between nodes, which the function links itself
 abbrev pub WalkingLinked : Sizes → Reads → Memory → Memory → Type 0
 WalkingLinked sizes reads m m' =
-    ((i : ℕ) → i < length reads.bridges → get_or reads.bridges i 0 < sizes.n)
-    → (nodes₀ seen front : List ℕ)
-    → Between sizes (far_of sizes reads) (live_of reads) nodes₀ m seen front
-    → Rested sizes (far_of sizes reads) (live_of reads) nodes₀ m' (walk_on sizes reads sizes.n seen front)
+    ((i : ℕ) → i < length reads.bridges.now → get_or reads.bridges.now i 0 < sizes.shape.n)
+    → (answer₀ : List Keyed) (seen front : List ℕ)
+    → Between sizes (far_of sizes reads) (live_of reads) answer₀ m seen front
+    → Rested sizes (far_of sizes reads) (live_of reads) answer₀ m' (walk_on sizes reads sizes.shape.n seen front)
 
 -- nothing is marked, in the frontier or held
 pub record Prepared (n b : ℕ) (words : List ℕ) : Type 0 where
@@ -94,16 +108,16 @@ pub record Prepared (n b : ℕ) (words : List ℕ) : Type 0 where
   pub held : Tournament (replicate (min b n) empty_rank) (held_part n b words)
 
 -- the entry node is seen
-abbrev pub Starting : Sizes → (ℕ → Float) → (ℕ → Bool) → List Float → List ℕ → Memory → Type 0
-Starting sizes far live floats nodes m' =
-    sizes.entry.0 < sizes.n
-    → sizes.n ≤ 1024
-    → sizes.n ≤ length floats
-    → Between sizes far live nodes m' (sizes.entry.0 ∷ []) (sizes.entry.0 ∷ [])
+abbrev pub Starting : Sizes → (ℕ → Float) → (ℕ → Bool) → List Float → List Keyed → Memory → Type 0
+Starting sizes far live floats answer m' =
+    sizes.entry.0 < sizes.shape.n
+    → sizes.shape.n ≤ 1024
+    → sizes.shape.n ≤ length floats
+    → Between sizes far live answer m' (sizes.entry.0 ∷ []) (sizes.entry.0 ∷ [])
 
--- the distances of the first `count` nodes
-abbrev pub PutDistances : ℕ → List ℕ → List Float → List Float → List Float → Type 0
-PutDistances count nodes floats distances distances' =
-    count ≤ length nodes
+-- the distances of the first `count` nodes of an answer
+abbrev pub PutDistances : ℕ → List Keyed → List Float → List Float → List Float → Type 0
+PutDistances count answer floats distances distances' =
+    count ≤ length answer
     → count ≤ length distances
-    → distances' ≡ map (λ v. get_or floats v (inf false)) (take count nodes) ++ drop count distances
+    → distances' ≡ map (λ (p : Keyed). get_or floats p.id (inf false)) (take count answer) ++ drop count distances
