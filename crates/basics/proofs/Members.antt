@@ -39,6 +39,11 @@ nodup_take (suc k) [] d = tt
 nodup_take (suc k) (x ∷ l) d = ((λ m. d.0 (in_take k l m)), nodup_take k l d.1)
 
 -- two functions that agree on the elements of a list
+-- an image of an image
+pub map_map : {A B C : Type 0} (f : A → B) (g : B → C) (l : List A) → map g (map f l) ≡ map (λ x. g (f x)) l
+map_map f g [] = refl
+map_map {C = C} f g (x ∷ l) = ap (λ (m : List C). g (f x) ∷ m) (map_map f g l)
+
 pub map_in : {A B : Type 0} (g h : A → B) (l : List A) → ((x : A) → In x l → g x ≡ h x) → map g l ≡ map h l
 map_in g h [] e = refl
 map_in g h (x ∷ l) e = λ i. e x (here refl) i ∷ map_in g h l (λ y m. e y (there m)) i

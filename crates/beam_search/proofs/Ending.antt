@@ -70,16 +70,6 @@ module _ (words n bridges : ℕ) where
 
 -- ---- the distances of the answer
 
-module _ (g : Keyed → Float) (answer : List Keyed) (ds : List Float) where
-  abbrev pub put_so_far : ℕ → List Float
-  put_so_far i = map g (take i answer) ++ drop i ds
-
-  pub put_more : (d : Keyed) (i : ℕ) → i < length answer → i < length ds → set (put_so_far i) i (g (get_or answer i d)) ≡ put_so_far (i + 1)
-  put_more d i h k =
-      front_set ds (map g (take i answer)) i (g (get_or answer i d)) (length-map (take i answer) g ∙ length-take-le i answer (omega arith)) k
-      ∙ ap (λ (l : List Float). l ++ drop (i + 1) ds)
-      (sym (ap (λ (j : ℕ). map g (take j answer)) (add-one i) ∙ ap (map g) (take-suc answer i d h) ∙ map-append g (take i answer) (get_or answer i d ∷ [])))
-
 -- ---- cleared
 
 module _ (n b : ℕ) (words x y z : List ℕ) (long : words_for n ≤ length words) (xi : x ≡ replicate (length (take n words)) 0) where

@@ -15,10 +15,9 @@ use Rattle.basics.specs.Lists.{every}
 use Rattle.basics.specs.Refusals.{first_refusal}
 use Rattle.basics.proofs.Refusals.{passes, both_none}
 use Rattle.basics.proofs.Tests.{both_false}
-use Rattle.store.specs.declared.Lent.TheVariants.{Scratch}
 use Rattle.store.specs.Layout.{word, built_state, state_at, dimension_at, nodes_at}
 use Rattle.store.specs.View.{view}
-use Rattle.store.specs.Opening.{opening}
+use Rattle.store.specs.Opening.{scratch, opening}
 use Rattle.store.proofs.Opened.{Opened, opened, opening_numbered}
 use Rattle.def_walk.specs.Beam.{usual}
 use Rattle.def_calls.specs.Build.{own_build_checks, build_checks}
@@ -32,20 +31,20 @@ replied refusal reply docs distances =
 
 module _ (ws fs : ℕ) (w : List ℕ) (f : List Float) where
   pub record BuildTaken : Type 0 where
-    pub stores : Opened (Scratch ws fs) w f
+    pub stores : Opened (scratch ws fs) w f
     pub some : 0 < word w nodes_at
 
   pub build_taken : first_refusal (build_checks ws fs w f) ≡ 0 → BuildTaken
   unfolding build_checks own_build_checks
   build_taken e =
-      let lists = both_none (opening (Scratch ws fs) w f) (own_build_checks w) (opening_numbered (Scratch ws fs) w f) e in
+      let lists = both_none (opening (scratch ws fs) w f) (own_build_checks w) (opening_numbered (scratch ws fs) w f) e in
       let t = passes (own_build_checks w) (omega arith) lists.1 in
       let none : word w nodes_at ≡ 0 → ⊥ = eqb-false _ _ t.0 in
-      record { stores = opened (Scratch ws fs) w f lists.0; some = omega (arith, none) }
+      record { stores = opened (scratch ws fs) w f lists.0; some = omega (arith, none) }
 
   module _ (query : List Float) (k ef : ℕ) (docs : List ℕ) (distances : List Float) where
     pub record SearchTaken : Type 0 where
-      pub stores : Opened (Scratch ws fs) w f
+      pub stores : Opened (scratch ws fs) w f
       pub built : word w state_at ≡ built_state
       pub components : length query ≡ word w dimension_at
       pub numbers : every finite query ≡ true
@@ -57,12 +56,12 @@ module _ (ws fs : ℕ) (w : List ℕ) (f : List Float) where
     pub search_taken : first_refusal (search_checks w query k ef docs distances ws fs f) ≡ 0 → SearchTaken
     unfolding search_checks own_search_checks
     search_taken e =
-        let lists = both_none (opening (Scratch ws fs) w f) (own_search_checks w query k ef docs distances) (opening_numbered (Scratch ws fs) w f) e in
+        let lists = both_none (opening (scratch ws fs) w f) (own_search_checks w query k ef docs distances) (opening_numbered (scratch ws fs) w f) e in
         let t = passes (own_search_checks w query k ef docs distances) (omega arith) lists.1 in
         let limits = both_false _ _ t.1.1.1.0 in
         let outputs = both_false _ _ t.1.1.1.1.0 in
         record {
-          stores = opened (Scratch ws fs) w f lists.0;
+          stores = opened (scratch ws fs) w f lists.0;
           built = eqb-true _ _ (not-false _ t.0);
           components = eqb-true _ _ (not-false _ t.1.0);
           numbers = not-false _ t.1.1.0;

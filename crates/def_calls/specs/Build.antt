@@ -5,10 +5,9 @@ use Rattle.std.specs.Prelude.{ℕ, ◌+◌, eqb, length, take, drop, set, Float}
 use Rattle.basics.specs.Choice.{pick}
 use Rattle.basics.specs.Refusals.{Check, check, first_refusal}
 use Rattle.error.specs.Numbers.{empty_index}
-use Rattle.store.specs.declared.Lent.TheVariants.{Scratch}
 use Rattle.store.specs.Layout.{word, built_state, state_at, nodes_at, degree_at, entry_at, bridge_count_at, capacity_at, rows_at, bridges_at}
 use Rattle.store.specs.View.{row_block, bridge_block, view}
-use Rattle.store.specs.Opening.{opening}
+use Rattle.store.specs.Opening.{scratch, opening}
 use Rattle.pipnn.specs.Answer.{Answer, unless_refused}
 use Rattle.def_calls.specs.Graph.{Graph, graph_of, graph_for}
 
@@ -20,7 +19,7 @@ own_build_checks w = check (eqb (word w nodes_at) 0) empty_index ∷ []
 -- scratch of ws words and fs floats is passed in
 unfoldable pub build_checks : (ws fs : ℕ) → List ℕ → List Float → List Check
 unfolding opening own_build_checks
-build_checks ws fs w f = opening (Scratch ws fs) w f ++ own_build_checks w
+build_checks ws fs w f = opening (scratch ws fs) w f ++ own_build_checks w
 
 -- ---- what it writes
 

@@ -10,10 +10,9 @@ use Rattle.basics.specs.Graph.{list_of}
 use Rattle.basics.specs.Refusals.{Check, check, first_refusal}
 use Rattle.error.specs.Numbers.{dimension_mismatch, non_finite_input, not_built, k_or_ef_too_large, output_too_short}
 use Rattle.norm.specs.Norm.{scaled_of}
-use Rattle.store.specs.declared.Lent.TheVariants.{Scratch}
 use Rattle.store.specs.Layout.{word, built_state, state_at, dimension_at, nodes_at, ef_search_at}
 use Rattle.store.specs.View.{View, view, list_in}
-use Rattle.store.specs.Opening.{opening}
+use Rattle.store.specs.Opening.{scratch, opening}
 use Rattle.def_walk.specs.declared.Stops.{Stops}
 use Rattle.def_walk.specs.Beam.{Network, usual, far_from, places_for, beam_search, answer_of}
 
@@ -46,7 +45,7 @@ module _ (w : List ℕ) (query : List Float) (k ef : ℕ) (docs : List ℕ) (dis
   -- scratch of ws words and fs floats is passed in
   unfoldable pub search_checks : (ws fs : ℕ) → List Float → List Check
   unfolding opening own_search_checks
-  search_checks ws fs f = opening (Scratch ws fs) w f ++ own_search_checks
+  search_checks ws fs f = opening (scratch ws fs) w f ++ own_search_checks
 
 -- ---- what it finds
 

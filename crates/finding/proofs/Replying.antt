@@ -14,11 +14,11 @@ use borrow.Author.Tests.{ltb-false, leb-true, le-leb}
 use Rattle.basics.specs.Graph.{list_of}
 use Rattle.basics.specs.Nodes.{Below}
 use Rattle.basics.proofs.Keeping.{keep_every}
-use Rattle.basics.proofs.Members.{in_take, map_in}
+use Rattle.basics.proofs.Members.{in_take, map_in, map_map}
 use Rattle.basics.proofs.Tests.{both_true, both_false}
 use Rattle.sorting.specs.Sorting.{sort_by}
 use Rattle.sorting.proofs.Laws.{in_sort}
-use Rattle.store.specs.declared.Lent.TheVariants.{Scratch}
+use Rattle.store.specs.Opening.{scratch}
 use Rattle.store.specs.Layout.{word, dimension_at, nodes_at, degree_at, entry_at, bridge_count_at, capacity_at, row_size, bridge_size, scratch_words, scratch_floats}
 use Rattle.store.specs.View.{view, list_in}
 use Rattle.store.proofs.Header.{Built}
@@ -30,16 +30,28 @@ use Rattle.def_walk.specs.declared.Stops.{Stops}
 use Rattle.def_walk.specs.KeepClosest.{key_at}
 use Rattle.def_walk.specs.Beam.{far_from, places_for, beam_search, answer_of}
 use Rattle.def_walk.proofs.beam.Laws.{alive_few, scored_nodes, scored_few, answer_few}
-use Rattle.beam_state.specs.Inside.State.{live_by}
+use Rattle.sorting.specs.declared.Keyed.{Keyed}
+use Rattle.beam_state.specs.Inside.State.{live_by, pair_of}
 use Rattle.beam_search.specs.declared.Sizes.{Sizes}
 use Rattle.beam_search.specs.declared.Walked.{Walked}
-use Rattle.beam_search.specs.Inside.Search.{within, list_in_words, Reads, far_of, SearchFits, Searched, Searching}
+use Rattle.beam_search.specs.Inside.Search.{within, list_in_words, SearchFits, Searched}
 use Rattle.def_calls.specs.Search.{far_in, network_in, scored_in, found_in, reply_of}
-use Rattle.finding.specs.Inside.Docs.{doc_at}
+use Rattle.finding.specs.Inside.Docs.{doc_at, doc_of}
 use Rattle.finding.specs.declared.Parts.{Parts}
 use Rattle.finding.specs.Inside.Finding.{Checked, PartsIn, lies_in, nodes_by, nodes_found, nodes_with, docs_with}
 use Rattle.finding.proofs.Answer.{answer_room}
 use Rattle.finding.proofs.Inside.{lists_inside, bridge_words_lem, bridge_nodes}
+
+-- ---- what a walk leaves, by what is read of its slices
+
+-- a walk over rows and bridges in words, all nodes live
+abbrev pub Ran : Sizes → (query components : List Float) (dimension : ℕ) (rows bridges : List ℕ) (answer answer' : List Keyed) (distances distances' : List Float) (ws fs : ℕ) → Walked → Type 0
+Ran sizes query components dimension rows bridges answer answer' distances distances' ws fs r =
+    let far : ℕ → Float = far_from query (vectors_in dimension components) in
+    let list : ℕ → List ℕ = list_in_words sizes.shape.n sizes.shape.degree rows bridges in
+    let scored : List ℕ = beam_search sizes.stops (record { n = sizes.shape.n; list = list; live = live_by []; entry = sizes.entry.0 }) far sizes.places in
+    SearchFits sizes.shape.n sizes.entry.0 bridges answer distances ws fs
+    → Searched far (answer_of far (length answer) scored) scored answer answer' distances distances' r
 
 -- ---- lists
 
@@ -90,12 +102,12 @@ lie_parts p words floats nodes distances t i =
     && le-leb _ _ t.nodes_room i
     && le-leb _ _ t.distances_room i
 
-module _ (ws fs : ℕ) (w : List ℕ) (f query : List Float) (k : ℕ) (out : List ℕ) (distances : List Float) (checked : Checked ws fs w f query k out distances) where
+module _ (ws fs : ℕ) (w : List ℕ) (f query : List Float) (k : ℕ) (out distances : ℕ) (checked : Checked ws fs w f query k out distances) where
   abbrev n : ℕ
   n = word w nodes_at
 
-  pub stores : Opened (Scratch ws fs) w f
-  stores = opened (Scratch ws fs) w f checked.opens
+  pub stores : Opened (scratch ws fs) w f
+  stores = opened (scratch ws fs) w f checked.opens
 
   pub few : n ≤ 1024
   few = omega (arith, stores.header.nodes, stores.header.capacity.most)
@@ -104,21 +116,21 @@ module _ (ws fs : ℕ) (w : List ℕ) (f query : List Float) (k : ℕ) (out : Li
   query_short = omega (arith, checked.components, stores.header.dimension.most)
 
   -- an array of 1,024 nodes has room for any answer
-  pub checked_into : (nodes : List ℕ) → length nodes ≡ 1024 → Checked ws fs w f query k nodes distances
-  checked_into nodes e = record {
+  pub checked_into : Checked ws fs w f query k 1024 distances
+  checked_into = record {
     opens = checked.opens;
     built = checked.built;
     components = checked.components;
-    out_room = omega (arith, few, e);
+    out_room = omega (arith, few);
     distances_room = checked.distances_room;
   }
 
   built : Built w
   built = ⊎_elim (λ o. absurd (omega (arith, o.state, checked.built))) (λ b. b) stores.header.state
 
-  pub lies : (p : Parts) → PartsIn w k p → lies_in p (length w) (length f) (length out) (length distances) ≡ true
+  pub lies : (p : Parts) → PartsIn w k p → lies_in p (length w) (length f) out distances ≡ true
   lies p at =
-      lie_parts p (length w) (length f) (length out) (length distances)
+      lie_parts p (length w) (length f) out distances
       record {
         rows_start = omega (arith, at.rows_from, at.rows_to);
         rows_end = omega (arith, at.rows_to, stores.room.rows);
@@ -171,15 +183,6 @@ module _ (ws fs : ℕ) (w : List ℕ) (f query : List Float) (k : ℕ) (out : Li
   far_same : far_from query (vectors_in (word w dimension_at) (vector_part w f stores.room)) ≡ far_off
   far_same = ap (far_from query) (vectors_part w f stores.room stores.header.dimension.least)
 
-  abbrev reads : Reads
-  reads = record {
-    query = query;
-    vectors = vector_part w f stores.room;
-    rows = row_part w f stores.room;
-    bridges = bridge_part w f stores.room;
-    withdrawn = [];
-  }
-
   -- what scratch has room for
   rooms : (64 * n ≤ ws) × (16 * n ≤ fs)
   rooms =
@@ -192,15 +195,13 @@ module _ (ws fs : ℕ) (w : List ℕ) (f query : List Float) (k : ℕ) (out : Li
     -- the numbers that the walk is given
     abbrev sizes : Sizes
     sizes = record {
-      n = n;
-      degree = word w degree_at;
-      dimension = word w dimension_at;
+      shape = record { n = n; degree = word w degree_at };
       entry = record { 0 = word w entry_at };
       places = places;
       stops = stops;
     }
 
-    module _ (nodes nodes' : List ℕ) (far-off far-off' : List Float) (r : Walked) (nodes-many : length nodes ≡ min k n) (distances-many : length far-off ≡ min k n) where
+    module _ (nodes nodes' : List Keyed) (far-off far-off' : List Float) (r : Walked) (nodes-many : length nodes ≡ min k n) (distances-many : length far-off ≡ min k n) where
       fits : SearchFits n (word w entry_at) (bridge_part w f stores.room) nodes far-off ws fs
       fits = record {
         entry_below = built.entry;
@@ -218,11 +219,12 @@ module _ (ws fs : ℕ) (w : List ℕ) (f query : List Float) (k : ℕ) (out : Li
           let scored : List ℕ = beam_search stops (record { n = n; list = list; live = live_by []; entry = word w entry_at }) at places in
           Searched at (answer_of at room scored) scored nodes nodes' far-off far-off' r
 
-      searched : Searching sizes reads nodes nodes' far-off far-off' ws fs r
+      searched : Ran sizes query (vector_part w f stores.room) (word w dimension_at) (row_part w f stores.room) (bridge_part w f stores.room) nodes nodes' far-off far-off' ws fs r
           → Searched far_off (found stops far_off places) (scored stops far_off places) nodes nodes' far-off far-off' r
       unfolding view
       searched walk =
-          let listed : Left (list_in (view w f)) (far_of sizes reads) (length nodes) = subst (λ (l : ℕ → List ℕ). Left l (far_of sizes reads) (length nodes)) lists_same (walk fits) in
+          let far : ℕ → Float = far_from query (vectors_in (word w dimension_at) (vector_part w f stores.room)) in
+          let listed : Left (list_in (view w f)) far (length nodes) = subst (λ (l : ℕ → List ℕ). Left l far (length nodes)) lists_same (walk fits) in
           let measured : Left (list_in (view w f)) far_off (length nodes) = subst (λ (g : ℕ → Float). Left (list_in (view w f)) g (length nodes)) far_same listed in
           let limited : Left (list_in (view w f)) far_off (min k n) = subst (λ (m : ℕ). Left (list_in (view w f)) far_off m) nodes-many measured in
           subst (λ (l : List ℕ). Searched far_off l (scored stops far_off places) nodes nodes' far-off far-off' r)
@@ -230,16 +232,11 @@ module _ (ws fs : ℕ) (w : List ℕ) (f query : List Float) (k : ℕ) (out : Li
 
     -- ---- as the code has them: the parts by their ends, the fronts of the outputs
 
-    module _ (p : Parts) (at : PartsIn w k p) (nodes' : List ℕ) (far-off' : List Float) (r : Walked)
-        (ran : Searching (record { n = p.n; degree = p.degree; dimension = p.dimension; entry = p.entry; places = places; stops = stops })
-        (record {
-          query = query;
-          vectors = take p.vectors_end f;
-          rows = take (p.rows_to - p.rows_from) (drop p.rows_from w);
-          bridges = take (p.bridges_to - p.bridges_from) (drop p.bridges_from w);
-          withdrawn = [];
-        })
-        (take p.answer out) nodes' (take p.answer distances) far-off' ws fs r) where
+    module _ (p : Parts) (at : PartsIn w k p) (nodes nodes' : List Keyed) (far-off far-off' : List Float) (r : Walked)
+        (nodes-long : length nodes ≡ out) (distances-long : length far-off ≡ distances)
+        (ran : Ran (record { shape = p.shape; entry = p.entry; places = places; stops = stops })
+        query (take p.vectors_end f) p.dimension (take (p.rows_to - p.rows_from) (drop p.rows_from w)) (take (p.bridges_to - p.bridges_from) (drop p.bridges_from w))
+        (take p.answer nodes) nodes' (take p.answer far-off) far-off' ws fs r) where
       abbrev near : List ℕ
       near = found stops far_off places
 
@@ -253,56 +250,75 @@ module _ (ws fs : ℕ) (w : List ℕ) (f query : List Float) (k : ℕ) (out : Li
           let size : p.bridges_to - p.bridges_from ≡ word w bridge_count_at * bridge_size = omega (arith, at.bridges_from, at.bridges_to) in
           ap₂ (λ (c : ℕ) (i : ℕ). take c (drop i w)) size at.bridges_from
 
-      walked : Searched far_off near (scored stops far_off places) (take (min k n) out) nodes' (take (min k n) distances) far-off' r
+      -- the front of an output holds the images of the nodes found
+      whole : {A : Type 0} (g : ℕ → A) (l l' : List A) → l' ≡ map g near ++ drop (length near) (take (min k n) l) → min k n ≤ length l
+          → l' ++ drop p.answer l ≡ map g near ++ drop (length near) l
+      whole {A} g l l' e fits =
+          let many : length (map g near) ≡ length near = length-map near g in
+          ap₂ (λ (x : List A) (c : ℕ). x ++ drop c l) (e ∙ ap (λ (c : ℕ). map g near ++ drop c (take (min k n) l)) (sym many)) at.answer
+          ∙ front_written (min k n) (map g near) l (omega (arith, many, found_few stops far_off places)) fits
+          ∙ ap (λ (c : ℕ). map g near ++ drop c l) many
+
+      nodes_fit : min k n ≤ length nodes
+      nodes_fit = omega (arith, checked.out_room, nodes-long)
+
+      distances_fit : min k n ≤ length far-off
+      distances_fit = omega (arith, checked.distances_room, distances-long)
+
+      walked : Searched far_off near (scored stops far_off places) (take (min k n) nodes) nodes' (take (min k n) far-off) far-off' r
       walked =
-          searched (take (min k n) out) nodes' (take (min k n) distances) far-off' r (length-take-le (min k n) out checked.out_room) (length-take-le (min k n) distances checked.distances_room)
+          searched (take (min k n) nodes) nodes' (take (min k n) far-off) far-off' r (length-take-le (min k n) nodes nodes_fit) (length-take-le (min k n) far-off distances_fit)
           (subst (λ (X : Type 0). X)
-          (λ i. Searching (record { n = at.n i; degree = at.degree i; dimension = at.dimension i; entry = record { 0 = at.entry i }; places = places; stops = stops })
-          (record { query = query; vectors = take (at.vectors_end i) f; rows = rows_are i; bridges = bridges_are i; withdrawn = [] })
-          (take (at.answer i) out) nodes' (take (at.answer i) distances) far-off' ws fs r) ran)
+          (λ i. Ran (record { shape = record { n = at.n i; degree = at.degree i }; entry = record { 0 = at.entry i }; places = places; stops = stops })
+          query (take (at.vectors_end i) f) (at.dimension i) (rows_are i) (bridges_are i)
+          (take (at.answer i) nodes) nodes' (take (at.answer i) far-off) far-off' ws fs r) ran)
 
-      nodes_whole : nodes' ++ drop p.answer out ≡ near ++ drop (length near) out
-      nodes_whole =
-          ap₂ (λ (l : List ℕ) (c : ℕ). l ++ drop c out) walked.nodes_are at.answer
-          ∙ front_written (min k n) near out (found_few stops far_off places) checked.out_room
+      nodes_whole : nodes' ++ drop p.answer nodes ≡ map (pair_of far_off) near ++ drop (length near) nodes
+      nodes_whole = whole (pair_of far_off) nodes nodes' walked.answer_is nodes_fit
 
-      distances_whole : far-off' ++ drop p.answer distances ≡ map far_off near ++ drop (length near) distances
-      distances_whole =
-          let many : length (map far_off near) ≡ length near = length-map near far_off in
-          ap₂ (λ (l : List Float) (c : ℕ). l ++ drop c distances) (walked.distances_are ∙ ap (λ (c : ℕ). map far_off near ++ drop c (take (min k n) distances)) (sym many)) at.answer
-          ∙ front_written (min k n) (map far_off near) distances (omega (arith, many, found_few stops far_off places)) checked.distances_room
-          ∙ ap (λ (c : ℕ). map far_off near ++ drop c distances) many
+      distances_whole : far-off' ++ drop p.answer far-off ≡ map far_off near ++ drop (length near) far-off
+      distances_whole = whole far_off far-off far-off' walked.distances_are distances_fit
 
-      pub nodes_are : nodes_with r (nodes' ++ drop p.answer out) (far-off' ++ drop p.answer distances) ≡ nodes_by stops far_off (view w f) k places out distances
+      pub nodes_are : nodes_with r (nodes' ++ drop p.answer nodes) (far-off' ++ drop p.answer far-off) ≡ nodes_by stops far_off (view w f) k places nodes far-off
       unfolding nodes_by view
       nodes_are i = record { count = walked.count_is i; scored = walked.scored_is i; nodes = nodes_whole i; distances = distances_whole i }
 
   -- ---- the doc ids of the nodes found
 
-  module _ (stops : Stops) (ef : ℕ) (r : Walked) (nodes nodes' docs' : List ℕ) (distances' : List Float)
-      (e : nodes_with r nodes' distances' ≡ nodes_found stops (view w f) query k (places_for ef k) nodes distances)
-      (many : ℕ) (many-are : many ≡ r.count) (put : many ≤ length nodes' → many ≤ length out → docs' ≡ map (doc_at w) (take many nodes') ++ drop many out) where
+  module _ (stops : Stops) (ef : ℕ) (r : Walked) (nodes nodes' : List Keyed) (docs docs' : List ℕ) (far-off far-off' : List Float)
+      (e : nodes_with r nodes' far-off' ≡ nodes_found stops (view w f) query k (places_for ef k) nodes far-off)
+      (many : ℕ) (many-are : many ≡ r.count) (docs-long : length docs ≡ out)
+      (put : many ≤ length nodes' → many ≤ length docs → docs' ≡ map (doc_of w) (take many nodes') ++ drop many docs) where
+    abbrev far : ℕ → Float
+    far = far_in (view w f) query
+
     abbrev answer : List ℕ
-    answer = found stops (far_in (view w f) query) (places_for ef k)
+    answer = found stops far (places_for ef k)
+
+    abbrev keyed : List Keyed
+    keyed = map (pair_of far) answer
 
     count_is : r.count ≡ length answer
     unfolding nodes_found nodes_by view
     count_is i = (e i).count
 
-    nodes_left : nodes' ≡ answer ++ drop (length answer) nodes
+    keyed_many : length keyed ≡ many
+    keyed_many = length-map answer (pair_of far) ∙ sym (many-are ∙ count_is)
+
+    nodes_left : nodes' ≡ keyed ++ drop (length answer) nodes
     unfolding nodes_found nodes_by view
     nodes_left i = (e i).nodes
 
-    docs_are : docs' ≡ map (λ i. get_or (view w f).docs i 0) answer ++ drop (length answer) out
+    docs_are : docs' ≡ map (λ i. get_or (view w f).docs i 0) answer ++ drop (length answer) docs
     docs_are =
         let many-found : many ≡ length answer = many-are ∙ count_is in
-        put (omega (arith, ap length nodes_left, length-append answer (drop (length answer) nodes)))
-        (omega (arith, found_few stops (far_in (view w f) query) (places_for ef k), checked.out_room))
-        ∙ ap₂ (λ (l : List ℕ) (c : ℕ). map (doc_at w) l ++ drop c out)
-        (ap (take many) nodes_left ∙ take_at answer (drop (length answer) nodes) many (sym many-found)) many-found
-        ∙ ap (λ (l : List ℕ). l ++ drop (length answer) out)
-        (map_in (doc_at w) (λ i. get_or (view w f).docs i 0) answer (docs_same stops (far_in (view w f) query) (places_for ef k)))
+        put (omega (arith, ap length nodes_left, length-append keyed (drop (length answer) nodes), keyed_many))
+        (omega (arith, found_few stops far (places_for ef k), checked.out_room))
+        ∙ ap₂ (λ (l : List Keyed) (c : ℕ). map (doc_of w) l ++ drop c docs)
+        (ap (take many) nodes_left ∙ take_at keyed (drop (length answer) nodes) many keyed_many) many-found
+        ∙ ap (λ (l : List ℕ). l ++ drop (length answer) docs)
+        (map_map (pair_of far) (doc_of w) answer ∙ map_in (doc_at w) (λ i. get_or (view w f).docs i 0) answer (docs_same stops far (places_for ef k)))
 
-    pub docs_reply : docs_with r docs' distances' ≡ reply_of stops (view w f) query k ef out distances
+    pub docs_reply : docs_with r docs' far-off' ≡ reply_of stops (view w f) query k ef docs far-off
     unfolding reply_of found_in scored_in nodes_found nodes_by view
     docs_reply i = record { number = 0; count = count_is i; scored = (e i).scored; docs = docs_are i; distances = (e i).distances }

@@ -8,6 +8,7 @@ use lib.Seq.{take_at}
 use lib.Ieee.{Float, binary32}
 use Rattle.norm.specs.Norm.{scaled_of}
 use Rattle.norm.proofs.Laws.{length-scaled}
+use Rattle.sorting.specs.declared.Keyed.{Keyed}
 use Rattle.store.specs.View.{view}
 use Rattle.def_walk.specs.declared.Stops.{Stops}
 use Rattle.def_walk.specs.Beam.{far_from}
@@ -27,7 +28,7 @@ module _ (front rest query : List Float) (e : front ≡ scaled_of binary32 query
   room_length = ap length room_is ∙ length-scaled binary32 query
 
 -- what is found for a scaled query is found for the query
-module _ (ws fs : ℕ) (w : List ℕ) (f query scaled : List Float) (k : ℕ) (out : List ℕ) (distances : List Float) (e : scaled ≡ scaled_of binary32 query) where
+module _ (ws fs : ℕ) (w : List ℕ) (f query scaled : List Float) (k out distances : ℕ) (e : scaled ≡ scaled_of binary32 query) where
   pub checked_scaled : Checked ws fs w f query k out distances → Checked ws fs w f scaled k out distances
   checked_scaled checked = record {
     opens = checked.opens;
@@ -37,7 +38,7 @@ module _ (ws fs : ℕ) (w : List ℕ) (f query scaled : List Float) (k : ℕ) (o
     distances_room = checked.distances_room;
   }
 
-pub found_scaled : (w : List ℕ) (f query scaled : List Float) (k : ℕ) (out : List ℕ) (distances : List Float) → scaled ≡ scaled_of binary32 query
+pub found_scaled : (w : List ℕ) (f query scaled : List Float) (k : ℕ) (out : List Keyed) (distances : List Float) → scaled ≡ scaled_of binary32 query
     → (stops : Stops) (places : ℕ)
     → nodes_by stops (far_from scaled (view w f).vectors) (view w f) k places out distances ≡ nodes_found stops (view w f) query k places out distances
 unfolding nodes_found far_in

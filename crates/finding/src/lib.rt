@@ -22,13 +22,16 @@ ghost use Rattle.store.specs.Layout.{word, nodes_at, degree_at};
 ghost use Rattle.store.specs.View.{view};
 ghost use Rattle.def_calls.specs.Search.{reply_of};
 ghost use Rattle.def_walk.specs.Beam.{far_from};
-ghost use Rattle.finding.specs.Inside.Docs.{doc_at};
+ghost use Rattle.finding.specs.Inside.Docs.{doc_of};
 ghost use Rattle.finding.specs.Inside.Finding.{Checked, PartsIn, lies_in, nodes_by, nodes_found, nodes_with, docs_with};
 
-use beam_search::{Sizes, Walked};
+use beam_search::{Reads, Sizes, Walked};
 use def_walk::Stops;
+use distance::vectors::Vectors;
+use lists::Shape;
+use sorting::Keyed;
+use store::Layout;
 use words::ids::Node;
-use words::slices;
 
 // Where the parts of a built store stand that a walk reads, how many nodes an answer can have, and the numbers of
 // the store's header that a walk needs.
@@ -40,8 +43,7 @@ struct Parts {
     bridges_to: usize,
     vectors_end: usize,
     answer: usize,
-    n: usize,
-    degree: u16,
+    shape: Shape,
     dimension: u32,
     entry: Node,
 }
@@ -50,8 +52,7 @@ struct Parts {
 pub fn wanted(words: &[u32], k: u32) -> usize
     ensures { result ≡ min k (word words.now nodes_at) }
 {
-    let n = store::word_at(words, store::NODES);
-    if k < n { k as usize } else { n as usize }
+    k.min(store::word_at(words, store::NODES)) as usize
 }
 
 // The query scaled, in a slice as long as it is.
@@ -59,29 +60,19 @@ fn scale_into(out: &mut [f32], query: &[f32])
     requires { length out.old ≡ length query.now }
     ensures { out.new ≡ scaled_of binary32 query.now }
 {
-    slices::copy_floats(out, query);
+    out.copy_from_slice(query);
     norm::normalize(out);
 }
 
 // The doc ids of the first `count` nodes go to the front of `docs`, as far as there are nodes and places.
-fn put_docs(words: &[u32], nodes: &[u32], docs: &mut [u32], count: usize)
+fn put_docs(words: &[u32], nodes: &[Keyed], docs: &mut [u32], count: usize)
     ensures { count ≤ length nodes.now → count ≤ length docs.old
-        → docs.new ≡ map (doc_at words.now) (take count nodes.now) ++ drop count docs.old }
+        → docs.new ≡ map (doc_of words.now) (take count nodes.now) ++ drop count docs.old }
 {
-    let many = slices::lesser(count, slices::lesser(nodes.len(), docs.len()));
-    let mut i: usize = 0;
-    while i < many {
-        let node = Node(nodes[i]);
-        docs[i] = store::doc_of(words, node).0;
-        i += 1;
+    let many = count.min(nodes.len().min(docs.len()));
+    for i in 0..many {
+        docs[i] = store::doc_of(words, Node(nodes[i].id)).0;
     }
-}
-
-// The places of a search are ef, or k if that is more.
-fn larger(a: u32, b: u32) -> u32
-    ensures { result ≡ max a b }
-{
-    if a < b { b } else { a }
 }
 
 // A checked store has a degree of 32 at most, which fits a u16.
@@ -89,22 +80,20 @@ fn parts_of(words: &[u32], k: u32) -> Parts
     ensures { word words.now degree_at ≤ most_degree → PartsIn words.now k result }
 {
     let n = store::word_at(words, store::NODES);
-    let capacity = store::word_at(words, store::CAPACITY);
-    let degree = slices::lesser_u32(
-        store::word_at(words, store::DEGREE),
-        params::MOST_DEGREE,
-    ) as u16;
-    let bridges = store::word_at(words, store::BRIDGE_COUNT);
+    let degree = store::word_at(words, store::DEGREE).min(params::MOST_DEGREE) as u16;
     let dimension = store::word_at(words, store::DIMENSION);
+    let layout = Layout {
+        capacity: store::word_at(words, store::CAPACITY),
+        degree,
+    };
     Parts {
-        rows_from: store::rows_at(capacity),
-        rows_to: store::row_at(capacity, degree, Node(n)),
-        bridges_from: store::bridges_at(capacity, degree),
-        bridges_to: store::bridge_at(capacity, degree, bridges),
+        rows_from: store::rows_at(layout.capacity),
+        rows_to: layout.row_at(Node(n)),
+        bridges_from: layout.bridges_at(),
+        bridges_to: layout.bridge_at(store::word_at(words, store::BRIDGE_COUNT)),
         vectors_end: store::floats_size(n, dimension),
         answer: wanted(words, k),
-        n: n as usize,
-        degree,
+        shape: Shape { n, degree },
         dimension,
         entry: Node(store::word_at(words, store::ENTRY)),
     }
@@ -132,52 +121,49 @@ fn walk(
     parts: Parts,
     places: u32,
     stops: Stops,
-    nodes: &mut [u32],
+    answer: &mut [Keyed],
     distances: &mut [f32],
     scratch_words: &mut [u32],
     scratch_floats: &mut [f32],
 ) -> Walked
-    requires { lies_in parts (length words.now) (length floats.now) (length nodes.old) (length distances.old) ≡ true }
+    requires { lies_in parts (length words.now) (length floats.now) (length answer.old) (length distances.old) ≡ true }
     ensures { (k : ℕ) → PartsIn words.now k parts
         → Checked (length scratch_words.old) (length scratch_floats.old)
-        words.now floats.now scaled.now k nodes.old distances.old
-        → nodes_with result nodes.new distances.new
+        words.now floats.now scaled.now k (length answer.old) (length distances.old)
+        → nodes_with result answer.new distances.new
         ≡ nodes_by stops (far_from scaled.now (view words.now floats.now).vectors)
-        (view words.now floats.now) k places nodes.old distances.old }
+        (view words.now floats.now) k places answer.old distances.old }
 {
-    let vectors_end = parts.vectors_end;
-    let rows_from = parts.rows_from;
-    let rows_to = parts.rows_to;
-    let bridges_from = parts.bridges_from;
-    let bridges_to = parts.bridges_to;
-    let answer = parts.answer;
-    let none: usize = 0;
-    let entry = parts.entry;
+    let reads = Reads {
+        query: scaled,
+        vectors: Vectors {
+            components: &floats[..parts.vectors_end],
+            dimension: parts.dimension,
+        },
+        rows: &words[parts.rows_from..parts.rows_to],
+        bridges: &words[parts.bridges_from..parts.bridges_to],
+        withdrawn: &[],
+    };
     let sizes = Sizes {
-        n: parts.n,
-        degree: parts.degree,
-        dimension: parts.dimension,
-        entry,
+        shape: parts.shape,
+        entry: parts.entry,
         places,
         stops,
     };
+    let room = parts.answer;
     beam_search::beam_search(
-        scaled,
-        &floats[..vectors_end],
-        &words[rows_from..rows_to],
-        &words[bridges_from..bridges_to],
-        &words[none..none],
+        reads,
         sizes,
-        &mut nodes[..answer],
-        &mut distances[..answer],
+        &mut answer[..room],
+        &mut distances[..room],
         scratch_words,
         scratch_floats,
     )
 }
 
-// The nearest k of the nodes that a walk with `places` places and these stop numbers scores, all if fewer. They and their distances go to
-// the front of the two outputs, nearest first; what lies past them stays. A checked query has at most 64
-// components.
+// The nearest k of the nodes that a walk with `places` places and these stop numbers scores, all if fewer. They, each with
+// its key, and their distances go to the front of the two outputs, nearest first; what lies past them stays. A
+// checked query has at most 64 components.
 pub fn find_nodes(
     words: &[u32],
     floats: &[f32],
@@ -185,15 +171,15 @@ pub fn find_nodes(
     k: u32,
     places: u32,
     stops: Stops,
-    nodes: &mut [u32],
+    answer: &mut [Keyed],
     distances: &mut [f32],
     scratch_words: &mut [u32],
     scratch_floats: &mut [f32],
 ) -> Walked
     ensures { Checked (length scratch_words.old) (length scratch_floats.old)
-        words.now floats.now query.now k nodes.old distances.old
-        → nodes_with result nodes.new distances.new
-        ≡ nodes_found stops (view words.now floats.now) query.now k places nodes.old distances.old }
+        words.now floats.now query.now k (length answer.old) (length distances.old)
+        → nodes_with result answer.new distances.new
+        ≡ nodes_found stops (view words.now floats.now) query.now k places answer.old distances.old }
 {
     let components = query.len();
     if components > params::MOST_DIMENSION as usize {
@@ -207,7 +193,7 @@ pub fn find_nodes(
         parts,
         words.len(),
         floats.len(),
-        nodes.len(),
+        answer.len(),
         distances.len(),
     );
     if !lies {
@@ -225,14 +211,14 @@ pub fn find_nodes(
         parts,
         places,
         stops,
-        nodes,
+        answer,
         distances,
         scratch_words,
         scratch_floats,
     )
 }
 
-// The same with max(ef, k) places, and with the doc ids of the nodes. The nodes stand in a local array of 4 KB, and
+// The same with max(ef, k) places, and with the doc ids of the nodes. The nodes stand in a local array of 8 KB, and
 // the output never holds a node.
 pub fn find(
     words: &[u32],
@@ -247,12 +233,12 @@ pub fn find(
     scratch_floats: &mut [f32],
 ) -> Walked
     ensures { Checked (length scratch_words.old) (length scratch_floats.old)
-        words.now floats.now query.now k docs.old distances.old
+        words.now floats.now query.now k (length docs.old) (length distances.old)
         → docs_with result docs.new distances.new
         ≡ reply_of stops (view words.now floats.now) query.now k ef docs.old distances.old }
 {
-    let places = larger(ef, k);
-    let mut nodes = [0u32; 1024];
+    let places = ef.max(k);
+    let mut nodes = [Keyed { key: 0, id: 0 }; 1024];
     let walked = find_nodes(
         words,
         floats,

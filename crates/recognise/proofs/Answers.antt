@@ -15,10 +15,9 @@ use Rattle.basics.specs.Choice.{pick, pick_ind, pick_true, pick_false}
 use Rattle.basics.specs.Refusals.{Check, check, first_refusal, Values}
 use Rattle.error.specs.Numbers.{limit_not_finite}
 use Rattle.basics.proofs.Refusals.{then_first, then_second, both_none}
-use Rattle.store.specs.declared.Lent.TheVariants.{Scratch}
 use Rattle.store.specs.Layout.{word, nodes_at}
 use Rattle.store.specs.View.{view}
-use Rattle.store.specs.Opening.{opening}
+use Rattle.store.specs.Opening.{scratch, opening}
 use Rattle.store.proofs.Opened.{opening_numbered}
 use Rattle.def_walk.specs.Beam.{usual}
 use Rattle.def_calls.specs.Search.{asking_checks, own_search_checks, search_checks, far_in, found_in, Reply, refused, reply_of, search_with_ef_spec}
@@ -38,7 +37,7 @@ one_fits n a b ea eb = ap₂ ◌||◌ (le-ltb a (min 1 n) (omega arith)) (le-ltb
 
 module _ (ws fs : ℕ) (w : List ℕ) (f query : List Float) (ef : ℕ) (limit : Float) where
   abbrev first : List Check
-  first = opening (Scratch ws fs) w f
+  first = opening (scratch ws fs) w f
 
   abbrev asked : List Check
   asked = first ++ asking_checks w query 1 ef
@@ -63,8 +62,8 @@ module _ (ws fs : ℕ) (w : List ℕ) (f query : List Float) (ef : ℕ) (limit :
   asked_right : first_refusal asked ≡ 0 → refusal ≡ first_refusal (limit_check ∷ [])
   unfolding recognise_checks
   asked_right e =
-      let lists = both_none first (asking_checks w query 1 ef) (opening_numbered (Scratch ws fs) w f) e in
-      then_second first (asking_checks w query 1 ef ++ (limit_check ∷ [])) (opening_numbered (Scratch ws fs) w f) lists.0
+      let lists = both_none first (asking_checks w query 1 ef) (opening_numbered (scratch ws fs) w f) e in
+      then_second first (asking_checks w query 1 ef ++ (limit_check ∷ [])) (opening_numbered (scratch ws fs) w f) lists.0
       ∙ then_second (asking_checks w query 1 ef) (limit_check ∷ []) (omega arith) lists.1
 
   turned_with : (number : ℕ) → refusal ≡ number → (number ≡ 0 → ⊥) → refused_as number ≡ recognise_spec ws fs w f query ef limit

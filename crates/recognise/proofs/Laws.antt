@@ -18,10 +18,9 @@ use Rattle.error.specs.Numbers.{limit_not_finite}
 use Rattle.basics.proofs.Refusals.{passes, both_none}
 use Rattle.sorting.specs.Sorting.{sort_by}
 use Rattle.sorting.proofs.Laws.{length_sort}
-use Rattle.store.specs.declared.Lent.TheVariants.{Scratch}
 use Rattle.store.specs.Layout.{word, built_state, state_at, entry_at}
 use Rattle.store.specs.View.{view}
-use Rattle.store.specs.Opening.{opening}
+use Rattle.store.specs.Opening.{scratch, opening}
 use Rattle.store.proofs.Header.{Built}
 use Rattle.store.proofs.Opened.{Opened, opened, opening_numbered}
 use Rattle.def_walk.specs.KeepClosest.{key_at}
@@ -57,15 +56,15 @@ module _ (ws fs : ℕ) (w : List ℕ) (f query : List Float) (ef : ℕ) (limit :
   abbrev asking : List Check
   asking = asking_checks w query 1 ef ++ (check (not (finite limit)) limit_not_finite ∷ [])
 
-  lists : (first_refusal (opening (Scratch ws fs) w f) ≡ 0) × (first_refusal asking ≡ 0)
+  lists : (first_refusal (opening (scratch ws fs) w f) ≡ 0) × (first_refusal asking ≡ 0)
   unfolding recognise_checks
-  lists = both_none (opening (Scratch ws fs) w f) asking (opening_numbered (Scratch ws fs) w f) e
+  lists = both_none (opening (scratch ws fs) w f) asking (opening_numbered (scratch ws fs) w f) e
 
   state : word w state_at ≡ built_state
   state = let t = passes asking (omega arith) lists.1 in eqb-true _ _ (not-false _ t.0)
 
-  stores : Opened (Scratch ws fs) w f
-  stores = opened (Scratch ws fs) w f lists.0
+  stores : Opened (scratch ws fs) w f
+  stores = opened (scratch ws fs) w f lists.0
 
   built : Built w
   built = ⊎_elim (λ o. absurd (omega (arith, o.state, state))) (λ b. b) stores.header.state

@@ -6,9 +6,8 @@ use Rattle.std.specs.Float.Ieee.Scale.{finite}
 use Rattle.basics.specs.Choice.{pick}
 use Rattle.basics.specs.Refusals.{Check, check, first_refusal, Values}
 use Rattle.error.specs.Numbers.{limit_not_finite}
-use Rattle.store.specs.declared.Lent.TheVariants.{Scratch}
 use Rattle.store.specs.View.{View, view}
-use Rattle.store.specs.Opening.{opening}
+use Rattle.store.specs.Opening.{scratch, opening}
 use Rattle.def_walk.specs.Beam.{usual}
 use Rattle.def_calls.specs.Search.{asking_checks, far_in, found_in}
 use Rattle.recognise.specs.Recognised.{new_as, refused_as, recognised_as}
@@ -18,7 +17,7 @@ use Rattle.recognise.specs.Recognised.{new_as, refused_as, recognised_as}
 -- scratch of ws words and fs floats is passed in
 unfoldable pub recognise_checks : (ws fs : ℕ) → List ℕ → List Float → List Float → ℕ → Float → List Check
 unfolding opening
-recognise_checks ws fs w f query ef limit = opening (Scratch ws fs) w f ++ (asking_checks w query 1 ef ++ (check (not (finite limit)) limit_not_finite ∷ []))
+recognise_checks ws fs w f query ef limit = opening (scratch ws fs) w f ++ (asking_checks w query 1 ef ++ (check (not (finite limit)) limit_not_finite ∷ []))
 
 -- ---- what it answers
 

@@ -7,9 +7,8 @@ use borrow.Author.Tests.{eq-eqb, ne_eqb}
 use Rattle.basics.specs.Choice.{pick_true, pick_false}
 use Rattle.basics.specs.Refusals.{first_refusal}
 use Rattle.basics.proofs.Refusals.{both_none}
-use Rattle.store.specs.declared.Lent.TheVariants.{Scratch}
 use Rattle.store.specs.View.{view}
-use Rattle.store.specs.Opening.{opening}
+use Rattle.store.specs.Opening.{scratch, opening}
 use Rattle.store.proofs.Opened.{opening_numbered}
 use Rattle.def_walk.specs.Beam.{usual}
 use Rattle.def_calls.specs.Search.{own_search_checks, search_checks, Reply, refused, reply_of, search_with_ef_spec}
@@ -34,6 +33,6 @@ module _ (ws fs : ℕ) (w : List ℕ) (f query : List Float) (k ef : ℕ) (docs 
   pub checked : refusal ≡ 0 → Checked ws fs w f query k docs distances
   unfolding search_checks
   checked e =
-      let lists = both_none (opening (Scratch ws fs) w f) (own_search_checks w query k ef docs distances) (opening_numbered (Scratch ws fs) w f) e in
+      let lists = both_none (opening (scratch ws fs) w f) (own_search_checks w query k ef docs distances) (opening_numbered (scratch ws fs) w f) e in
       let t = search_taken ws fs w f query k ef docs distances e in
       record { opens = lists.0; built = t.built; components = t.components; out_room = t.docs_room; distances_room = t.distances_room }

@@ -3,10 +3,9 @@
 -- argument of no definition; its two lengths are, and of them only whether they are enough counts.
 use Rattle.std.specs.Prelude.{◌≡◌, true, List, ℕ, ◌≤◌, length, take, Float}
 use Rattle.params.specs.declared.PipnnParams.{PipnnParams}
-use Rattle.store.specs.declared.Lent.TheVariants.{Scratch}
 use Rattle.store.specs.Layout.{word, header_size, dimension_at, degree_at, capacity_at, words_size, floats_size}
 use Rattle.store.specs.WellFormed.{header_ok}
-use Rattle.store.specs.Opening.{scratch_short}
+use Rattle.store.specs.Opening.{scratch, scratch_short}
 use Rattle.pipnn.specs.Answer.{Answer}
 use Rattle.pipnn.specs.New.{new_spec}
 use Rattle.pipnn.specs.Add.{add_spec}
@@ -42,7 +41,7 @@ pub record Agree (w w' : List ℕ) (f f' : List Float) : Type 0 where
 
 -- two pieces of scratch, by their lengths, are both enough for the header's capacity or both too short
 abbrev pub AgreeScratch : List ℕ → (ws fs ws' fs' : ℕ) → Type 0
-AgreeScratch w ws fs ws' fs' = scratch_short (word w capacity_at) (Scratch ws fs) ≡ scratch_short (word w capacity_at) (Scratch ws' fs')
+AgreeScratch w ws fs ws' fs' = scratch_short (word w capacity_at) (scratch ws fs) ≡ scratch_short (word w capacity_at) (scratch ws' fs')
 
 -- ---- what a call that writes the stores leaves: the same number, and stores that agree up to the sizes that the header defined
 

@@ -2,7 +2,7 @@
 use Rattle.std.proofs.Common.{◌≡◌, false, get_or, set, List, ap, ap₂, ◌∙◌, arith}
 use lib.Ieee.{Float, inf}
 use Rattle.sorting.specs.declared.Keyed.{Keyed}
-use Rattle.beam_search.proofs.Ending.{put_so_far, put_more}
+use Rattle.basics.proofs.Loops.{images, images_more}
 use Rattle.beam_search.proofs.put_distances.Goals as goal
 
 pub loop-i-preserved : goal.loop-i-preserved
@@ -10,11 +10,11 @@ loop-i-preserved c =
     let a = c.args in
     let l = c.loop-i in
     ap₂ (λ (x : List Float) (y : Float). set x l.i y) l.invariant c.distance_of.ensures
-    ∙ put_more (λ (p : Keyed). get_or a.floats.now p.id (inf false)) a.answer.now a.distances.now _ l.i (omega (arith, c.min-many.ensures, c.min.ensures)) (omega (arith, c.min-many.ensures, c.min.ensures))
+    ∙ images_more (λ (p : Keyed). get_or a.floats.now p.id (inf false)) a.answer.now a.distances.now _ l.i (omega (arith, c.min-many.ensures, c.min.ensures)) (omega (arith, c.min-many.ensures, c.min.ensures))
 
 pub returns : goal.returns
 returns c h k =
     let a = c.args in
     let l = c.loop-i in
     let all : l.i ≡ a.count = omega (arith, c.min-many.ensures, c.min.ensures) in
-    l.invariant ∙ ap (put_so_far (λ (p : Keyed). get_or a.floats.now p.id (inf false)) a.answer.now a.distances.now) all
+    l.invariant ∙ ap (images (λ (p : Keyed). get_or a.floats.now p.id (inf false)) a.answer.now a.distances.now) all

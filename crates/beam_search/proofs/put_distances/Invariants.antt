@@ -2,8 +2,8 @@
 use Rattle.std.proofs.Common.{◌≡◌, false, get_or}
 use lib.Ieee.{inf}
 use Rattle.sorting.specs.declared.Keyed.{Keyed}
-use Rattle.beam_search.proofs.Ending.{put_so_far}
+use Rattle.basics.proofs.Loops.{images}
 use Rattle.beam_search.proofs.put_distances.Given as goal
 
 abbrev pub invariant-loop-i : goal.invariant-loop-i
-invariant-loop-i l = l.distances ≡ put_so_far (λ (p : Keyed). get_or l.floats p.id (inf false)) l.answer l.fn.distances l.i
+invariant-loop-i l = l.distances ≡ images (λ (p : Keyed). get_or l.floats p.id (inf false)) l.answer l.fn.distances l.i

@@ -5,15 +5,14 @@ use native.Mathlib.Omega.{arith}
 use borrow.Author.Tests.{eq-eqb, ne_eqb}
 use Rattle.basics.specs.Refusals.{Check, first_refusal}
 use Rattle.basics.proofs.Refusals.{turned_at, none_turned, then_first, then_second}
-use Rattle.store.specs.declared.Lent.TheVariants.{Scratch}
-use Rattle.store.specs.Opening.{opening}
+use Rattle.store.specs.Opening.{scratch, opening}
 use Rattle.store.proofs.Opened.{opening_numbered}
 use Rattle.def_calls.specs.Build.{own_build_checks, build_checks}
 use Rattle.build.proofs.build_refusal.Goals as goal
 use Rattle.build.proofs.build_refusal.Goals.{Else-refusal-ne0, Start}
 
 abbrev First : Start → List Check
-First s = opening (Scratch s.args.scratch_words s.args.scratch_floats) s.args.words.now s.args.floats.now
+First s = opening (scratch s.args.scratch_words s.args.scratch_floats) s.args.words.now s.args.floats.now
 
 abbrev Own : Start → List Check
 Own s = own_build_checks s.args.words.now
@@ -21,7 +20,7 @@ Own s = own_build_checks s.args.words.now
 own : (c : Else-refusal-ne0) → first_refusal (own_build_checks c.args.words.now) ≡ (first_refusal (build_checks c.args.scratch_words c.args.scratch_floats c.args.words.now c.args.floats.now))
 unfolding build_checks
 own c =
-    sym (then_second (opening (Scratch c.args.scratch_words c.args.scratch_floats) c.args.words.now c.args.floats.now) (own_build_checks c.args.words.now) (opening_numbered (Scratch c.args.scratch_words c.args.scratch_floats) c.args.words.now c.args.floats.now) (sym c.opening_refusal-refusal.ensures ∙ c.if-refusal-ne0.false))
+    sym (then_second (opening (scratch c.args.scratch_words c.args.scratch_floats) c.args.words.now c.args.floats.now) (own_build_checks c.args.words.now) (opening_numbered (scratch c.args.scratch_words c.args.scratch_floats) c.args.words.now c.args.floats.now) (sym c.opening_refusal-refusal.ensures ∙ c.if-refusal-ne0.false))
 
 pub returns-then-refusal-ne0 : goal.returns-then-refusal-ne0
 unfolding build_checks

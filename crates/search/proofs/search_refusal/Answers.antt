@@ -9,15 +9,14 @@ use lib.ListN.{length, take}
 use borrow.Author.Tests.{eq-eqb, ne_eqb}
 use Rattle.basics.specs.Refusals.{Check, first_refusal}
 use Rattle.basics.proofs.Refusals.{Pass, turned_at, none_turned, then_first, then_second}
-use Rattle.store.specs.declared.Lent.TheVariants.{Scratch}
-use Rattle.store.specs.Opening.{opening}
+use Rattle.store.specs.Opening.{scratch, opening}
 use Rattle.store.proofs.Opened.{opening_numbered}
 use Rattle.def_calls.specs.Search.{own_search_checks, search_checks}
 use Rattle.search.proofs.search_refusal.Goals as goal
 use Rattle.search.proofs.search_refusal.Goals.{Else-k-ef, Else-not-all_finite, Else-query-word_at, Else-refusal-ne0, Else-word_at-ne-BUILT, Start}
 
 abbrev First : Start → List Check
-First s = opening (Scratch s.args.scratch_words s.args.scratch_floats) s.args.words.now s.args.floats.now
+First s = opening (scratch s.args.scratch_words s.args.scratch_floats) s.args.words.now s.args.floats.now
 
 abbrev Own : Start → List Check
 Own s = own_search_checks s.args.words.now s.args.query.now s.args.k s.args.ef s.args.docs.now s.args.distances.now
@@ -26,8 +25,8 @@ Own s = own_search_checks s.args.words.now s.args.query.now s.args.k s.args.ef s
 own : (c : Else-refusal-ne0) → first_refusal (own_search_checks c.args.words.now c.args.query.now c.args.k c.args.ef c.args.docs.now c.args.distances.now) ≡ (first_refusal (search_checks c.args.words.now c.args.query.now c.args.k c.args.ef c.args.docs.now c.args.distances.now c.args.scratch_words c.args.scratch_floats c.args.floats.now))
 unfolding search_checks
 own c =
-    let numbered = opening_numbered (Scratch c.args.scratch_words c.args.scratch_floats) c.args.words.now c.args.floats.now in
-    sym (then_second (opening (Scratch c.args.scratch_words c.args.scratch_floats) c.args.words.now c.args.floats.now) (own_search_checks c.args.words.now c.args.query.now c.args.k c.args.ef c.args.docs.now c.args.distances.now) numbered (sym c.opening_refusal-refusal.ensures ∙ c.if-refusal-ne0.false))
+    let numbered = opening_numbered (scratch c.args.scratch_words c.args.scratch_floats) c.args.words.now c.args.floats.now in
+    sym (then_second (opening (scratch c.args.scratch_words c.args.scratch_floats) c.args.words.now c.args.floats.now) (own_search_checks c.args.words.now c.args.query.now c.args.k c.args.ef c.args.docs.now c.args.distances.now) numbered (sym c.opening_refusal-refusal.ensures ∙ c.if-refusal-ne0.false))
 
 -- what has passed at each place
 passed_1 : (c : Else-word_at-ne-BUILT) → Pass (take 1 (own_search_checks c.args.words.now c.args.query.now c.args.k c.args.ef c.args.docs.now c.args.distances.now))

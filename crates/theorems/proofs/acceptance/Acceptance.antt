@@ -16,7 +16,7 @@ use Rattle.basics.proofs.Tests.{both_false}
 use Rattle.params.specs.declared.PipnnParams.{PipnnParams}
 use Rattle.params.specs.Limits.{most_dimension, most_capacity, within_limits}
 use Rattle.params.proofs.Laws.{within}
-use Rattle.store.specs.declared.Lent.TheVariants.{Nothing, Scratch as lent}
+use Rattle.store.specs.Opening.{scratch as lent}
 use Rattle.store.specs.Layout.{word, built_state, state_at, dimension_at, nodes_at, capacity_at, ef_search_at, scratch_words, scratch_floats}
 use Rattle.store.specs.View.{params_of, view}
 use Rattle.store.specs.Opening.{scratch_short, opening}

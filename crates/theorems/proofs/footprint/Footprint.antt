@@ -19,7 +19,8 @@ use Rattle.norm.specs.Norm.{scaled_of}
 use Rattle.norm.proofs.Laws.{length-scaled}
 use Rattle.params.specs.declared.PipnnParams.{PipnnParams}
 use Rattle.params.specs.Limits.{dimension_within}
-use Rattle.store.specs.declared.Lent.TheVariants.{Nothing, Scratch}
+use Rattle.std.specs.Prelude.{None}
+use Rattle.store.specs.Opening.{scratch}
 use Rattle.store.specs.Layout.{word, header_size, built_state, state_at, dimension_at, nodes_at, degree_at, ef_search_at, entry_at, bridge_count_at, capacity_at, docs_at, rows_at, bridges_at, words_size, floats_size}
 use Rattle.store.specs.View.{View, view, row_block, bridge_block, empty_header}
 use Rattle.store.specs.WellFormed.{header_ok}
@@ -122,7 +123,7 @@ module _ (w w' : List ℕ) (f f' : List Float) (a : Agree w w' f f') where
       let same : own_build_checks w ≡ own_build_checks w' = cc h.w2 in
       answers (first_refusal (build_checks ws fs w f)) (first_refusal (build_checks ws' fs' w' f'))
       (pick (eqb (word w state_at) built_state) w (built_words (graph_for (view w f)) w)) (pick (eqb (word w' state_at) built_state) w' (built_words (graph_for (view w' f')) w')) f f'
-      (numbers_same (Scratch ws fs) (Scratch ws' fs') a s same)
+      (numbers_same (scratch ws fs) (scratch ws' fs') a s same)
       left_same
 
   -- ---- what searches
@@ -151,8 +152,8 @@ module _ (w w' : List ℕ) (f f' : List Float) (a : Agree w w' f f') where
     on_search_with_ef k ef docs distances =
         searched (first_refusal (search_checks w query k ef docs distances ws fs f)) (first_refusal (search_checks w' query k ef docs distances ws' fs' f'))
         (λ (v : View). reply_of usual v query k ef docs distances) (λ (r : ℕ). refused r docs distances)
-        (numbers_same (Scratch ws fs) (Scratch ws' fs') a s (asked_same k ef docs distances))
-        (not_opened (Scratch ws fs) (Scratch ws' fs') a s (asked_same k ef docs distances))
+        (numbers_same (scratch ws fs) (scratch ws' fs') a s (asked_same k ef docs distances))
+        (not_opened (scratch ws fs) (scratch ws' fs') a s (asked_same k ef docs distances))
 
     on_search : (k : ℕ) (docs : List ℕ) (distances : List Float) → search_spec ws fs w f query k docs distances ≡ search_spec ws' fs' w' f' query k docs distances
     unfolding search_spec h
@@ -165,8 +166,8 @@ module _ (w w' : List ℕ) (f f' : List Float) (a : Agree w w' f f') where
         let same : (asking_checks w query 1 ef ++ (check (not (finite limit)) limit_not_finite ∷ [])) ≡ (asking_checks w' query 1 ef ++ (check (not (finite limit)) limit_not_finite ∷ [])) = cc (h.w0, h.w1) in
         searched {X = Values} (first_refusal (recognise_checks ws fs w f query ef limit)) (first_refusal (recognise_checks ws' fs' w' f' query ef limit))
         (λ (v : View). nearest_of (doc_in v) (far_in v query) limit (found_in usual v query 1 ef)) (λ (r : ℕ). refused_as r)
-        (numbers_same (Scratch ws fs) (Scratch ws' fs') a s same)
-        (not_opened (Scratch ws fs) (Scratch ws' fs') a s same)
+        (numbers_same (scratch ws fs) (scratch ws' fs') a s same)
+        (not_opened (scratch ws fs) (scratch ws' fs') a s same)
 
   pub on_stores : OnStores w w' f f'
   on_stores = record {
