@@ -2,6 +2,7 @@
 use mathlib.Core.Path.{◌≡◌, sym, ap, ◌∙◌}
 use mathlib.Core.List.{List}
 use Prim.Native.Nat.{ℕ}
+use lib.ListN.{length}
 use lib.Ieee.{Float}
 use borrow.Author.Tests.{eq-eqb, ne_eqb}
 use Rattle.basics.specs.Choice.{pick_true, pick_false}
@@ -30,7 +31,7 @@ module _ (ws fs : ℕ) (w : List ℕ) (f query : List Float) (k ef : ℕ) (docs 
   accepted e = sym (pick_true {X = Reply} (reply_of usual (view w f) query k ef docs distances) (refused refusal docs distances) (eq-eqb refusal 0 e))
 
   -- a search that is accepted has checked what a walk relies on
-  pub checked : refusal ≡ 0 → Checked ws fs w f query k docs distances
+  pub checked : refusal ≡ 0 → Checked ws fs w f query k (length docs) (length distances)
   unfolding search_checks
   checked e =
       let lists = both_none (opening (scratch ws fs) w f) (own_search_checks w query k ef docs distances) (opening_numbered (scratch ws fs) w f) e in

@@ -1,18 +1,21 @@
 -- A refusal has written nothing; accepted, it is the reply. Assumes nothing.
 use mathlib.Core.Path.{sym, ◌∙◌}
 use lib.Ieee.{of_bits}
+use Rattle.std.proofs.lemmas.Result.{err_from_is_err_and}
+use Rattle.error.proofs.Laws.{never_zero}
 use Rattle.search.proofs.Replies.{turned_back_lem, accepted, checked}
 use Rattle.search.proofs.search_with_ef.Goals as goal
 
-pub returns-then-refusal-ne0 : goal.returns-then-refusal-ne0
-returns-then-refusal-ne0 c =
+pub returns-in_err-check_search : goal.returns-in_err-check_search
+returns-in_err-check_search c =
     let a = c.args in
-    turned_back_lem _ _ a.words.now a.floats.now a.query.now a.k a.ef a.docs.now a.distances.now c.search_refusal-refusal.result c.search_refusal-refusal.ensures c.if-refusal-ne0.true
+    let p = err_from_is_err_and c.from_residual.result c.from_residual.ensures.1 in
+    rw (p.1, p.2) (turned_back_lem _ _ a.words.now a.floats.now a.query.now a.k a.ef a.docs.now a.distances.now _ c.in_err-check_search.ensures (never_zero _))
 
 pub returns : goal.returns
 unfolding of_bits
 returns c =
     let a = c.args in
-    let none = sym c.search_refusal-refusal.ensures ∙ c.if-refusal-ne0.false in
-    c.find-walked.ensures (checked _ _ a.words.now a.floats.now a.query.now a.k a.ef a.docs.now a.distances.now none)
+    let none = sym c.in_ok-check_search.ensures in
+    c.find.ensures (checked _ _ a.words.now a.floats.now a.query.now a.k a.ef a.docs.now a.distances.now none)
     ∙ accepted _ _ a.words.now a.floats.now a.query.now a.k a.ef a.docs.now a.distances.now none

@@ -1,5 +1,4 @@
--- `search::search_refusal` meets its contract: the checks that every call begins with, then at each place those before it have passed.
--- Assumes nothing.
+-- The checks that every call begins with, then at each place those before it have passed. Assumes nothing.
 use mathlib.Core.Path.{◌≡◌, sym, ap, ◌∙◌}
 use mathlib.Core.Bool.{Bool, not, ◌||◌}
 use mathlib.Core.List.{List}
@@ -7,26 +6,26 @@ use Prim.Native.Nat.{ℕ}
 use lib.Dec.{ltb}
 use lib.ListN.{length, take}
 use borrow.Author.Tests.{eq-eqb, ne_eqb}
+use Rattle.std.proofs.lemmas.Result.{err_from_is_err_and}
+use Rattle.error.proofs.Laws.{never_zero}
 use Rattle.basics.specs.Refusals.{Check, first_refusal}
 use Rattle.basics.proofs.Refusals.{Pass, turned_at, none_turned, then_first, then_second}
 use Rattle.store.specs.Opening.{scratch, opening}
 use Rattle.store.proofs.Opened.{opening_numbered}
 use Rattle.def_calls.specs.Search.{own_search_checks, search_checks}
-use Rattle.search.proofs.search_refusal.Goals as goal
-use Rattle.search.proofs.search_refusal.Goals.{Else-k-ef, Else-not-all_finite, Else-query-word_at, Else-refusal-ne0, Else-word_at-ne-BUILT, Start}
+use Rattle.search.proofs.check_search.Goals as goal
+use Rattle.search.proofs.check_search.Goals.{Else-k-ef, Else-not-all_finite, Else-query-word_at, Else-word_at-ne-BUILT, Start}
 
 abbrev First : Start → List Check
-First s = opening (scratch s.args.scratch_words s.args.scratch_floats) s.args.words.now s.args.floats.now
+First s = opening (scratch s.args.lent.words s.args.lent.floats) s.args.words.now s.args.floats.now
 
 abbrev Own : Start → List Check
 Own s = own_search_checks s.args.words.now s.args.query.now s.args.k s.args.ef s.args.docs.now s.args.distances.now
 
--- past the checks that every call begins with, its own count
-own : (c : Else-refusal-ne0) → first_refusal (own_search_checks c.args.words.now c.args.query.now c.args.k c.args.ef c.args.docs.now c.args.distances.now) ≡ (first_refusal (search_checks c.args.words.now c.args.query.now c.args.k c.args.ef c.args.docs.now c.args.distances.now c.args.scratch_words c.args.scratch_floats c.args.floats.now))
+-- where the first checks pass, its own decide
+own : (s : Start) → 0 ≡ first_refusal (First s) → first_refusal (Own s) ≡ first_refusal (search_checks s.args.words.now s.args.query.now s.args.k s.args.ef s.args.docs.now s.args.distances.now s.args.lent.words s.args.lent.floats s.args.floats.now)
 unfolding search_checks
-own c =
-    let numbered = opening_numbered (scratch c.args.scratch_words c.args.scratch_floats) c.args.words.now c.args.floats.now in
-    sym (then_second (opening (scratch c.args.scratch_words c.args.scratch_floats) c.args.words.now c.args.floats.now) (own_search_checks c.args.words.now c.args.query.now c.args.k c.args.ef c.args.docs.now c.args.distances.now) numbered (sym c.opening_refusal-refusal.ensures ∙ c.if-refusal-ne0.false))
+own s e = sym (then_second (First s) (Own s) (opening_numbered (scratch s.args.lent.words s.args.lent.floats) s.args.words.now s.args.floats.now) (sym e))
 
 -- what has passed at each place
 passed_1 : (c : Else-word_at-ne-BUILT) → Pass (take 1 (own_search_checks c.args.words.now c.args.query.now c.args.k c.args.ef c.args.docs.now c.args.distances.now))
@@ -49,38 +48,42 @@ passed_4 c = (ap not (eq-eqb _ _ (sym c.word_at.ensures ∙ c.if-word_at-ne-BUIL
 rooms : (docs : List ℕ) (n : ℕ) (k k' : ℕ) (b : Bool) → k ≡ k' → (ltb (length docs) k || ltb n k) ≡ b → (ltb (length docs) k' || ltb n k') ≡ b
 rooms docs n k k' b e h = ap (λ (m : ℕ). ltb (length docs) m || ltb n m) (sym e) ∙ h
 
-pub returns-then-refusal-ne0 : goal.returns-then-refusal-ne0
+pub returns-in_err-check_opening : goal.returns-in_err-check_opening
 unfolding search_checks
-returns-then-refusal-ne0 c =
-    c.opening_refusal-refusal.ensures ∙ sym (then_first (First (goal.at.returns-then-refusal-ne0 c).Start) (Own (goal.at.returns-then-refusal-ne0 c).Start) (λ e. c.if-refusal-ne0.true (c.opening_refusal-refusal.ensures ∙ e)))
+returns-in_err-check_opening c =
+    let p = err_from_is_err_and c.from_residual.result c.from_residual.ensures.1 in
+    let s = (goal.at.returns-in_err-check_opening c).Start in
+    rw (p.1, p.2)
+    (c.in_err-check_opening.ensures
+    ∙ sym (then_first (First s) (Own s) (λ e. never_zero _ (c.in_err-check_opening.ensures ∙ e))))
 
 pub returns-then-word_at-ne-BUILT : goal.returns-then-word_at-ne-BUILT
 unfolding own_search_checks
 returns-then-word_at-ne-BUILT c =
-    turned_at 0 (Own (goal.at.returns-then-word_at-ne-BUILT c).Start) tt (ap not (ne_eqb _ _ (λ e. c.if-word_at-ne-BUILT.true (c.word_at.ensures ∙ e)))) ∙ own (goal.at.returns-then-word_at-ne-BUILT c).Else-refusal-ne0
+    turned_at 0 (Own (goal.at.returns-then-word_at-ne-BUILT c).Start) tt (ap not (ne_eqb _ _ (λ e. c.if-word_at-ne-BUILT.true (c.word_at.ensures ∙ e)))) ∙ own (goal.at.returns-then-word_at-ne-BUILT c).Start c.in_ok-check_opening.ensures
 
 pub returns-then-query-word_at : goal.returns-then-query-word_at
 unfolding own_search_checks
 returns-then-query-word_at c =
     turned_at 1 (Own (goal.at.returns-then-query-word_at c).Start) (passed_1 (goal.at.returns-then-query-word_at c).Else-word_at-ne-BUILT)
-    (ap not (ne_eqb _ _ (λ e. c.if-query-word_at.true (e ∙ sym c.word_at-2.ensures)))) ∙ own (goal.at.returns-then-query-word_at c).Else-refusal-ne0
+    (ap not (ne_eqb _ _ (λ e. c.if-query-word_at.true (e ∙ sym c.word_at-2.ensures)))) ∙ own (goal.at.returns-then-query-word_at c).Start c.in_ok-check_opening.ensures
 
 pub returns-then-not-all_finite : goal.returns-then-not-all_finite
 unfolding own_search_checks
 returns-then-not-all_finite c =
-    turned_at 2 (Own (goal.at.returns-then-not-all_finite c).Start) (passed_2 (goal.at.returns-then-not-all_finite c).Else-query-word_at) (ap not (sym c.all_finite.ensures ∙ c.if-not-all_finite.true)) ∙ own (goal.at.returns-then-not-all_finite c).Else-refusal-ne0
+    turned_at 2 (Own (goal.at.returns-then-not-all_finite c).Start) (passed_2 (goal.at.returns-then-not-all_finite c).Else-query-word_at) (ap not (sym c.all_finite.ensures ∙ c.if-not-all_finite.true)) ∙ own (goal.at.returns-then-not-all_finite c).Start c.in_ok-check_opening.ensures
 
 pub returns-then-k-ef : goal.returns-then-k-ef
 unfolding own_search_checks
 returns-then-k-ef c =
-    turned_at 3 (Own (goal.at.returns-then-k-ef c).Start) (passed_3 (goal.at.returns-then-k-ef c).Else-not-all_finite) c.if-k-ef.true ∙ own (goal.at.returns-then-k-ef c).Else-refusal-ne0
+    turned_at 3 (Own (goal.at.returns-then-k-ef c).Start) (passed_3 (goal.at.returns-then-k-ef c).Else-not-all_finite) c.if-k-ef.true ∙ own (goal.at.returns-then-k-ef c).Start c.in_ok-check_opening.ensures
 
 pub returns-then-docs-room : goal.returns-then-docs-room
 unfolding own_search_checks
 returns-then-docs-room c =
     let a = c.args in
     turned_at 4 (Own (goal.at.returns-then-docs-room c).Start) (passed_4 (goal.at.returns-then-docs-room c).Else-k-ef)
-    (rooms a.docs.now (length a.distances.now) _ _ _ c.wanted-room.ensures c.if-docs-room.true) ∙ own (goal.at.returns-then-docs-room c).Else-refusal-ne0
+    (rooms a.docs.now (length a.distances.now) _ _ _ c.wanted-room.ensures c.if-docs-room.true) ∙ own (goal.at.returns-then-docs-room c).Start c.in_ok-check_opening.ensures
 
 pub returns : goal.returns
 unfolding own_search_checks
@@ -88,4 +91,4 @@ returns c =
     let a = c.args in
     let t = passed_4 (goal.at.returns c).Else-k-ef in
     let room = rooms a.docs.now (length a.distances.now) _ _ _ c.wanted-room.ensures c.if-docs-room.false in
-    none_turned (Own (goal.at.returns c).Start) (t.0, (t.1.0, (t.1.1.0, (t.1.1.1.0, (room, tt))))) ∙ own (goal.at.returns c).Else-refusal-ne0
+    none_turned (Own (goal.at.returns c).Start) (t.0, (t.1.0, (t.1.1.0, (t.1.1.1.0, (room, tt))))) ∙ own (goal.at.returns c).Start c.in_ok-check_opening.ensures
