@@ -3,8 +3,7 @@
 //
 // It is `search_with_ef` with k = 1 and the caller's ef, with outputs of its own, so no output of the
 // caller's can be too short; then the limit has to be finite (13); then `score::decide` says Known or New
-// by the nearest node's distance, with its score. The enum is the whole answer: a refusal has only its
-// number.
+// by the nearest node's distance, with its score.
 //
 // It promises one equation for the answer, refusals included, for every content and length of what is
 // passed in: `recognise_spec` of specs/Recognise. The stores stay as they are, and what scratch held before
@@ -17,9 +16,10 @@
 pub mod score;
 
 ghost use Rattle.std.specs.Prelude.{◌≡◌, length};
-ghost use Rattle.recognise.specs.Recognised.{recognised_values};
+ghost use Rattle.recognise.specs.Recognised.{answer_values};
 ghost use Rattle.recognise.specs.Recognise.{recognise_spec};
 
+use error::Refusal;
 use params::finite;
 use score::Recognised;
 use words::ids::DocId;
@@ -32,8 +32,8 @@ pub fn recognise(
     limit: f32,
     scratch_words: &mut [u32],
     scratch_floats: &mut [f32],
-) -> Recognised
-    ensures { recognised_values result
+) -> Result<Recognised, Refusal>
+    ensures { answer_values result
         ≡ recognise_spec (length scratch_words.old) (length scratch_floats.old)
         words.now floats.now query.now ef limit }
 {
@@ -49,15 +49,12 @@ pub fn recognise(
         &mut distance,
         scratch_words,
         scratch_floats,
-    );
-    if found.number != 0 {
-        return Recognised::Refused(found.number);
-    }
+    )?;
     if !finite::is_finite(limit) {
-        return Recognised::Refused(error::LIMIT_NOT_FINITE);
+        return Err(Refusal::LimitNotFinite);
     }
     if found.count == 0 {
-        return Recognised::New(0);
+        return Ok(Recognised::New(0));
     }
-    score::decide(DocId(doc[0]), distance[0], limit)
+    Ok(score::decide(DocId(doc[0]), distance[0], limit))
 }

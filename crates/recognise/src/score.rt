@@ -24,7 +24,7 @@ pub fn score(d: f32) -> u32
         }
         return score_bits(b);
     }
-    if d != d {
+    if d.is_nan() {
         return 0;
     }
     100
@@ -45,12 +45,11 @@ fn score_bits(b: u32) -> u32
 }
 
 // What recognising a phone answers: the doc id of the phone that it is, or that it is none of those
-// stored, either with the score of the nearest one's distance; or the number of a refusal.
-#[derive(Clone, Copy)]
+// stored, either with the score of the nearest one's distance.
+#[derive(Clone, Copy, PartialEq, Eq, Debug)]
 pub enum Recognised {
     Known(DocId, u32),
     New(u32),
-    Refused(u32),
 }
 
 // The answer where `doc` is at distance d, which is Known or New. A NaN is at most nothing, so it is New

@@ -9,7 +9,7 @@ use borrow.Author.Tests.{ltb-false}
 use lib.Arith.{digits_div}
 use lib.Dec.{T}
 use lib.IntN.{pos}
-use lib.Ieee.{Float, nan, inf, fin, up, down, lt, eq, ne}
+use lib.Ieee.{Float, nan, inf, fin, up, down, lt, is_nan}
 use lib.Ieee.Exact.{HasValue}
 use lib.Ieee.Fits.{down_pos}
 use lib.Ieee.Nearest.{div_same}
@@ -87,8 +87,8 @@ pub score_far : (x : Float) (u w : ℕ) → 0 < w → w ≤ u → HasValue x fal
 score_far x u w p l v = let gone : 100 * w - 100 * u ≡ 0 = omega arith in score_at x u w p v ∙ ap (λ (n : ℕ). n / w) gone ∙ zero-div w
 
 -- not above zero, and a number
-pub score_whole : (x : Float) → lt (fin false 0 (pos 0)) x ≡ false → ne x x ≡ false → score_of x ≡ 100
-unfolding lt ne eq score_of pick
+pub score_whole : (x : Float) → lt (fin false 0 (pos 0)) x ≡ false → is_nan x ≡ false → score_of x ≡ 100
+unfolding lt is_nan score_of pick
 score_whole nan h k = absurd (subst T k tt)
 score_whole (inf true) h k = refl
 score_whole (inf false) h k = absurd (subst T h tt)
@@ -105,9 +105,11 @@ score_whole (fin false m e) h k =
     whole : (n d : ℕ) → n * 1 ≤ 0 * d → 100 * d - 100 * n ≡ 100 * d
     whole n d h = omega arith
 
-pub score_nan : (x : Float) → x ≡ nan → score_of x ≡ 0
-unfolding score_of
-score_nan x e = rw e
+pub score_nan : (x : Float) → is_nan x ≡ true → score_of x ≡ 0
+unfolding is_nan score_of
+score_nan nan e = refl
+score_nan (inf s) e = absurd (subst T (sym e) tt)
+score_nan (fin s m k) e = absurd (subst T (sym e) tt)
 
 pub score_infinite : (x : Float) → x ≡ inf false → score_of x ≡ 0
 unfolding score_of pick

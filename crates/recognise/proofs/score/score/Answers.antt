@@ -5,7 +5,6 @@ use mathlib.Core.Bool.{Bool}
 use lib.Dec.{T}
 use lib.Ieee.{Float, binary32, lt, fits, of_bits}
 use lib.Ieee.Bits.{of_bits-to_bits}
-use lib.Ieee.Compare.{differs_from_itself}
 use Rattle.norm.proofs.root.Signs.{zero+, zero_is, real, bits_pos}
 use Rattle.recognise.specs.Score.{score_of}
 use Rattle.recognise.proofs.score.Laws.{score_whole, score_nan}
@@ -31,15 +30,13 @@ pub returns-then-d : goal.returns-then-d
 returns-then-d c =
     c.score_bits.ensures ∙ ap score_of (of_bits-to_bits binary32 c.args.d (held (goal.at.returns-then-d c).Start))
 
-pub returns-then-d-2 : goal.returns-then-d-2
-returns-then-d-2 c =
-    let d = c.args.d in
-    sym (score_nan d (differs_from_itself d (subst T (sym c.if-d-2.true) tt)))
+pub returns-then-is_nan : goal.returns-then-is_nan
+returns-then-is_nan c = sym (score_nan c.args.d (sym c.if-is_nan.ensures.value))
 
 pub returns : goal.returns
 returns c =
     let d = c.args.d in
-    sym (score_whole d (above d c.if-d.false) c.if-d-2.false)
+    sym (score_whole d (above d c.if-d.false) (sym c.if-is_nan.ensures.value))
 
 pub float_to_bits-b : goal.float_to_bits-b
 float_to_bits-b c = real c.args.d (above c.args.d c.if-d.true)
