@@ -1,24 +1,57 @@
 // The vectors of an index, node by node, and the distance of two nodes. Carving, leaf lists, pruning and
 // repair all use it; they sort by it, in the order of part 1.
 //
-// specs/Vectors   `get_vector`, the distance of two nodes, the number that orders nodes by it
+// specs/Vectors   the vectors, the distance of two nodes, the number that orders nodes by it
 // proofs/Laws     a distance is the same both ways
 ghost use Rattle.std.specs.Prelude.{◌≡◌};
-ghost use Rattle.distance.specs.Vectors.{vectors_in, vector_of};
+ghost use Rattle.std.specs.Float.{binary32};
+ghost use Rattle.distance.specs.Distance.{distance_of};
+ghost use Rattle.distance.specs.Vectors.{vectors_in, vectors_of, vector_of, between};
 
 use words::ids::Node;
 
-// The vector of a node, where the vectors stand one after the other. A node that is not there has a
-// vector without components, which is infinitely far from any other.
+// Vectors that stand one after the other, and how many components each has.
+#[derive(Clone, Copy)]
+pub struct Vectors<'a> {
+    pub components: &'a [f32],
+    pub dimension: u32,
+}
+
+impl<'a> Vectors<'a> {
+    // The vector of a node. A node that is not there has a vector without components, which is infinitely
+    // far from any other.
+    pub fn get(self, node: Node) -> &'a [f32]
+        ensures { result.now ≡ vector_of (vectors_of self.entry) node.0 }
+    {
+        let d = self.dimension as usize;
+        let at = node.0 as usize * d;
+        self.components.get(at..at + d).unwrap_or(&[])
+    }
+
+    // How far a node is from a query.
+    pub fn distance_from(self, query: &[f32], node: Node) -> f32
+        ensures { result ≡ distance_of binary32 query.now
+            (vector_of (vectors_of self.entry) node.0) }
+    {
+        crate::cosine_distance_normalized(query, self.get(node))
+    }
+
+    // How far two nodes are apart.
+    #[tactic(auto, unfolding(crate::specs::Vectors::between))]
+    pub fn between(self, a: Node, b: Node) -> f32
+        ensures { result ≡ between (vectors_of self.entry) a.0 b.0 }
+    {
+        self.distance_from(self.get(a), b)
+    }
+}
+
+// The vector of a node, where the vectors stand one after the other.
 pub fn get_vector(vectors: &[f32], dimension: u32, node: Node) -> &[f32]
     ensures { result.now ≡ vector_of (vectors_in dimension vectors.now) node.0 }
 {
-    let d = dimension as usize;
-    let at = node.0 as usize * d;
-    let end = at + d;
-    if end <= vectors.len() {
-        return &vectors[at..end];
-    }
-    let none: usize = 0;
-    &vectors[none..none]
+    let all = Vectors {
+        components: vectors,
+        dimension,
+    };
+    all.get(node)
 }
