@@ -1,13 +1,13 @@
 -- What a loop that gathers a test over a slice, without a branch, has gathered so far. Assumes nothing.
-use mathlib.Core.Path.{◌≡◌, sym, ap, ◌∙◌}
+use mathlib.Core.Path.{◌≡◌, refl, sym, ap, ◌∙◌}
 use mathlib.Core.Bool.{Bool, true, ◌&&◌, and_assoc, and-true}
-use mathlib.Core.List.{List}
-use Prim.Native.Nat.{ℕ, suc, ◌+◌, ◌-◌, ◌≤◌, ◌<◌}
+use mathlib.Core.List.{List, ◌++◌}
+use Prim.Native.Nat.{ℕ, zero, suc, ◌+◌, ◌-◌, ◌*◌, ◌≤◌, ◌<◌}
 use native.Mathlib.Nat.{sub-zero}
 use native.Mathlib.Numerals.{add-one}
 use native.Mathlib.Omega.{arith}
-use lib.ListN.{length, get_or, take, drop, drop_of_length-le}
-use lib.Seq.{drop-cons, drop-drop}
+use lib.ListN.{length, length-append, get_or, take, drop, drop_of_length-le}
+use lib.Seq.{drop-cons, drop-drop, take_at, drop_at}
 use Rattle.basics.specs.Lists.{every, pieces}
 
 module _ {A : Type 0} (p : A → Bool) (xs : List A) where
@@ -46,3 +46,36 @@ module _ {A : Type 0} (p : List A → Bool) (xs : List A) (d n : ℕ) where
   gather_last i at ok all h g =
       let none : n - i ≡ 0 = omega arith in
       sym (and-true ok) ∙ (rw none at g)
+
+-- the same over the pieces of a list, where the next piece comes off the front of what is left
+pub record Gathered {A : Type 0} (p : List A → Bool) (d : ℕ) (all ok : Bool) (rest : List A) : Type 0 where
+  pub left : ℕ
+  pub long : length rest ≡ left * d
+  pub is : (ok && every p (pieces d left rest)) ≡ all
+
+module _ {A : Type 0} (p : List A → Bool) (d : ℕ) where
+  pub gathered_none : (n : ℕ) (xs : List A) → length xs ≡ n * d → Gathered p d (every p (pieces d n xs)) true xs
+  gathered_none n xs h = record { left = n; long = h; is = refl }
+
+  pub gathered_more : {all ok : Bool} {rest : List A} → (x after : List A) (b : Bool) → Gathered p d all ok rest → 0 < d → rest ≡ x ++ after → length x ≡ d
+      → b ≡ p x → Gathered p d all (ok && b) after
+  unfolding every pieces
+  gathered_more {all} {ok} {rest} x after b g some e long t = more g.left g.long g.is
+    where
+      more : (n : ℕ) → length rest ≡ n * d → (ok && every p (pieces d n rest)) ≡ all → Gathered p d all (ok && b) after
+      more zero l is = absurd (omega (arith, ap length e, length-append x after))
+      more (suc n) l is = record {
+        left = n;
+        long = omega (arith, ap length e, length-append x after);
+        is =
+            rw (t, and_assoc, ← (take_at x after d long), ← e)
+            (ap (λ (r : List A). ok && (p (take d rest) && every p (pieces d n r))) (sym (drop_at x after d long) ∙ ap (drop d) (sym e)) ∙ is);
+      }
+
+  pub gathered_end : {all ok : Bool} {rest : List A} → Gathered p d all ok rest → length rest < d → ok ≡ all
+  unfolding every pieces
+  gathered_end {all} {ok} {rest} g short = none g.left g.long g.is
+    where
+      none : (n : ℕ) → length rest ≡ n * d → (ok && every p (pieces d n rest)) ≡ all → ok ≡ all
+      none zero l is = sym (and-true ok) ∙ is
+      none (suc n) l is = absurd (omega arith)

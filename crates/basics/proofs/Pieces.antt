@@ -6,7 +6,7 @@ use mathlib.Core.List.{List, [], ◌∷◌, ◌++◌, flatten, append_assoc}
 use Prim.Native.Nat.{ℕ, zero, suc, ◌+◌, ◌*◌, ◌≤◌, ◌<◌}
 use native.Mathlib.Nat.{zero-mul}
 use native.Mathlib.Omega.{arith}
-use lib.ListN.{length, get_or, take, drop, length-append}
+use lib.ListN.{length, get_or, take, drop, length-append, take-append-drop}
 use lib.Seq.{drop-drop, take_at, drop_at, take-append-le, drop-append-le, length-take-le}
 use Rattle.basics.specs.Lists.{every, pieces}
 use Rattle.basics.proofs.Tests.{both_true}
@@ -50,6 +50,12 @@ module _ {A : Type 0} where
       let within : d ≤ length xs = omega arith in
       ap₂ (λ (x : List A) (l : List (List A)). x ∷ l) (take-append-le d xs ys within)
       (ap (pieces d n) (drop-append-le d xs ys within) ∙ pieces_front d n (drop d xs) ys (omega (arith, lib.ListN.length-drop d xs)))
+
+  -- nor do they need more than their own elements
+  pub pieces_take : (d n : ℕ) (xs : List A) → n * d ≤ length xs → pieces d n (take (n * d) xs) ≡ pieces d n xs
+  pieces_take d n xs h =
+      let long : n * d ≤ length (take (n * d) xs) = omega (arith, length-take-le (n * d) xs h) in
+      sym (pieces_front d n (take (n * d) xs) (drop (n * d) xs) long) ∙ ap (pieces d n) (take-append-drop (n * d) xs)
 
 -- each of a list of pieces has d elements
 abbrev pub Sized {ℓ} : {A : Type ℓ} → ℕ → List (List A) → Type 0

@@ -1,47 +1,68 @@
-// The refusal numbers by name (docs/SCOPE.md, "Refusals"), as src/error.rs has its kinds of errors. A call returns 0 or
-// one of these. Each number stands here once for the code and once in specs/Numbers for the definitions; the contracts
-// of the calls say that the two agree. include/pipnn.h and the Rust crate have the same names, and
-// bindings/declarations.py compares all four.
+// The refusals by name (docs/SCOPE.md, "Refusals"), as src/error.rs has its kinds of errors, and their numbers, which C
+// gets. A call answers a `Result` whose error is one of these; `pipnn_` calls answer 0 or the number. Each number
+// stands here once for the code and once in specs/Numbers for the definitions; the contract of `number` says that the
+// two agree. include/pipnn.h and the Rust crate have the same names, and bindings/declarations.py compares all four.
 #![tactic(auto)]
 
-// The dimension is not 1 to 64.
-pub const DIMENSION_OUT_OF_RANGE: u32 = 1;
+ghost use Rattle.std.specs.Prelude.{◌≡◌, false};
+ghost use Rattle.error.specs.Refused.{number_of, answer_of};
 
-// A parameter or the capacity is beyond its limits.
-pub const PARAMETER_OUT_OF_RANGE: u32 = 2;
+use std::fmt;
 
-// A store or scratch is too short.
-pub const SLICE_TOO_SHORT: u32 = 3;
+#[derive(Clone, Copy, PartialEq, Eq, Debug)]
+pub enum Refusal {
+    // The dimension is not 1 to 64.
+    DimensionOutOfRange = 1,
+    // A parameter or the capacity is beyond its limits.
+    ParameterOutOfRange = 2,
+    // A store or scratch is too short.
+    SliceTooShort = 3,
+    // The store's content is not that of an index.
+    NotWellFormed = 4,
+    // Add to a store that is built.
+    AlreadyBuilt = 5,
+    // The vector's length differs from the dimension.
+    DimensionMismatch = 6,
+    // A component is infinite or not a number.
+    NonFiniteInput = 7,
+    // Add to a store that holds as many nodes as its capacity.
+    Full = 8,
+    // Build of a store with no nodes.
+    EmptyIndex = 9,
+    // Search in a store that is not built.
+    NotBuilt = 10,
+    // k or ef is above 1024.
+    KOrEfTooLarge = 11,
+    // An output is shorter than min(k, n).
+    OutputTooShort = 12,
+    // The limit is infinite or not a number.
+    LimitNotFinite = 13,
+    // More than 512 sightings, or their two lists differ in length.
+    BadSightings = 14,
+}
 
-// The store's content is not that of an index.
-pub const NOT_WELL_FORMED: u32 = 4;
+impl Refusal {
+    // The number that C gets.
+    pub fn number(self) -> u32
+        ensures { result ≡ number_of self }
+    {
+        self as u32
+    }
+}
 
-// Add to a store that is built.
-pub const ALREADY_BUILT: u32 = 5;
+impl fmt::Display for Refusal {
+    fn fmt<W: fmt::Write>(&self, f: &mut fmt::Formatter<W>) -> fmt::Result {
+        let number = self.number();
+        write!(f, "refusal {number}")
+    }
+}
 
-// The vector's length differs from the dimension.
-pub const DIMENSION_MISMATCH: u32 = 6;
-
-// A component is infinite or not a number.
-pub const NON_FINITE_INPUT: u32 = 7;
-
-// Add to a store that holds as many nodes as its capacity.
-pub const FULL: u32 = 8;
-
-// Build of a store with no nodes.
-pub const EMPTY_INDEX: u32 = 9;
-
-// Search in a store that is not built.
-pub const NOT_BUILT: u32 = 10;
-
-// k or ef is above 1024.
-pub const K_OR_EF_TOO_LARGE: u32 = 11;
-
-// An output is shorter than min(k, n).
-pub const OUTPUT_TOO_SHORT: u32 = 12;
-
-// The limit is infinite or not a number.
-pub const LIMIT_NOT_FINITE: u32 = 13;
-
-// More than 512 sightings, or their two lists differ in length.
-pub const BAD_SIGHTINGS: u32 = 14;
+// What a call answers as C gets it: 0, or its refusal's number.
+pub fn number_or_zero(answer: Result<(), Refusal>) -> u32
+    ensures { result ≡ answer_of answer }
+{
+    match answer {
+        Ok(()) => 0,
+        Err(refusal) => refusal.number(),
+    }
+}

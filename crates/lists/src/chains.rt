@@ -5,19 +5,20 @@
 // of the bridges the next link of the node in that word. Appending a bridge and following a link cost a few
 // steps each.
 //
-// A reader goes along a node's whole list with a `Cursor`: over the row's entries, then from link to link.
+// A reader goes along a node's whole list with `Entries`: over the row's entries, then from link to link with `Ends`.
 //
-// Every function is total. On any content each link leads to a larger one, so that a reader's loop ends.
+// Every function is total. On any content each link leads to a larger one, so that a chain ends.
 //
 // specs/Inside/Chains  what is read from a link on, how a bridge is appended, and when chains are those of bridges
-// specs/Inside/Lists   a node's list, and what is left of it from a cursor on
+// specs/Inside/Lists   a node's list, and what is left of it
 // proofs/Reading       the equations of a chain's reader: none, one more
-// proofs/Cursors       the equations of a list's reader: none left, one more
 // proofs/Laws          chains with one bridge more; what a reader finds is the other ends, in order
 ghost use Rattle.std.specs.Prelude.{◌≡◌, ◌-◌, ◌<◌, ◌^◌};
+ghost use Rattle.std.specs.Iterator.{YieldsFirstBy, item_count};
 ghost use Rattle.lists.specs.Inside.Chains.{other_end_at, first_link, next_link, cleared_links, link_place, append_slot, chain_bridge};
-ghost use Rattle.lists.specs.Inside.Lists.{cursor_at, has_entry, entry_at, next_cursor};
+ghost use Rattle.lists.specs.Inside.Lists.{ends_of, list_in, ends_left, entries_left};
 
+use super::Shape;
 use words::ids::Node;
 use words::slices;
 
@@ -25,9 +26,8 @@ use words::slices;
 pub fn clear_links(links: &mut [u32], n: u32)
     ensures { links.new ≡ cleared_links n links.old }
 {
-    let end = slices::lesser(2 * n as usize, links.len());
-    let start: usize = 0;
-    slices::clear_words(&mut links[start..end]);
+    let end = (2 * n as usize).min(links.len());
+    links[..end].fill(0);
 }
 
 // Bridge j comes to the end of both its ends' chains, once where they are one node.
@@ -38,14 +38,14 @@ pub fn chain_bridge(links: &mut [u32], n: u32, j: u32, near: Node, far: Node)
         return;
     }
     append_slot(links, n, near, 2 * j);
-    if near.0 == far.0 {
+    if near == far {
         return;
     }
     append_slot(links, n, far, 2 * j + 1);
 }
 
 // The first link of a node, 0 if there is none.
-pub fn first_link(links: &[u32], n: u32, node: Node) -> u32
+fn first_link(links: &[u32], n: u32, node: Node) -> u32
     ensures { result ≡ first_link n links.now node.0 }
 {
     let link = store::word_at(links, node.0 as usize);
@@ -56,10 +56,11 @@ pub fn first_link(links: &[u32], n: u32, node: Node) -> u32
 }
 
 // The link after a link, 0 if there is none. It is larger than the link, so that a loop over a chain ends.
-pub fn next_link(links: &[u32], n: u32, link: u32) -> u32
+fn next_link(links: &[u32], n: u32, link: u32) -> u32
     ensures { result ≡ next_link n links.now link }
 {
-    let next = store::word_at(links, before(2 * n as usize + link as usize));
+    let place = (2 * n as usize + link as usize).saturating_sub(1);
+    let next = store::word_at(links, place);
     if (link < next) & (2 * n as usize + next as usize <= links.len()) {
         return next;
     }
@@ -67,61 +68,94 @@ pub fn next_link(links: &[u32], n: u32, link: u32) -> u32
 }
 
 // The node that a link leads to: the other word of the bridge that its slot is a word of.
-pub fn other_end(bridges: &[u32], link: u32) -> Node
+fn other_end(bridges: &[u32], link: u32) -> Node
     ensures { result.0 ≡ other_end_at bridges.now link }
 {
-    let slot = before(link as usize);
-    let bridge = (slot / 2) as u32;
-    super::end_of(bridges, bridge, 1 - slot % 2)
+    let slot = link.saturating_sub(1) as usize;
+    Node(store::word_at(bridges, slot + 1 - 2 * (slot % 2)))
 }
 
-// Where a reader of a node's list is: at an index of its row and, past the row, at a link.
+// The other ends of a node's bridges, from a link on.
 #[derive(Clone, Copy)]
-pub struct Cursor {
-    pub index: usize,
-    pub link: u32,
+pub struct Ends<'a> {
+    bridges: &'a [u32],
+    links: &'a [u32],
+    n: u32,
+    link: u32,
 }
 
-// The start of a node's list.
-pub fn list_start(links: &[u32], n: u32, node: Node) -> Cursor
-    ensures { result ≡ cursor_at 0 (first_link n links.now node.0) }
-{
-    let link = first_link(links, n, node);
-    Cursor { index: 0, link }
-}
+impl<'a> Iterator for Ends<'a> {
+    type Item = Node;
 
-// Whether the list has an entry at the cursor.
-pub fn has_entry(row: &[u32], at: Cursor) -> bool
-    ensures { result ≡ has_entry row.now at }
-{
-    (at.index < row.len()) | (at.link != 0)
-}
+    ghost next_gives = { YieldsFirstBy (λ node. node.0) ends_left };
 
-// The list's entry at the cursor.
-pub fn list_entry(row: &[u32], bridges: &[u32], at: Cursor) -> Node
-    ensures { result.0 ≡ entry_at row.now bridges.now at }
-{
-    let index = at.index;
-    if index < row.len() {
-        return Node(row[index]);
+    ghost remaining = { item_count ends_left };
+
+    fn next(&mut self) -> Option<Node> {
+        let link = self.link;
+        if link == 0 {
+            return None;
+        }
+        self.link = next_link(self.links, self.n, link);
+        Some(other_end(self.bridges, link))
     }
-    other_end(bridges, at.link)
 }
 
-// The cursor one entry further.
-pub fn list_next(row: &[u32], links: &[u32], n: u32, at: Cursor) -> Cursor
-    ensures { result ≡ next_cursor n row.now links.now at }
-{
-    let index = at.index;
-    let link = at.link;
-    if index < row.len() {
-        return Cursor {
-            index: index + 1,
-            link,
+// A node's list from an entry on: the rest of its row, then the other ends of its bridges.
+#[derive(Clone, Copy)]
+pub struct Entries<'a> {
+    row: &'a [u32],
+    ends: Ends<'a>,
+}
+
+impl<'a> Iterator for Entries<'a> {
+    type Item = Node;
+
+    ghost next_gives = { YieldsFirstBy (λ node. node.0) entries_left };
+
+    ghost remaining = { item_count entries_left };
+
+    fn next(&mut self) -> Option<Node> {
+        let Some((first, rest)) = self.row.split_first() else {
+            return self.ends.next();
         };
+        self.row = rest;
+        Some(Node(*first))
     }
-    let next = next_link(links, n, link);
-    Cursor { index, link: next }
+}
+
+// The lists of an index: its rows, its bridges, and the chains that link their ends.
+#[derive(Clone, Copy)]
+pub struct Lists<'a> {
+    pub shape: Shape,
+    pub rows: &'a [u32],
+    pub bridges: &'a [u32],
+    pub links: &'a [u32],
+}
+
+impl<'a> Lists<'a> {
+    // The other ends of a node's bridges.
+    pub fn ends(self, node: Node) -> Ends<'a>
+        ensures { ends_left result ≡ ends_of self.entry node.0 }
+    {
+        let n = self.shape.n;
+        Ends {
+            bridges: self.bridges,
+            links: self.links,
+            n,
+            link: first_link(self.links, n, node),
+        }
+    }
+
+    // A node's list.
+    pub fn of(self, node: Node) -> Entries<'a>
+        ensures { entries_left result ≡ list_in self.entry node.0 }
+    {
+        Entries {
+            row: super::row_of(self.rows, self.shape.degree, node),
+            ends: self.ends(node),
+        }
+    }
 }
 
 // A slot comes to the end of a node's chain.
@@ -131,9 +165,9 @@ fn append_slot(links: &mut [u32], n: u32, node: Node, slot: u32)
 {
     let tail = store::word_at(links, n as usize + node.0 as usize);
     let place = link_place(n, node, tail);
-    slices::put_word(links, place, slot + 1);
-    slices::put_word(links, 2 * n as usize + slot as usize, 0);
-    slices::put_word(links, n as usize + node.0 as usize, slot + 1);
+    slices::put(links, place, slot + 1);
+    slices::put(links, 2 * n as usize + slot as usize, 0);
+    slices::put(links, n as usize + node.0 as usize, slot + 1);
 }
 
 fn link_place(n: u32, node: Node, tail: u32) -> usize
@@ -143,13 +177,4 @@ fn link_place(n: u32, node: Node, tail: u32) -> usize
         return node.0 as usize;
     }
     2 * n as usize + tail as usize - 1
-}
-
-fn before(x: usize) -> usize
-    ensures { result ≡ x - 1 }
-{
-    if x == 0 {
-        return 0;
-    }
-    x - 1
 }

@@ -4,7 +4,7 @@ use mathlib.Core.Bool.{true}
 use mathlib.Core.List.{List, ◌++◌}
 use Prim.Native.Nat.{ℕ, ◌+◌, ◌*◌, ◌≤◌, ◌<◌}
 use native.Mathlib.Omega.{arith}
-use lib.ListN.{length, take, drop, length-take, length-drop}
+use lib.ListN.{length, take, drop}
 use lib.Seq.{take_at, drop_at, drop-drop, length-take-le}
 use lib.Ieee.{Float, binary32}
 use lib.Ieee.Scale.{finite}
@@ -13,10 +13,9 @@ use borrow.Rule.Slice.PartMut.{put_mid}
 use Rattle.basics.specs.Lists.{every}
 use Rattle.basics.specs.Refusals.{first_refusal}
 use Rattle.basics.proofs.Refusals.{passes, both_none}
-use Rattle.store.specs.declared.Lent.TheVariants.{Nothing}
+use Rattle.std.proofs.Common.{None}
 use Rattle.store.specs.Layout.{word, built_state, state_at, dimension_at, nodes_at, capacity_at, docs_at}
 use Rattle.store.specs.Opening.{opening}
-use Rattle.words.proofs.slices.Laws.{copied_whole}
 use Rattle.store.proofs.Sizes.{product_le}
 use Rattle.store.proofs.Opened.{Opened, opened, opening_numbered}
 use Rattle.norm.specs.Norm.{scaled_of}
@@ -24,7 +23,7 @@ use Rattle.pipnn.specs.Add.{own_checks, add_checks}
 
 module _ (w : List ℕ) (f v : List Float) where
   pub record AddTaken : Type 0 where
-    pub stores : Opened Nothing w f
+    pub stores : Opened None w f
     pub state : word w state_at ≡ built_state → ⊥
     pub components : length v ≡ word w dimension_at
     pub numbers : every finite v ≡ true
@@ -35,8 +34,8 @@ module _ (w : List ℕ) (f v : List Float) where
   pub add_taken : first_refusal (add_checks w f v) ≡ 0 → AddTaken
   unfolding add_checks own_checks
   add_taken e =
-      let lists = both_none (opening Nothing w f) (own_checks w v) (opening_numbered Nothing w f) e in
-      let o : Opened Nothing w f = opened Nothing w f lists.0 in
+      let lists = both_none (opening None w f) (own_checks w v) (opening_numbered None w f) e in
+      let o : Opened None w f = opened None w f lists.0 in
       let t = passes (own_checks w v) (omega arith) lists.1 in
       let n = word w nodes_at in
       let d = word w dimension_at in
@@ -69,13 +68,11 @@ module _ (at k : ℕ) (f x : List Float) (fits : at + k ≤ length f) (full : le
 
 -- The vector copied to its place, then that place scaled: x is the part as copied, y as scaled.
 pub scaled_put : (f v : List Float) (at k : ℕ) (x y : List Float) → k ≡ length v → at + length v ≤ length f
-    → x ≡ take (length (take k (drop at f))) v ++ drop (length v) (take k (drop at f))
+    → x ≡ v
     → y ≡ scaled_of binary32 (take k (drop at (put_mid at k f x)))
     → put_mid at k (put_mid at k f x) y ≡ take at f ++ (scaled_of binary32 v ++ drop (at + length v) f)
-scaled_put f v at k x y e fits copied scaled =
+scaled_put f v at k x y e fits same scaled =
     let inside : at + k ≤ length f = omega arith in
-    let whole : length (take k (drop at f)) ≡ length v = simp (length-take, length-drop) (omega arith) in
-    let same : x ≡ v = copied ∙ copied_whole (take k (drop at f)) v whole in
     let full : length x ≡ k = ap length same ∙ sym e in
     let done : y ≡ scaled_of binary32 v = scaled ∙ ap (scaled_of binary32) (part_back at k f x inside full ∙ same) in
     put_again at k f x inside full y ∙ rw (done, drop-drop, e)

@@ -1,11 +1,10 @@
 -- `add_slice` (scope, Records and Refusals, and part 2): one node more, its vector scaled.
-use Rattle.std.specs.Prelude.{not, List, [], ◌∷◌, ◌++◌, ℕ, ◌+◌, eqb, length, take, drop, set, Float}
+use Rattle.std.specs.Prelude.{not, List, [], ◌∷◌, ◌++◌, ℕ, ◌+◌, eqb, length, take, drop, set, Float, None}
 use Rattle.std.specs.Float.{binary32}
 use Rattle.std.specs.Float.Ieee.Scale.{finite}
 use Rattle.basics.specs.Lists.{every}
 use Rattle.basics.specs.Refusals.{Check, check, first_refusal}
 use Rattle.error.specs.Numbers.{already_built, dimension_mismatch, non_finite_input, full}
-use Rattle.store.specs.declared.Lent.TheVariants.{Nothing}
 use Rattle.store.specs.Layout.{word, built_state, state_at, dimension_at, nodes_at, capacity_at, docs_at, floats_size}
 use Rattle.store.specs.Opening.{opening}
 use Rattle.norm.specs.Norm.{scaled_of}
@@ -23,7 +22,7 @@ own_checks w v =
 
 unfoldable pub add_checks : List ℕ → List Float → List Float → List Check
 unfolding opening own_checks
-add_checks w f v = opening Nothing w f ++ own_checks w v
+add_checks w f v = opening None w f ++ own_checks w v
 
 -- the doc id goes to node n's place, and n grows by one
 unfoldable pub added_words : List ℕ → ℕ → List ℕ

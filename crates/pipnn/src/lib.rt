@@ -1,9 +1,9 @@
 // The calls of the index (scope, Records and Refusals), as src/pipnn/mod.rs has them: `new` and
 // `add_slice`.
 //
-// Every call is passed the word store and the float store, of any content and length, and returns 0 or the
-// number of a refusal. Its contract is one equation for the number and both stores, whole: a refusal leaves
-// both as they were, and nothing past the sizes is ever touched.
+// Every call is passed the word store and the float store, of any content and length, and returns nothing or a
+// refusal. Its contract is one equation for the refusal's number, 0 where there is none, and both stores, whole: a
+// refusal leaves both as they were, and nothing past the sizes is ever touched.
 //
 // It uses `store` for the layout and the checks that calls begin with, `params` for the limits, and `norm`
 // for scaling.
@@ -12,6 +12,7 @@
 ghost use Rattle.std.specs.Prelude.{◌≡◌, true, ◌++◌, ◌+◌, ◌≤◌, length, take, drop};
 ghost use Rattle.std.specs.Float.{binary32};
 ghost use Rattle.basics.specs.Refusals.{first_refusal};
+ghost use Rattle.error.specs.Refused.{answer_of};
 ghost use Rattle.params.specs.Limits.{within_limits};
 ghost use Rattle.norm.specs.Norm.{scaled_of};
 ghost use Rattle.store.specs.Layout.{header_size};
@@ -19,26 +20,32 @@ ghost use Rattle.store.specs.View.{empty_header};
 ghost use Rattle.pipnn.specs.New.{new_checks, new_spec};
 ghost use Rattle.pipnn.specs.Add.{add_checks, add_spec};
 
+use error::Refusal;
 use params::{PipnnParams, finite};
-use store::Lent;
+use store::Layout;
 use words::ids::{DocId, Node};
-use words::slices;
 
-// The number of the first of `new`'s checks that fails, or 0.
-fn new_refusal(words: &[u32], floats: &[f32], dimension: u32, p: PipnnParams, capacity: u32) -> u32
-    ensures { result ≡ first_refusal (new_checks dimension p capacity words.now floats.now) }
+// The first of `new`'s checks that fails.
+fn check_new(
+    words: &[u32],
+    floats: &[f32],
+    dimension: u32,
+    p: PipnnParams,
+    capacity: u32,
+) -> Result<(), Refusal>
+    ensures { answer_of result ≡ first_refusal (new_checks dimension p capacity words.now floats.now) }
 {
     if !params::dimension_within(dimension) {
-        return error::DIMENSION_OUT_OF_RANGE;
+        return Err(Refusal::DimensionOutOfRange);
     }
     if !(params::within_limits(p) & params::capacity_within(capacity)) {
-        return error::PARAMETER_OUT_OF_RANGE;
+        return Err(Refusal::ParameterOutOfRange);
     }
     let degree = p.max_degree as u16;
-    if store::store_short(words, floats, capacity, degree, dimension) {
-        return error::SLICE_TOO_SHORT;
+    if store::store_short(words, floats, Layout { capacity, degree }, dimension) {
+        return Err(Refusal::SliceTooShort);
     }
-    0
+    Ok(())
 }
 
 // Writes the header of an open store with no nodes.
@@ -73,43 +80,38 @@ pub fn new(
     dimension: u32,
     params: PipnnParams,
     capacity: u32,
-) -> u32
-    ensures { (result, words.new, floats.new) ≡ new_spec dimension params capacity words.old floats.old }
+) -> Result<(), Refusal>
+    ensures { (answer_of result, words.new, floats.new) ≡ new_spec dimension params capacity words.old floats.old }
 {
-    let refusal = new_refusal(words, floats, dimension, params, capacity);
-    if refusal != 0 {
-        return refusal;
-    }
+    check_new(words, floats, dimension, params, capacity)?;
     let degree = params.max_degree as u16;
-    let words_end = store::words_size(capacity, degree);
+    let layout = Layout { capacity, degree };
+    let words_end = layout.words_size();
     let floats_end = store::floats_size(capacity, dimension);
     put_header(words, dimension, params, capacity);
-    slices::clear_words(&mut words[store::HEADER_SIZE..words_end]);
-    slices::clear_floats(&mut floats[..floats_end]);
-    0
+    words[store::HEADER_SIZE..words_end].fill(0);
+    floats[..floats_end].fill(0.0);
+    Ok(())
 }
 
-// The number of the first of add's checks that fails, or 0.
-fn add_refusal(words: &[u32], floats: &[f32], vector: &[f32]) -> u32
-    ensures { result ≡ first_refusal (add_checks words.now floats.now vector.now) }
+// The first of add's checks that fails.
+fn check_add(words: &[u32], floats: &[f32], vector: &[f32]) -> Result<(), Refusal>
+    ensures { answer_of result ≡ first_refusal (add_checks words.now floats.now vector.now) }
 {
-    let refusal = store::opening_refusal(words, floats, Lent::Nothing);
-    if refusal != 0 {
-        return refusal;
-    }
+    store::check_opening(words, floats, None)?;
     if store::word_at(words, store::STATE) == store::BUILT {
-        return error::ALREADY_BUILT;
+        return Err(Refusal::AlreadyBuilt);
     }
     if vector.len() != store::word_at(words, store::DIMENSION) as usize {
-        return error::DIMENSION_MISMATCH;
+        return Err(Refusal::DimensionMismatch);
     }
     if !finite::all_finite(vector) {
-        return error::NON_FINITE_INPUT;
+        return Err(Refusal::NonFiniteInput);
     }
     if store::word_at(words, store::NODES) == store::word_at(words, store::CAPACITY) {
-        return error::FULL;
+        return Err(Refusal::Full);
     }
-    0
+    Ok(())
 }
 
 // Puts the scaled vector in its place, `at`.
@@ -119,22 +121,24 @@ fn put_vector(floats: &mut [f32], at: usize, vector: &[f32])
         ≡ take at floats.old ++ (scaled_of binary32 vector.now ++ drop (at + length vector.now) floats.old) }
 {
     let end = at + vector.len();
-    slices::copy_floats(&mut floats[at..end], vector);
+    floats[at..end].copy_from_slice(vector);
     norm::normalize(&mut floats[at..end]);
 }
 
 // `PipnnIndex::add_slice`: the vector, scaled, and its doc id become node n of an open store.
-pub fn add_slice(words: &mut [u32], floats: &mut [f32], doc: DocId, vector: &[f32]) -> u32
-    ensures { (result, words.new, floats.new) ≡ add_spec words.old floats.old doc.0 vector.now }
+pub fn add_slice(
+    words: &mut [u32],
+    floats: &mut [f32],
+    doc: DocId,
+    vector: &[f32],
+) -> Result<(), Refusal>
+    ensures { (answer_of result, words.new, floats.new) ≡ add_spec words.old floats.old doc.0 vector.now }
 {
-    let refusal = add_refusal(words, floats, vector);
-    if refusal != 0 {
-        return refusal;
-    }
+    check_add(words, floats, vector)?;
     let n = store::word_at(words, store::NODES);
     let at = store::floats_size(n, store::word_at(words, store::DIMENSION));
     put_vector(floats, at, vector);
     store::put_doc(words, Node(n), doc);
     words[store::NODES] = n + 1;
-    0
+    Ok(())
 }

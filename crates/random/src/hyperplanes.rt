@@ -9,7 +9,6 @@ ghost use Rattle.std.specs.Prelude.{◌≡◌, min, ◌++◌, length, drop};
 ghost use Rattle.std.specs.Float.{binary32};
 ghost use Rattle.random.specs.Hyperplanes.{plane_numbers};
 
-use words::slices;
 
 const PLANES: [u32; 1024] = [
     0x3e0b_bc57,
@@ -1044,10 +1043,8 @@ pub fn planes_into(out: &mut [f32])
         ≡ plane_numbers binary32 (min (length out.old) 1024) ++ drop (min (length out.old) 1024) out.old }
 {
     let table = PLANES;
-    let n = slices::lesser(out.len(), 1024);
-    let mut k: usize = 0;
-    while k < n {
+    let n = out.len().min(1024);
+    for k in 0..n {
         out[k] = f32::from_bits(table[k]);
-        k += 1;
     }
 }

@@ -4,37 +4,16 @@
 // Counts and draws are equal to `leader_count` and `drawn` of specs/Leaders. The draws' recurrence has
 // its own addend, 1; r starts anew for each segment, from its level alone.
 ghost use Rattle.std.specs.Prelude.{◌≡◌, ◌^◌, ◌≤◌, min, ◌++◌, length, drop};
-ghost use Rattle.std.specs.Float.Ieee.{to_unsigned};
 ghost use Rattle.random.specs.Leaders.{leader_count, drawn, drawn_into, up_to};
 
 use super::lcg;
-use words::slices;
 
 // The floor of the rounded product of length and fraction, at least 2, at most the length.
 pub fn leader_count(n: u32, fraction: f64) -> u32
     ensures { result ≡ leader_count n fraction }
 {
-    let k = floor_to((n as f64) * fraction, n as u64) as u32;
-    if k >= 2 {
-        return k;
-    }
-    if n < 2 { n } else { 2 }
-}
-
-// The whole part of x, from 0 up to `top`; 0 where x is no number.
-fn floor_to(x: f64, top: u64) -> u64
-    ensures { result ≡ min top (to_unsigned 64 x) }
-{
-    if x > -1.0 {
-        if x < 18446744073709551616.0 {
-            let whole = std::num::truncating_f64_to_u64(x);
-            if whole < top {
-                return whole;
-            }
-        }
-        return top;
-    }
-    0
+    let floor = std::num::saturating_f64_to_u64((n as f64) * fraction);
+    floor.max(2).min(n as u64) as u32
 }
 
 // Draws positions of a segment of n, or of as many as `left` has room for: as many as `out` has room
@@ -42,7 +21,7 @@ fn floor_to(x: f64, top: u64) -> u64
 pub fn draw_leaders(level: u32, n: u32, left: &mut [u32], out: &mut [u32])
     ensures { out.new ≡ drawn_into level (min n (length left.old)) out.old }
 {
-    let room = slices::lesser(n as usize, left.len());
+    let room = (n as usize).min(left.len());
     draw_segment(level, &mut left[..room], out);
 }
 
@@ -51,7 +30,7 @@ pub fn draw_leaders(level: u32, n: u32, left: &mut [u32], out: &mut [u32])
 pub fn all_positions(n: u32, left: &mut [u32])
     ensures { left.new ≡ up_to (min n (length left.old)) ++ drop (min n (length left.old)) left.old }
 {
-    let room = slices::lesser(n as usize, left.len());
+    let room = (n as usize).min(left.len());
     count_up(&mut left[..room]);
 }
 
@@ -61,7 +40,7 @@ fn draw_segment(level: u32, left: &mut [u32], out: &mut [u32])
     ensures { out.new ≡ drawn_into level (length left.old) out.old }
 {
     count_up(left);
-    let count = slices::lesser(out.len(), left.len());
+    let count = out.len().min(left.len());
     draw(left, out, count, (level as u64) * 2654435761 + 42);
 }
 
@@ -70,10 +49,8 @@ fn count_up(left: &mut [u32])
     requires { length left.old ≤ 2 ^ 32 }
     ensures { left.new ≡ up_to (length left.old) }
 {
-    let mut i: usize = 0;
-    while i < left.len() {
+    for i in 0..left.len() {
         left[i] = i as u32;
-        i += 1;
     }
 }
 
@@ -84,14 +61,12 @@ fn draw(left: &mut [u32], out: &mut [u32], count: usize, start: u64)
     ensures { out.new ≡ drawn count start left.old ++ drop count out.old }
 {
     let mut r = start;
-    let mut i: usize = 0;
-    while i < count {
+    for i in 0..count {
         r = lcg::next_draw(r);
         let rest = left.len() - i;
         let p = ((r / 0x2_0000_0000) % (rest as u64)) as usize;
         let last = left[rest - 1];
         out[i] = left[p];
         left[p] = last;
-        i += 1;
     }
 }

@@ -10,14 +10,15 @@ use borrow.Author.Tests.{ltb-false, not-false}
 use Rattle.basics.specs.Refusals.{Numbered, first_refusal}
 use Rattle.basics.proofs.Refusals.{passes}
 use Rattle.basics.proofs.Tests.{both_false}
-use Rattle.store.specs.declared.Lent.{Lent}
+use Rattle.std.proofs.Common.{Option}
+use Rattle.store.specs.declared.Scratch.{Scratch}
 use Rattle.store.specs.Layout.{word, header_size, dimension_at, degree_at, capacity_at, words_size, floats_size}
 use Rattle.store.specs.WellFormed.{rest_ok}
 use Rattle.store.specs.Opening.{scratch_short, opening}
 use Rattle.store.proofs.Header.{Header, header}
 use Rattle.store.proofs.Sizes.{Room, room}
 
-module _ (lent : Lent) (w : List ℕ) (f : List Float) where
+module _ (lent : Option Scratch) (w : List ℕ) (f : List Float) where
   pub opening_numbered : Numbered (opening lent w f)
   unfolding opening
   opening_numbered = omega arith

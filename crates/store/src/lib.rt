@@ -5,8 +5,8 @@
 // which checks every call but `new` begins with (specs/Opening). Offsets and sizes are computed here and
 // nowhere else. The Rust keeps vectors of vectors, and has no such checks.
 //
-// It promises: each reader returns what the layout says, on slices of any length; `opening_refusal` returns
-// the number of the first check that fails, or 0. The check reads each word of the store once and joins its
+// It promises: each reader returns what the layout says, on slices of any length; `check_opening` returns
+// the refusal of the first check that fails. The check reads each word of the store once and joins its
 // tests without a branch for each word, since it happens at every call.
 //
 // It uses `params` for the limits, `bits` for the two floats of the header and `finite` for the vectors.
@@ -34,8 +34,10 @@ ghost use Rattle.store.specs.Layout.{
 };
 ghost use Rattle.store.specs.View.{params_of};
 ghost use Rattle.store.specs.WellFormed.{is_node, header_ok, row_ok, count_ok, bridge_ok, rest_ok};
+ghost use Rattle.error.specs.Refused.{answer_of};
 ghost use Rattle.store.specs.Opening.{store_short, scratch_short, too_short, opening};
 
+use error::Refusal;
 use params::{PipnnParams, finite};
 use words::ids::{DocId, Node};
 pub use words::slices::word_at;
@@ -95,49 +97,59 @@ pub fn doc_of(words: &[u32], node: Node) -> DocId
 pub fn put_doc(words: &mut [u32], node: Node, doc: DocId)
     ensures { words.new ≡ set words.old (docs_at + node.0) doc.0 }
 {
-    slices::put_word(words, HEADER_SIZE + node.0 as usize, doc.0);
+    slices::put(words, HEADER_SIZE + node.0 as usize, doc.0);
 }
 
-// Where the rows start. Of the offsets and sizes below none can leave a usize, since a degree comes as a u16.
+// Where the rows start.
 pub fn rows_at(capacity: u32) -> usize
     ensures { result ≡ rows_at capacity }
 {
     HEADER_SIZE + capacity as usize
 }
 
-// A row's words: its count and D entries.
-fn row_size(degree: u16) -> usize
-    ensures { result ≡ row_size degree }
-{
-    1 + degree as usize
+// What decides where rows and bridges stand. None of their offsets and sizes can leave a usize, since a degree comes as
+// a u16.
+#[derive(Clone, Copy)]
+pub struct Layout {
+    pub capacity: u32,
+    pub degree: u16,
 }
 
-// Where a node's row starts.
-pub fn row_at(capacity: u32, degree: u16, node: Node) -> usize
-    ensures { result ≡ row_at capacity degree node.0 }
-{
-    rows_at(capacity) + node.0 as usize * row_size(degree)
-}
+impl Layout {
+    // A row's words: its count and D entries.
+    fn row_size(self) -> usize
+        ensures { result ≡ row_size self.degree }
+    {
+        1 + self.degree as usize
+    }
 
-// Where the bridges start.
-pub fn bridges_at(capacity: u32, degree: u16) -> usize
-    ensures { result ≡ bridges_at capacity degree }
-{
-    rows_at(capacity) + capacity as usize * row_size(degree)
-}
+    // Where a node's row starts.
+    pub fn row_at(self, node: Node) -> usize
+        ensures { result ≡ row_at self.capacity self.degree node.0 }
+    {
+        rows_at(self.capacity) + node.0 as usize * self.row_size()
+    }
 
-// Where bridge j starts.
-pub fn bridge_at(capacity: u32, degree: u16, j: u32) -> usize
-    ensures { result ≡ bridge_at capacity degree j }
-{
-    bridges_at(capacity, degree) + j as usize * BRIDGE_SIZE
-}
+    // Where the bridges start.
+    pub fn bridges_at(self) -> usize
+        ensures { result ≡ bridges_at self.capacity self.degree }
+    {
+        rows_at(self.capacity) + self.capacity as usize * self.row_size()
+    }
 
-// The word store's size.
-pub fn words_size(capacity: u32, degree: u16) -> usize
-    ensures { result ≡ words_size capacity degree }
-{
-    HEADER_SIZE + capacity as usize * (4 + degree as usize)
+    // Where bridge j starts.
+    pub fn bridge_at(self, j: u32) -> usize
+        ensures { result ≡ bridge_at self.capacity self.degree j }
+    {
+        self.bridges_at() + j as usize * BRIDGE_SIZE
+    }
+
+    // The word store's size.
+    pub fn words_size(self) -> usize
+        ensures { result ≡ words_size self.capacity self.degree }
+    {
+        HEADER_SIZE + self.capacity as usize * (4 + self.degree as usize)
+    }
 }
 
 // The float store's size.
@@ -199,15 +211,13 @@ fn header_ok(words: &[u32]) -> bool
         & (open | built)
 }
 
-// Whether each entry is a node.
+// Whether each entry is a node. Each is read, whatever came before it.
 fn all_nodes(entries: &[u32], n: u32) -> bool
     ensures { result ≡ every (is_node n) entries.now }
 {
     let mut ok = true;
-    let mut i = 0;
-    while i < entries.len() {
-        ok = ok & (entries[i] < n);
-        i += 1;
+    for entry in entries {
+        ok = ok & (*entry < n);
     }
     ok
 }
@@ -220,12 +230,10 @@ fn nodes_by_fours(entries: &[u32], n: u32) -> bool
     let quarter = entries.len() / 4;
     let rest = 4 * quarter;
     let mut ok = all_nodes(&entries[rest..], n);
-    let mut i = 0;
-    while i < quarter {
+    for i in 0..quarter {
         let low = (entries[i] < n) & (entries[quarter + i] < n);
         let high = (entries[2 * quarter + i] < n) & (entries[3 * quarter + i] < n);
         ok = ok & (low & high);
-        i += 1;
     }
     ok
 }
@@ -243,71 +251,66 @@ fn row_ok(row: &[u32], degree: u16, n: u32) -> bool
     all_nodes(&row[1..end], n)
 }
 
-// Whether each of the n rows from `from` on is, row by row.
-fn each_row_ok(words: &[u32], from: usize, degree: u16, n: u32) -> bool
-    requires { from + n * row_size degree ≤ length words.now }
-    ensures { result ≡ every (row_ok degree n) (pieces (row_size degree) n (drop from words.now)) }
+// Whether each of n rows is, row by row.
+fn each_row_ok(rows: &[u32], degree: u16, n: u32) -> bool
+    requires { length rows.now ≡ n * row_size degree }
+    ensures { result ≡ every (row_ok degree n) (pieces (row_size degree) n rows.now) }
 {
-    let size = row_size(degree);
     let mut ok = true;
-    let mut at = from;
-    let mut i: u32 = 0;
-    while i < n {
-        let end = at + size;
-        ok = ok & row_ok(&words[at..end], degree, n);
-        at = end;
-        i += 1;
+    for row in rows.chunks_exact(1 + degree as usize) {
+        ok = ok & row_ok(row, degree, n);
     }
     ok
 }
 
 // Whether each of them counts at most D entries.
-fn counts_ok(words: &[u32], from: usize, degree: u16, n: u32) -> bool
-    requires { from + n * row_size degree ≤ length words.now }
-    ensures { result ≡ every (count_ok degree) (pieces (row_size degree) n (drop from words.now)) }
+fn counts_ok(rows: &[u32], degree: u16, n: u32) -> bool
+    requires { length rows.now ≡ n * row_size degree }
+    ensures { result ≡ every (count_ok degree) (pieces (row_size degree) n rows.now) }
 {
-    let size = row_size(degree);
     let mut ok = true;
-    let mut at = from;
-    let mut i: u32 = 0;
-    while i < n {
-        ok = ok & (words[at] <= degree as u32);
-        at += size;
-        i += 1;
+    for row in rows.chunks_exact(1 + degree as usize) {
+        ok = ok & (row[0] <= degree as u32);
     }
     ok
 }
 
-// Whether each of the n rows from `from` on is well formed. In rows as the calls leave them every word is a
-// valid node number, the counts and what is past them too, if there are more nodes than D: then one pass over
-// all words of the rows is enough. Where it fails, each row is checked by itself.
-fn rows_ok(words: &[u32], from: usize, degree: u16, n: u32) -> bool
-    requires { from + n * row_size degree ≤ length words.now }
-    ensures { result ≡ every (row_ok degree n) (pieces (row_size degree) n (drop from words.now)) }
+// Whether each of n rows is well formed. In rows as the calls leave them every word is a valid node number, the counts
+// and what is past them too, if there are more nodes than D: then one pass over all words of the rows is enough. Where
+// it fails, each row is checked by itself.
+fn rows_ok(rows: &[u32], degree: u16, n: u32) -> bool
+    requires { length rows.now ≡ n * row_size degree }
+    ensures { result ≡ every (row_ok degree n) (pieces (row_size degree) n rows.now) }
 {
-    let end = from + n as usize * row_size(degree);
-    if counts_ok(words, from, degree, n) & nodes_by_fours(&words[from..end], n) {
+    if counts_ok(rows, degree, n) & nodes_by_fours(rows, n) {
         return true;
     }
-    each_row_ok(words, from, degree, n)
+    each_row_ok(rows, degree, n)
 }
 
-// Whether each of the bridges from `from` on has two different nodes for its ends.
-fn bridges_ok(words: &[u32], from: usize, count: u32, n: u32) -> bool
-    requires { from + count * bridge_size ≤ length words.now }
-    ensures { result ≡ every (bridge_ok n) (pieces bridge_size count (drop from words.now)) }
+// Whether each of some bridges has two different nodes for its ends.
+fn bridges_ok(bridges: &[u32], count: u32, n: u32) -> bool
+    requires { length bridges.now ≡ count * bridge_size }
+    ensures { result ≡ every (bridge_ok n) (pieces bridge_size count bridges.now) }
 {
     let mut ok = true;
-    let mut at = from;
-    let mut i: u32 = 0;
-    while i < count {
-        let near = words[at];
-        let far = words[at + 1];
+    for bridge in bridges.chunks_exact(BRIDGE_SIZE) {
+        let near = bridge[0];
+        let far = bridge[1];
         ok = ok & ((near < n) & (far < n) & (near != far));
-        at += BRIDGE_SIZE;
-        i += 1;
     }
     ok
+}
+
+// Where the header puts rows and bridges. A header that is well formed has a degree of 32 at most.
+fn layout_of(words: &[u32]) -> Layout
+    requires { header_ok words.now ≡ true }
+    ensures { (result.capacity ≡ word words.now capacity_at) × (result.degree ≡ word words.now degree_at) }
+{
+    Layout {
+        capacity: word_at(words, CAPACITY),
+        degree: word_at(words, DEGREE) as u16,
+    }
 }
 
 // Whether the rest of the store is well formed, after a header that is.
@@ -318,73 +321,70 @@ fn rest_ok(words: &[u32], floats: &[f32]) -> bool
     ensures { result ≡ rest_ok words.now floats.now }
 {
     let n = word_at(words, NODES);
-    let capacity = word_at(words, CAPACITY);
-    let degree = word_at(words, DEGREE) as u16;
     let bridges = word_at(words, BRIDGE_COUNT);
+    let layout = layout_of(words);
+    let rows_from = rows_at(layout.capacity);
+    let rows_to = layout.row_at(Node(n));
+    let bridges_from = layout.bridges_at();
+    let bridges_to = layout.bridge_at(bridges);
     let vectors_end = floats_size(n, word_at(words, DIMENSION));
-    rows_ok(words, rows_at(capacity), degree, n)
-        & bridges_ok(words, bridges_at(capacity, degree), bridges, n)
+    rows_ok(&words[rows_from..rows_to], layout.degree, n)
+        & bridges_ok(&words[bridges_from..bridges_to], bridges, n)
         & finite::all_finite(&floats[..vectors_end])
 }
 
 // Whether a store is shorter than its shape asks.
-pub fn store_short(
-    words: &[u32],
-    floats: &[f32],
-    capacity: u32,
-    degree: u16,
-    dimension: u32,
-) -> bool
-    ensures { result ≡ store_short capacity degree dimension words.now floats.now }
+pub fn store_short(words: &[u32], floats: &[f32], layout: Layout, dimension: u32) -> bool
+    ensures { result ≡ store_short layout.capacity layout.degree dimension words.now floats.now }
 {
-    (words.len() < words_size(capacity, degree)) | (floats.len() < floats_size(capacity, dimension))
+    (words.len() < layout.words_size()) | (floats.len() < floats_size(layout.capacity, dimension))
 }
 
-// What a call is passed besides the two stores: nothing, or scratch, by its numbers of words and floats.
+// The scratch that a call is passed besides the two stores, by its numbers of words and floats.
 #[derive(Clone, Copy)]
-pub enum Lent {
-    Nothing,
-    Scratch { words: usize, floats: usize },
+pub struct Scratch {
+    pub words: usize,
+    pub floats: usize,
 }
 
 // Whether scratch is passed in, and too short.
-fn scratch_short(capacity: u32, lent: Lent) -> bool
+fn scratch_short(capacity: u32, lent: Option<Scratch>) -> bool
     ensures { result ≡ scratch_short capacity lent }
 {
     match lent {
-        Lent::Nothing => false,
-        Lent::Scratch { words, floats } => {
-            (words < scratch_words(capacity)) | (floats < scratch_floats(capacity))
+        None => false,
+        Some(scratch) => {
+            (scratch.words < scratch_words(capacity)) | (scratch.floats < scratch_floats(capacity))
         }
     }
 }
 
 // Whether what is passed in is shorter than the header's shape asks.
-fn too_short(words: &[u32], floats: &[f32], lent: Lent) -> bool
+fn too_short(words: &[u32], floats: &[f32], lent: Option<Scratch>) -> bool
     requires { header_ok words.now ≡ true }
     ensures { result ≡ too_short lent words.now floats.now }
 {
-    let capacity = word_at(words, CAPACITY);
-    let degree = word_at(words, DEGREE) as u16;
-    let dimension = word_at(words, DIMENSION);
-    store_short(words, floats, capacity, degree, dimension) | scratch_short(capacity, lent)
+    let layout = layout_of(words);
+    store_short(words, floats, layout, word_at(words, DIMENSION))
+        | scratch_short(layout.capacity, lent)
 }
 
-// The checks with which every call but `new` begins: the number of the first that fails, or 0.
-pub fn opening_refusal(words: &[u32], floats: &[f32], lent: Lent) -> u32
-    ensures { result ≡ first_refusal (opening lent words.now floats.now) }
+// The checks with which every call but `new` begins: the first that fails is the refusal. `lent` is the scratch of a call
+// that takes some.
+pub fn check_opening(words: &[u32], floats: &[f32], lent: Option<Scratch>) -> Result<(), Refusal>
+    ensures { answer_of result ≡ first_refusal (opening lent words.now floats.now) }
 {
     if words.len() < HEADER_SIZE {
-        return error::SLICE_TOO_SHORT;
+        return Err(Refusal::SliceTooShort);
     }
     if !header_ok(words) {
-        return error::NOT_WELL_FORMED;
+        return Err(Refusal::NotWellFormed);
     }
     if too_short(words, floats, lent) {
-        return error::SLICE_TOO_SHORT;
+        return Err(Refusal::SliceTooShort);
     }
     if !rest_ok(words, floats) {
-        return error::NOT_WELL_FORMED;
+        return Err(Refusal::NotWellFormed);
     }
-    0
+    Ok(())
 }

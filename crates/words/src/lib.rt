@@ -2,7 +2,7 @@
 //
 // ids     node numbers and doc ids, as two types
 // bits    floats from bit patterns of any kind, and back
-// slices  slices cleared and copied, a word read or written where there may be none, the lesser of two numbers
+// slices  a word read, an element written, where there may be none
 #![tactic(auto)]
 
 pub mod bits;

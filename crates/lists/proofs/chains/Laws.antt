@@ -367,7 +367,7 @@ module _ (ws : List ℕ) (i : ℕ) where
 path_ends : (n : ℕ) (ws links : List ℕ) (link : ℕ) (ss : List ℕ) → Path n links link ss → linked_ends n ws links link ≡ map (λ s. other_end_at ws (suc s)) ss
 path_ends n ws links link [] p = ap (linked_ends n ws links) p ∙ linked_none n ws links
 path_ends n ws links link (s ∷ ss) p =
-    ap (linked_ends n ws links) p.0 ∙ linked_more n ws links s (omega (arith, p.1))
+    ap (linked_ends n ws links) p.0 ∙ linked_more n ws links s
     ∙ ap (λ (l : List ℕ). other_end_at ws (suc s) ∷ l) (path_ends n ws links (next_link n links (suc s)) ss p.2)
 
 first_is : (n : ℕ) (links : List ℕ) (i : ℕ) (ss : List ℕ) → Path n links (get_or links i 0) ss → first_link n links i ≡ get_or links i 0

@@ -57,17 +57,16 @@ module _ (n : ℕ) (bridges links : List ℕ) where
   unfolding linked_ends
   linked_none = ends_none (suc (length links))
 
-  pub linked_more : (s : ℕ) → suc s ≤ length links
-      → linked_ends n bridges links (suc s) ≡ other_end_at bridges (suc s) ∷ linked_ends n bridges links (next_link n links (suc s))
+  -- from a link on; one that has no place leads to no other
+  pub linked_more : (s : ℕ) → linked_ends n bridges links (suc s) ≡ other_end_at bridges (suc s) ∷ linked_ends n bridges links (next_link n links (suc s))
   unfolding linked_ends ends_from
-  linked_more s p =
+  linked_more s =
       ap (λ (l : List ℕ). other_end_at bridges (suc s) ∷ l) (elim (next_cases n links (suc s)) [
         | inl e ↦ rw e (ends_none (length links) ∙ sym (ends_none (suc (length links))))
         | inr q ↦ ends_fuel (length links) (suc (length links)) (next_link n links (suc s)) (omega arith) (omega arith) (omega arith)
       ])
 
   -- the same of a link that is not none
-  pub linked_step : (link : ℕ) → (link ≡ 0 → ⊥) → link ≤ length links
-      → linked_ends n bridges links link ≡ other_end_at bridges link ∷ linked_ends n bridges links (next_link n links link)
-  linked_step zero h p = absurd (h refl)
-  linked_step (suc s) h p = linked_more s p
+  pub linked_step : (link : ℕ) → (link ≡ 0 → ⊥) → linked_ends n bridges links link ≡ other_end_at bridges link ∷ linked_ends n bridges links (next_link n links link)
+  linked_step zero h = absurd (h refl)
+  linked_step (suc s) h = linked_more s

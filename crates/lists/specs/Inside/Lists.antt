@@ -1,32 +1,30 @@
--- A node's list, as words hold it (scope, Records): its row, then the other ends of its bridges, by their chain. A reader goes along it with a
--- cursor: an index of the row and, past the row, a link.
-use Rattle.std.specs.Prelude.{Bool, not, ◌||◌, List, [], ◌++◌, ℕ, ◌+◌, eqb, ltb, length, get_or, drop}
-use Rattle.basics.specs.Choice.{pick}
+-- A node's list, as words hold it (scope, Records): its row, then the other ends of its bridges, by their chain.
+use Rattle.std.specs.Prelude.{List, [], ◌++◌, ℕ, get_or}
 use Rattle.lists.specs.Inside.Words.{row_lists}
 use Rattle.lists.specs.declared.Shape.{Shape}
-use Rattle.lists.specs.declared.chains.Cursor.{Cursor}
-use Rattle.lists.specs.Inside.Chains.{other_end_at, first_link, next_link, linked_ends}
+use Rattle.lists.specs.declared.chains.Ends.{Ends}
+use Rattle.lists.specs.declared.chains.Entries.{Entries}
+use Rattle.lists.specs.declared.chains.Lists.{Lists}
+use Rattle.lists.specs.Inside.Chains.{first_link, linked_ends}
+
+-- the other ends of node u's bridges
+abbrev pub ends_words : ℕ → List ℕ → List ℕ → ℕ → List ℕ
+ends_words n bridges links u = linked_ends n bridges links (first_link n links u)
 
 -- the list of node u
 abbrev pub list_words : Shape → List ℕ → List ℕ → List ℕ → ℕ → List ℕ
-list_words s rows bridges links u = get_or (row_lists s.degree rows) u [] ++ linked_ends s.n bridges links (first_link s.n links u)
+list_words s rows bridges links u = get_or (row_lists s.degree rows) u [] ++ ends_words s.n bridges links u
 
-abbrev pub cursor_at : ℕ → ℕ → Cursor
-cursor_at index link = record { index = index; link = link }
+-- both, of an index's lists in slices
+abbrev pub ends_of : Lists → ℕ → List ℕ
+ends_of l = ends_words l.shape.n l.bridges.now l.links.now
 
--- what is left of a list from a cursor on
-abbrev pub list_from : ℕ → List ℕ → List ℕ → List ℕ → Cursor → List ℕ
-list_from n row bridges links at = drop at.index row ++ linked_ends n bridges links at.link
+abbrev pub list_in : Lists → ℕ → List ℕ
+list_in l = list_words l.shape l.rows.now l.bridges.now l.links.now
 
-abbrev pub has_entry : List ℕ → Cursor → Bool
-has_entry row at = ltb at.index (length row) || not (eqb at.link 0)
+-- what is left of them
+abbrev pub ends_left : Ends → List ℕ
+ends_left e = linked_ends e.n e.bridges.now e.links.now e.link
 
--- the entry at a cursor, and the cursor one entry further
-unfoldable pub entry_at : List ℕ → List ℕ → Cursor → ℕ
-unfolding pick other_end_at
-entry_at row bridges at = pick (ltb at.index (length row)) (get_or row at.index 0) (other_end_at bridges at.link)
-
-unfoldable pub next_cursor : ℕ → List ℕ → List ℕ → Cursor → Cursor
-unfolding pick next_link
-next_cursor n row links at =
-    pick (ltb at.index (length row)) (cursor_at (at.index + 1) at.link) (cursor_at at.index (next_link n links at.link))
+abbrev pub entries_left : Entries → List ℕ
+entries_left e = e.row.now ++ ends_left e.ends

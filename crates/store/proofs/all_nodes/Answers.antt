@@ -1,21 +1,16 @@
--- `store::all_nodes` meets its contract: what is gathered so far, and the entries left, make the whole test. Assumes nothing.
-use mathlib.Core.Path.{refl}
-use native.Mathlib.Omega.{arith}
-use lib.ListN.{get_or}
-use Rattle.basics.specs.Lists.{every}
+-- One entry more, and the end. Assumes nothing.
+use Rattle.std.proofs.Common.{get_or, refl, arith}
 use Rattle.basics.proofs.Every.{gather_step, gather_end}
 use Rattle.store.specs.WellFormed.{is_node}
 use Rattle.store.proofs.all_nodes.Goals as goal
 
-pub loop-i-preserved : goal.loop-i-preserved
-loop-i-preserved c =
+pub loop-entry-preserved : goal.loop-entry-preserved
+loop-entry-preserved c =
     let entries = c.args.entries.now in
-    let n = c.args.n in
-    let l = c.loop-i in
-    (omega arith, gather_step (is_node n) entries 0 l.i l.ok (is_node n (get_or entries l.i 0)) (every (is_node n) entries) (omega arith) refl l.invariant.1)
+    let l = c.loop-entry in
+    gather_step (is_node c.args.n) entries 0 l.entry-index l.ok (is_node c.args.n (get_or entries l.entry-index 0)) _ (omega arith) refl l.invariant
 
 pub returns : goal.returns
 returns c =
-    let entries = c.args.entries.now in
-    let l = c.loop-i in
-    gather_end (is_node c.args.n) entries l.i l.ok _ (omega arith) l.invariant.1
+    let l = c.loop-entry in
+    gather_end (is_node c.args.n) c.args.entries.now l.entry-index l.ok _ (omega arith) l.invariant

@@ -1,17 +1,12 @@
--- `store::bridges_ok` meets its contract: what is gathered so far, and the bridges from the i-th on, make the whole test. Assumes nothing.
-use mathlib.Core.Path.{◌≡◌}
-use mathlib.Core.Bool.{◌&&◌}
-use Prim.Native.Nat.{◌+◌, ◌-◌, ◌*◌, ◌≤◌}
-use lib.ListN.{drop}
+-- What is gathered so far, and the bridges left, make the whole test. Assumes nothing.
+use Rattle.std.proofs.Common.{◌≡◌}
 use Rattle.basics.specs.Lists.{every, pieces}
+use Rattle.basics.proofs.Every.{Gathered}
 use Rattle.store.specs.Layout.{bridge_size}
 use Rattle.store.specs.WellFormed.{bridge_ok}
 use Rattle.store.proofs.bridges_ok.Given as goal
 
-abbrev pub invariant-loop-i : goal.invariant-loop-i
-invariant-loop-i l =
-    (l.i ≤ l.initial.count) × (l.at ≡ l.initial.from + l.i * bridge_size)
-    × ((l.ok && every (bridge_ok l.initial.n) (pieces bridge_size (l.initial.count - l.i) (drop l.at l.initial.words))) ≡ every (bridge_ok l.initial.n) (pieces bridge_size l.initial.count (drop l.initial.from l.initial.words)))
-
-abbrev pub decreases-loop-i : goal.decreases-loop-i
-decreases-loop-i l = l.initial.count - l.i
+abbrev pub invariant-loop-bridge : goal.invariant-loop-bridge
+invariant-loop-bridge l =
+    (l.bridge-iterator.size ≡ bridge_size)
+    × Gathered (bridge_ok l.n) bridge_size (every (bridge_ok l.n) (pieces bridge_size l.count l.bridges)) l.ok l.bridge-iterator.rest.now

@@ -1,17 +1,12 @@
--- `store::counts_ok` meets its contract: what is gathered so far, and the counts from the i-th row on, make the whole test. Assumes nothing.
-use mathlib.Core.Path.{◌≡◌}
-use mathlib.Core.Bool.{◌&&◌}
-use Prim.Native.Nat.{◌+◌, ◌-◌, ◌*◌, ◌≤◌}
-use lib.ListN.{drop}
+-- What is gathered so far, and the rows left, make the whole test. Assumes nothing.
+use Rattle.std.proofs.Common.{◌≡◌}
 use Rattle.basics.specs.Lists.{every, pieces}
+use Rattle.basics.proofs.Every.{Gathered}
 use Rattle.store.specs.Layout.{row_size}
 use Rattle.store.specs.WellFormed.{count_ok}
 use Rattle.store.proofs.counts_ok.Given as goal
 
-abbrev pub invariant-loop-i : goal.invariant-loop-i
-invariant-loop-i l =
-    (l.i ≤ l.initial.n) × (l.at ≡ l.initial.from + l.i * row_size l.initial.degree)
-    × ((l.ok && every (count_ok l.initial.degree) (pieces (row_size l.initial.degree) (l.initial.n - l.i) (drop l.at l.initial.words))) ≡ every (count_ok l.initial.degree) (pieces (row_size l.initial.degree) l.initial.n (drop l.initial.from l.initial.words)))
-
-abbrev pub decreases-loop-i : goal.decreases-loop-i
-decreases-loop-i l = l.initial.n - l.i
+abbrev pub invariant-loop-row : goal.invariant-loop-row
+invariant-loop-row l =
+    (l.row-iterator.size ≡ row_size l.degree)
+    × Gathered (count_ok l.degree) (row_size l.degree) (every (count_ok l.degree) (pieces (row_size l.degree) l.n l.rows)) l.ok l.row-iterator.rest.now

@@ -1,49 +1,19 @@
--- `store::each_row_ok` meets its contract: what is gathered so far, and the rows from the i-th on, make the whole test. Assumes nothing.
-use mathlib.Core.Path.{◌≡◌}
-use Prim.Native.Nat.{◌+◌, ◌-◌, ◌≤◌}
-use native.Mathlib.Omega.{arith}
-use lib.ListN.{length, length-take, length-drop}
-use Rattle.basics.proofs.Every.{gather_first, gather_piece, gather_last}
+-- One row more, and the end. Assumes nothing.
+use Rattle.std.proofs.Common.{◌∙◌, arith}
+use Rattle.basics.proofs.Every.{gathered_more, gathered_end}
 use Rattle.store.specs.Layout.{row_size}
 use Rattle.store.specs.WellFormed.{row_ok}
-use Rattle.store.proofs.Sizes.{row_within}
 use Rattle.store.proofs.each_row_ok.Goals as goal
-use Rattle.store.proofs.each_row_ok.Goals.{In-loop-i}
 
--- the row that starts at `at` lies within
-row : (c : In-loop-i) → c.loop-i.at + c.row_size-size.result ≤ length c.args.words.now
-row c =
-    let l = c.loop-i in
-    row_within c.args.from c.args.n c.args.degree l.i l.at _ _ c.loop-i-test.true l.invariant.1 c.row_size-size.ensures c.requires
-
-pub slice_bounds-row_ok-end : goal.slice_bounds-row_ok-end
-slice_bounds-row_ok-end c = row (goal.at.slice_bounds-row_ok-end c).In-loop-i
-
-pub loop-i-init : goal.loop-i-init
-loop-i-init c =
-    (omega arith, omega arith, gather_first (row_ok c.args.degree c.args.n) c.args.words.now (row_size c.args.degree) c.args.n c.args.from)
-
-pub loop-i-preserved : goal.loop-i-preserved
-loop-i-preserved c =
-    let l = c.loop-i in
-    let size : c.row_size-size.result ≡ row_size c.args.degree = c.row_size-size.ensures in
-    let part : l.at + row_size c.args.degree - l.at ≡ row_size c.args.degree = omega arith in (
-      omega arith,
-      rw size (omega arith),
-      rw size (gather_piece (row_ok c.args.degree c.args.n) c.args.words.now (row_size c.args.degree) c.args.n l.i l.at l.ok _ _ (omega arith)
-          (rw (size, part) at c.row_ok-ok.ensures) l.invariant.2),
-    )
+pub loop-row-preserved : goal.loop-row-preserved
+loop-row-preserved c =
+    let l = c.loop-row in
+    let steps = c.in-Some.ensures.steps in
+    let turn = gathered_more (row_ok c.args.degree c.args.n) (row_size c.args.degree) _ _ _ l.invariant.1 (omega arith) in
+    (steps.0 ∙ l.invariant.0, turn steps.1.0 (steps.1.1 ∙ l.invariant.0) c.row_ok-ok.ensures)
 
 pub returns : goal.returns
 returns c =
-    let l = c.loop-i in
-    gather_last (row_ok c.args.degree c.args.n) c.args.words.now (row_size c.args.degree) c.args.n l.i l.at l.ok _ (omega arith) l.invariant.2
-
-pub overflow_add-end : goal.overflow_add-end
-overflow_add-end c = omega (arith, row (goal.at.overflow_add-end c).In-loop-i)
-
-pub offset_bounds-words-at : goal.offset_bounds-words-at
-offset_bounds-words-at c = omega (arith, row (goal.at.offset_bounds-words-at c).In-loop-i)
-
-pub row_ok-ok-requires : goal.row_ok-ok-requires
-row_ok-ok-requires c = simp (length-take, length-drop) (omega (arith, row (goal.at.row_ok-ok-requires c).In-loop-i))
+    let l = c.loop-row in
+    let none = c.in-None.ensures.steps in
+    gathered_end (row_ok c.args.degree c.args.n) (row_size c.args.degree) l.invariant.1 (omega (arith, l.invariant.0, none.1.0))

@@ -10,9 +10,9 @@ pub returns : goal.returns
 unfolding append_slot
 returns c =
     let a = c.args in
-    let three = c.put_word-3 in
-    let two = c.put_word-2 in
-    let one = c.put_word in
+    let three = c.put-3 in
+    let two = c.put-2 in
+    let one = c.put in
     let place = c.link_place-place in
     let tail = c.word_at-tail in
     three.ensures

@@ -2,22 +2,21 @@
 use native.Mathlib.Omega.{arith}
 use mathlib.Core.Path.{◌≡◌, ap, ap₂, ◌∙◌}
 use mathlib.Core.List.{List, ◌++◌}
-use Prim.Native.Nat.{ℕ, ◌-◌, ◌*◌, min}
+use Prim.Native.Nat.{ℕ, ◌*◌, min}
 use lib.ListN.{length, take, drop, replicate}
 use lib.Seq.{length-take-le}
 use Rattle.basics.proofs.Members.{drop_min}
 use Rattle.lists.specs.Inside.Chains.{cleared_links}
 use Rattle.lists.proofs.chains.clear_links.Goals as goal
 
-cleared : (n end : ℕ) (links part : List ℕ) → end ≡ min (2 * n) (length links) → part ≡ replicate (length (take (end - 0) links)) 0
-    → part ++ drop (end - 0) links ≡ cleared_links n links
+cleared : (n end : ℕ) (links part : List ℕ) → end ≡ min (2 * n) (length links) → part ≡ replicate (length (take end links)) 0
+    → part ++ drop end links ≡ cleared_links n links
 cleared n end links part e p =
-    let z : end - 0 ≡ min (2 * n) (length links) = omega arith in
-    let k : length (take (end - 0) links) ≡ min (2 * n) (length links) = length-take-le (end - 0) links (omega arith) ∙ z in
-    ap₂ (λ (x : List ℕ) (y : List ℕ). x ++ y) (p ∙ ap (λ (i : ℕ). replicate i 0) k) (ap (λ (i : ℕ). drop i links) z ∙ drop_min (2 * n) links)
+    let k : length (take end links) ≡ min (2 * n) (length links) = length-take-le end links (omega arith) ∙ e in
+    ap₂ (λ (x : List ℕ) (y : List ℕ). x ++ y) (p ∙ ap (λ (i : ℕ). replicate i 0) k) (ap (λ (i : ℕ). drop i links) e ∙ drop_min (2 * n) links)
 
 pub returns : goal.returns
 returns c =
     let a = c.args in
-    let end = c.lesser-end in
-    cleared a.n end.result a.links.now c.clear_words.new.s end.ensures c.clear_words.ensures
+    let end = c.min-end in
+    cleared a.n end.result a.links.now c.fill.new.self end.ensures (c.fill.ensures.after (λ _ e. e))

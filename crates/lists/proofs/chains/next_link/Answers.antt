@@ -16,7 +16,7 @@ unfolding next_link
 chosen c =
     let a = c.args in
     ap (λ (x : ℕ). pick (ltb a.link x && leb (2 * a.n + x) (length a.links.now)) x 0)
-    (c.word_at-next.ensures ∙ ap (λ (k : ℕ). get_or a.links.now k 0) c.before-2.ensures)
+    (c.word_at-next.ensures ∙ ap (λ (k : ℕ). get_or a.links.now k 0) c.saturating_sub-place.ensures)
 
 pub returns-then-link-next : goal.returns-then-link-next
 returns-then-link-next c = sym (pick_true c.word_at-next.result 0 c.if-link-next.true) ∙ chosen (goal.at.returns-then-link-next c).After-word_at-next

@@ -27,7 +27,7 @@ written out₀ out k v e h q =
 
 pub loop-k-init : goal.loop-k-init
 unfolding plane_numbers
-loop-k-init c = (omega arith, omega (arith, c.lesser-n.ensures), omega (arith, c.lesser-n.ensures), refl, refl)
+loop-k-init c = (omega arith, omega (arith, c.min-n.ensures), omega (arith, c.min-n.ensures), refl, refl)
 
 pub float_from_bits-out : goal.float_from_bits-out
 unfolding table
@@ -50,7 +50,7 @@ pub returns : goal.returns
 returns c =
     let l = c.loop-k in
     let out₀ = c.args.out.now in
-    let e : l.k ≡ min (length out₀) 1024 = omega (arith, c.lesser-n.ensures) in
+    let e : l.k ≡ min (length out₀) 1024 = omega (arith, c.min-n.ensures) in
     l.invariant.4 ∙ ap (λ (k : ℕ). plane_numbers binary32 k ++ drop k out₀) e
 
 pub shape_of-out : goal.shape_of-out

@@ -6,12 +6,12 @@ use Rattle.random.proofs.leaders.draw_leaders.Goals as goal
 pub returns : goal.returns
 returns c =
     let x = c.args in
-    let room = c.lesser-room in
+    let room = c.min-room in
     let long = length-take-le room.result x.left.now (omega (arith, room.ensures)) in
     c.draw_segment.ensures ∙ ap (λ (n : ℕ). drawn_into x.level n x.out.now) (long ∙ room.ensures)
 
 pub slice_bounds-draw_segment-end-2 : goal.slice_bounds-draw_segment-end-2
-slice_bounds-draw_segment-end-2 c = sym (length-take-le _ _ (omega (arith, c.lesser-room.ensures)))
+slice_bounds-draw_segment-end-2 c = sym (length-take-le _ _ (omega (arith, c.min-room.ensures)))
 
 pub draw_segment-requires : goal.draw_segment-requires
-draw_segment-requires c = simp length-take (omega (arith, c.lesser-room.ensures))
+draw_segment-requires c = simp length-take (omega (arith, c.min-room.ensures))

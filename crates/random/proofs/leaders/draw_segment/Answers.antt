@@ -19,7 +19,7 @@ joined level n count start left out h e k s =
 pub returns : goal.returns
 returns c =
     let draw = c.draw in
-    let lesser = c.lesser-count in
+    let lesser = c.min-count in
     let up = c.count_up in
     let x = c.args in
     draw.ensures ∙ joined x.level (length x.left.now) lesser.result _ _ x.out.now c.ranges.level.fits up.ensures lesser.ensures refl
