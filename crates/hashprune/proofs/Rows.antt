@@ -9,24 +9,18 @@ use lib.ListN.{length, get_or, set, take, drop, replicate, length-take, length-d
 use lib.Seq.{take_all, drop-length, drop-cons, get_or-take, get_or-set_same, take-set-le, take-take, drop-set-lt}
 use Rattle.std.proofs.lemmas.List.{drop-replicate, take_rest}
 use Rattle.sorting.proofs.Laws.{take-map}
-use lib.Ieee.{Float}
 use Rattle.basics.specs.Choice.{pick_true, pick_false}
-use Rattle.distance.specs.declared.vectors.Vectors.{Vectors}
 use Rattle.sorting.specs.declared.Keyed.{Keyed}
 use Rattle.sorting.specs.Inside.Pairs.{id_in}
 use Rattle.sorting.proofs.Pairs.{no_pair}
 use Rattle.def_graph.specs.Leaf.{starts_with, dedup}
 use Rattle.store.specs.View.{entries_in, row_block}
-use Rattle.hashprune.specs.Inside.Steps.{ranked_node, old_pairs}
 use Rattle.hashprune.proofs.Lists.{written, written_more, take_least}
 
 -- ---- entries
 
 pub length-entries : (row : List ℕ) → length (entries_in row) ≡ min (get_or row 0 0) (length row - 1)
 length-entries row = simp (length-take, length-drop) (omega arith)
-
-pub old_few : (v : Vectors) (p : List Float) (row : List ℕ) → length (old_pairs v p row) ≤ length row - 1
-old_few v p row = omega (arith, length-map (entries_in row) (ranked_node v p), length-entries row)
 
 -- ---- equal neighbours
 
