@@ -30,12 +30,6 @@ returns c =
 pub overflow_cast-sizes : goal.overflow_cast-sizes
 overflow_cast-sizes c = let n = next (goal.at.overflow_cast-sizes c).After-first_size-size in omega (arith, c.requires.0)
 
-pub bounds-sizes-count : goal.bounds-sizes-count
-bounds-sizes-count c = let n = next (goal.at.bounds-sizes-count c).After-first_size-size in omega (arith, c.requires.1)
-
-pub overflow_add-count : goal.overflow_add-count
-overflow_add-count c = let n = next (goal.at.overflow_add-count c).After-first_size-size in omega arith
-
 pub overflow_add-at : goal.overflow_add-at
 overflow_add-at c = let n = next (goal.at.overflow_add-at c).After-first_size-size in omega arith
 

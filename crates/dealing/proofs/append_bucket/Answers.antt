@@ -1,12 +1,8 @@
 -- The loop's steps are those of `Appended`. Assumes nothing.
 use mathlib.Core.Logic.{inl, inr}
-use Rattle.dealing.proofs.Buckets.{appended_none, appended_room, appended_more, appended_same, appended_done}
-use borrow.Author.Rules.{rules}
+use Rattle.dealing.proofs.Buckets.{appended_room, appended_more, appended_same, appended_done}
 use native.Mathlib.Omega.{arith}
 use Rattle.dealing.proofs.append_bucket.Goals as goal
-
-pub loop-id-init : goal.loop-id-init
-loop-id-init c = appended_none (search rules) (search rules) c.requires.0
 
 pub bounds-to-at : goal.bounds-to-at
 bounds-to-at c =

@@ -1,5 +1,5 @@
 -- One card more. Assumes nothing.
-use mathlib.Core.Path.{refl, ap₂, ◌∙◌}
+use mathlib.Core.Path.{ap₂, ◌∙◌}
 use mathlib.Core.List.{List}
 use Prim.Native.Nat.{ℕ}
 use lib.ListN.{set}
@@ -9,9 +9,6 @@ use Rattle.dealing.specs.Inside.Cards.{card_of}
 use Rattle.dealing.proofs.Dealing.{written_more, written_end}
 use native.Mathlib.Omega.{arith}
 use Rattle.dealing.proofs.assign.Goals as goal
-
-pub loop-i-init : goal.loop-i-init
-loop-i-init c = refl
 
 pub loop-i-preserved : goal.loop-i-preserved
 loop-i-preserved c =

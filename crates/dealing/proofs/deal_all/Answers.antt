@@ -3,7 +3,7 @@
 use mathlib.Core.Path.{◌≡◌, sym, ap, ◌∙◌}
 use mathlib.Core.List.{List, ◌++◌, map, flatten}
 use Prim.Native.Nat.{ℕ, ◌*◌, ◌≤◌}
-use lib.ListN.{length, get_or, take, drop, length-drop, length-append}
+use lib.ListN.{length, get_or, take, drop}
 use lib.Seq.{length-take-le, take_at}
 use lib.Ieee.{Float}
 use Rattle.distance.specs.Vectors.{vectors_of}
@@ -35,9 +35,6 @@ module _ {k : ℕ} (leaders room : List ℕ) (fit : k ≤ length room) (as-many 
 
   part_size : length (take k (leaders ++ drop k room)) ≡ k
   part_size = ap length leaders_part ∙ leaders_size
-
-  room_size : length (leaders ++ drop k room) ≡ length room
-  room_size = omega (arith, length-append leaders (drop k room), length-drop k room, leaders_size)
 
 -- ---- the cards, and what they deal
 module _ (p : DealParams) (vectors : Vectors) (room : List ℕ) {level fan k : ℕ} {ids nodes marks leaders cards : List ℕ} {many : ℕ}
