@@ -12,7 +12,7 @@ use Rattle.basics.proofs.Pieces.{length_pieces, nth_piece}
 use lib.Seq.{get_or_at}
 use lib.Ieee.{Float, nan, binary32, add, mul}
 use Rattle.simd.specs.Inside.Eight.{lane_of, row_in}
-use Rattle.simd.proofs.Left.{Left, left_step}
+use Rattle.simd.proofs.Left.{Rest, left_step}
 
 pub length_lane : (block : List Float) (j n : ℕ) → length (lane_of block j n) ≡ n
 unfolding lane_of
@@ -55,9 +55,9 @@ column_at block i j h l =
     ∙ ap (λ (k : ℕ). get_or block (k + j) nan) from
 
 -- a step of the sum with row j of a block
-pub block_step : (q block : List Float) (j : ℕ) (s : Float) (i : ℕ) → i < length q → i < length block / 8 → Left q (row_in block j) s i
-    → j < 8 → Left q (row_in block j) (add binary32 s (mul binary32 (get_or q i nan) (get_or (get_or (columns block) i []) j nan))) (i + 1)
-block_step q block j s i h l left e =
-    subst (λ (x : Float). Left q (row_in block j) (add binary32 s (mul binary32 (get_or q i nan) x)) (i + 1))
+pub column_step : {total : Float} (q block : List Float) (j : ℕ) (s : Float) (i : ℕ) → i < length q → i < length block / 8 → Rest q (row_in block j) s i total
+    → j < 8 → Rest q (row_in block j) (add binary32 s (mul binary32 (get_or q i nan) (get_or (get_or (columns block) i []) j nan))) (i + 1) total
+column_step {total} q block j s i h l left e =
+    subst (λ (x : Float). Rest q (row_in block j) (add binary32 s (mul binary32 (get_or q i nan) x)) (i + 1) total)
     (lane_at block j (length block / 8) i l ∙ sym (column_at block i j l e))
     (left_step q (row_in block j) s i h (omega (arith, length_lane block j (length block / 8))) left)

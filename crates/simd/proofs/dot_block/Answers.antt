@@ -13,7 +13,7 @@ use Rattle.basics.specs.Sum.{+zero}
 use Rattle.simd.specs.Dot.{dot_of}
 use Rattle.simd.specs.Inside.Eight.{row_in}
 use Rattle.simd.proofs.Left.{Left, left_start, left_end, left_end_row}
-use Rattle.simd.proofs.Lanes.{length_lane, columns, length-columns, block_step}
+use Rattle.simd.proofs.Lanes.{length_lane, columns, length-columns, column_step}
 use Rattle.simd.proofs.dot_block.Goals as goal
 
 pub loop-x-init : goal.loop-x-init
@@ -32,7 +32,7 @@ loop-x-preserved c =
           let new : get_or c.add_column.new.sums j nan ≡ add binary32 (get_or l.sums j nan) (mul binary32 (get_or q i nan) (get_or (get_or (columns b) i []) j nan)) =
           c.add_column.ensures j h ∙ ap₂ (λ (x : Float) (column : List Float). add binary32 (get_or l.sums j nan) (mul binary32 x (get_or column j nan))) (turn.2 nan) (turn.3 []) in
           subst (λ (k : ℕ). Left q (row_in b j) (get_or c.add_column.new.sums j nan) k) (sym (length_push l.yielded _))
-          (subst (λ (s : Float). Left q (row_in b j) s (i + 1)) (sym new) (block_step q b j (get_or l.sums j nan) i turn.0 (omega (arith, turn.1, length-columns b)) (l.invariant.1 j h) h)),
+          (subst (λ (s : Float). Left q (row_in b j) s (i + 1)) (sym new) (column_step q b j (get_or l.sums j nan) i turn.0 (omega (arith, turn.1, length-columns b)) (l.invariant.1 j h) h)),
     )
 
 pub returns : goal.returns
