@@ -7,7 +7,7 @@ use native.Mathlib.Omega.{arith}
 use lib.Dec.{leb, eqb}
 use lib.ListN.{length, take, drop, length-append, length-drop, drop_of_length-le}
 use borrow.Rule.Slice.PartMut.{put_mid}
-use lib.Seq.{take_at, drop_at, take_all, take-append-le, length-take-le, drop-drop}
+use lib.Seq.{take_at, drop_at, take_all, take-append-le, length-take-le}
 use lib.Ieee.{Float}
 use borrow.Author.Tests.{eq-eqb, ne_eqb, le-leb, lt-leb}
 use Rattle.basics.specs.Choice.{pick, pick_true, pick_false, pick_ind}
@@ -38,9 +38,9 @@ fan_some level =
     (λ _. pick_ind (λ (k : ℕ). (k ≡ 0 → ⊥) → level ≤ 20) (leb level 20) (λ t _. lib.Dec.leb→le level 20 t) (λ _ f. absurd (f refl)))
 
 -- a segment below the top fits over its own place
-pub fitting-down : (level : ℕ) (part nodes marks : List ℕ) (ids room cards : ℕ) → Dealing level nodes marks ids room cards → part ≡ nodes
-    → (cards' : ℕ) → cards' ≡ length nodes → Fitting level part nodes marks room cards'
-fitting-down level part nodes marks ids room cards d e cards' f =
+pub fitting-down : (level : ℕ) (part nodes marks : List ℕ) → Dealing level nodes marks → part ≡ nodes
+    → (room cards : ℕ) → 2048 ≤ room → cards ≡ length nodes → Fitting level part nodes marks room cards
+fitting-down level part nodes marks d e room cards r f =
     let one = fan_one level d.below d.levels in
     let same = ap length e in
     record {
@@ -49,7 +49,7 @@ fitting-down level part nodes marks ids room cards d e cards' f =
       nodes_size = omega (arith, ap (λ (k : ℕ). k * length part) one);
       marks_size = d.marked;
       few = d.few;
-      room_size = omega (arith, d.few, d.scratch.room_size);
+      room_size = omega (arith, d.few);
       cards_size = f ∙ sym same;
     }
 
@@ -171,34 +171,6 @@ module _ (maxLeaf minLeaf : ℕ) (fraction : Float) (vs : List (List Float)) whe
         held : Holding (carved level f.bucket) n₁ m₁
         held = subst (λ (l : List ℕ). Holding (carved level l) n₁ m₁) bucket_nodes (one bucket_marks)
 
--- ---- a front part and the rest of a slice, passed on one after the other
-
-pub record Front (xs front : List ℕ) (size : ℕ) : Type 0 where
-  pub within : size ≤ length xs
-  pub is : length front ≡ size
-
-pub front_back : (xs front : List ℕ) (size : ℕ) → size ≤ length xs → length front ≡ length (take size xs) → Front xs front size
-front_back xs front size h e = record { within = h; is = e ∙ length-take-le size xs h }
-
-module _ (xs front : List ℕ) (size : ℕ) (f : Front xs front size) where
-  abbrev once : List ℕ
-  once = front ++ drop size xs
-
-  once_length : length once ≡ length xs
-  once_length = omega (arith, length-append front (drop size xs), length-drop size xs)
-
-  rest-is : drop size once ≡ drop size xs
-  rest-is = drop_at front (drop size xs) size f.is
-
-  pub lent_rest : take (length once - size) (drop size once) ≡ drop size xs
-  lent_rest = ap (take (length once - size)) rest-is ∙ take_all (length once - size) (drop size xs) (omega (arith, once_length, length-drop size xs))
-
-  pub both_back : (rest : List ℕ) → put_mid size (length once - size) once rest ≡ front ++ rest
-  both_back rest =
-      ap₂ (λ (a : List ℕ) (b : List ℕ). a ++ (rest ++ b)) (take_at front (drop size xs) size f.is)
-      (drop-drop (length once - size) size once ∙ drop_of_length-le once {i = size + (length once - size)} (omega (arith, once_length)))
-      ∙ ap (λ (r : List ℕ). front ++ r) (append-nil rest)
-
 -- ---- the first segment
 
 -- all positions, where there is room for them
@@ -231,9 +203,9 @@ module _ (maxLeaf minLeaf : ℕ) (fraction : Float) (vs : List (List Float)) (n 
       ∙ ap (λ (l : List ℕ). carve_buckets maxLeaf minLeaf fraction vs 1 (buckets_of minLeaf fraction vs 0 l)) (sym e)
 
 -- the first segment fits twice
-pub fitting-top : (n : ℕ) (part nodes marks : List ℕ) (cards : ℕ) → n ≤ 1024 → 2 ≤ n → length nodes ≡ 2 * n → length marks ≡ 2 * n → part ≡ up_to n → cards ≡ n
-    → Fitting 0 part nodes marks 2048 cards
-fitting-top n part nodes marks cards h k a b e f =
+pub fitting-top : (n : ℕ) (part nodes marks : List ℕ) (room cards : ℕ) → 2048 ≤ room → n ≤ 1024 → 2 ≤ n → length nodes ≡ 2 * n → length marks ≡ 2 * n → part ≡ up_to n → cards ≡ n
+    → Fitting 0 part nodes marks room cards
+fitting-top n part nodes marks room cards r h k a b e f =
     let top = fan_top in
     let size : length part ≡ n = ap length e ∙ length-up_to n in
     record {

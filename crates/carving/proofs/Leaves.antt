@@ -5,55 +5,33 @@ use Prim.Native.Nat.{ℕ, zero, suc, ◌+◌, ◌-◌, ◌≤◌, ◌<◌}
 use native.Mathlib.Numerals.{add-one}
 use native.Mathlib.Omega.{arith}
 use lib.Dec.{eqb}
-use lib.ListN.{length, get_or, take, drop, set, replicate, length-append, length-drop, drop_of_length-le}
-use lib.Seq.{drop-cons, drop_at, drop-drop, take_all, take-suc-set, append_snoc}
+use lib.ListN.{length, take, drop, set, replicate, length-append, length-drop}
+use lib.Seq.{drop_at, drop-drop, take_all, take-suc-set, append_snoc}
 use borrow.Author.Tests.{eq-eqb, ne_eqb}
-use Rattle.basics.specs.Choice.{pick, pick_true, pick_false, pick_ind}
+use Rattle.basics.specs.Choice.{pick, pick_false}
 use Rattle.def_graph.specs.Partition.{each_by}
 use Rattle.dealing.specs.Inside.Marks.{run, marks_of}
 use Rattle.dealing.proofs.Marks.{flatten_append, marks_append, length_run, length-marks}
 use Rattle.carving.specs.Inside.Carving.{non_empty}
-use Rattle.carving.specs.Inside.Steps.{zeroes, first_size}
+use Rattle.carving.specs.Inside.Steps.{first_size}
+use Rattle.std.specs.List.{prefix_len}
+use Rattle.std.proofs.lemmas.List.Sums.{prefix_len-le-length}
+use mathlib.Core.Bool.{Bool, cond}
 
 -- ---- zeroes, one at a time
 
+abbrev zeroes : List ℕ → ℕ
+zeroes marks = prefix_len (λ (mark : ℕ). eqb mark 0) marks
+
 zero_here : (x : ℕ) (xs : List ℕ) → x ≡ 0 → zeroes (x ∷ xs) ≡ suc (zeroes xs)
-unfolding zeroes
-zero_here x xs e = pick_true {X = ℕ} _ _ (eq-eqb x 0 e)
+zero_here x xs e = ap (λ (t : Bool). cond t (1 + zeroes xs) 0) (eq-eqb x 0 e) ∙ omega arith
 
 none_here : (x : ℕ) (xs : List ℕ) → (x ≡ 0 → ⊥) → zeroes (x ∷ xs) ≡ 0
-unfolding zeroes
-none_here x xs f = pick_false {X = ℕ} _ _ (ne_eqb x 0 f)
-
--- where a search for the next mark stands
-pub more_zero : (marks : List ℕ) (i : ℕ) → i < length marks → get_or marks i 0 ≡ 0 → i + zeroes (drop i marks) ≡ first_size marks
-    → i + 1 + zeroes (drop (i + 1) marks) ≡ first_size marks
-more_zero marks i h e f =
-    let a = ap zeroes (drop-cons marks i 0 h) ∙ zero_here (get_or marks i 0) (drop (suc i) marks) e in
-    let b = ap (λ (k : ℕ). zeroes (drop k marks)) (add-one i) in
-    omega arith
-
-pub found_mark : (marks : List ℕ) (i : ℕ) → i < length marks → (get_or marks i 0 ≡ 0 → ⊥) → i + zeroes (drop i marks) ≡ first_size marks → i ≡ first_size marks
-found_mark marks i h f e =
-    let a = ap zeroes (drop-cons marks i 0 h) ∙ none_here (get_or marks i 0) (drop (suc i) marks) f in
-    omega arith
-
-pub no_mark : (marks : List ℕ) (i : ℕ) → length marks ≤ i → i + zeroes (drop i marks) ≡ first_size marks → i ≡ first_size marks
-unfolding zeroes
-no_mark marks i h e =
-    let a : zeroes (drop i marks) ≡ 0 = ap zeroes (drop_of_length-le marks h) in
-    omega arith
-
-zeroes-within : (xs : List ℕ) → zeroes xs ≤ length xs
-unfolding zeroes
-zeroes-within [] = omega arith
-zeroes-within (x ∷ xs) =
-    let r = zeroes-within xs in
-    pick_ind (λ (k : ℕ). k ≤ suc (length xs)) (eqb x 0) (λ _. omega arith) (λ _. omega arith)
+none_here x xs f = ap (λ (t : Bool). cond t (1 + zeroes xs) 0) (ne_eqb x 0 f)
 
 pub first_within : (marks : List ℕ) → 0 < length marks → (1 ≤ first_size marks) × (first_size marks ≤ length marks)
 unfolding first_size
-first_within marks h = let w = zeroes-within (drop 1 marks) in (omega arith, omega (arith, length-drop 1 marks))
+first_within marks h = let w = prefix_len-le-length (λ (mark : ℕ). eqb mark 0) (drop 1 marks) in (omega arith, omega (arith, length-drop 1 marks))
 
 -- the bucket that starts at `at`: its size, which fits what is left
 pub record NextSize (marks : List ℕ) (at size : ℕ) : Type 0 where
@@ -76,7 +54,7 @@ zeroes-run (suc m) xs = let r = zeroes-run m xs in zero_here 0 (replicate m 0 ++
 
 -- after a bucket a mark follows, or nothing
 zeroes-marks : (bs : List (List ℕ)) → zeroes (marks_of bs) ≡ 0
-unfolding marks_of run zeroes
+unfolding marks_of run
 zeroes-marks [] = refl
 zeroes-marks ([] ∷ bs) = zeroes-marks bs
 zeroes-marks ((x ∷ b) ∷ bs) = none_here 1 (replicate (length b) 0 ++ marks_of bs) (λ e. omega arith)

@@ -1,100 +1,74 @@
--- The nodes whose cards name a leader, as a loop over cards finds them. Assumes nothing.
+-- The nodes whose cards name a leader, as a loop over nodes and cards finds them. Assumes nothing.
 use mathlib.Core.Path.{◌≡◌, refl, sym, ap, ap₂, ◌∙◌}
-use mathlib.Core.Bool.{Bool, true, false}
-use mathlib.Core.List.{List, [], ◌∷◌, ◌++◌, append_assoc, append-nil}
+use mathlib.Core.Bool.{true, false}
+use mathlib.Core.List.{List, [], ◌∷◌, ◌++◌, append-nil}
 use Prim.Native.Nat.{ℕ, ◌+◌, ◌≤◌, ◌<◌}
 use native.Mathlib.Numerals.{add-one}
 use native.Mathlib.Omega.{arith}
-use native.Mathlib.Nat.{add-zero}
-use lib.ListN.{length, get_or, set, take, drop, length-append, length-take, take-append-drop}
-use lib.Seq.{take-suc, take_all, length-take-le}
-use Rattle.basics.specs.Choice.{pick}
-use Rattle.basics.proofs.Loops.{front_set, front_length}
+use lib.ListN.{length, set, take, drop, take-append-drop}
+use lib.Seq.{take-suc-set, drop-set-lt, drop-drop, append_snoc}
+use Rattle.basics.specs.Choice.{pick_true, pick_false}
 use Rattle.dealing.specs.Inside.Cards.{names, bucket_at}
 
-joined : (b : Bool) (x : ℕ) (all front back : List ℕ) → all ≡ front ++ back → pick b (x ∷ all) all ≡ pick b (x ∷ front) front ++ back
-unfolding pick
-joined true x all front back e = ap (λ (r : List ℕ). x ∷ r) e
-joined false x all front back e = e
-
-pub bucket_append : (l : ℕ) (xs ys cs ds : List ℕ) → length cs ≡ length xs → bucket_at l (xs ++ ys) (cs ++ ds) ≡ bucket_at l xs cs ++ bucket_at l ys ds
+bucket_named : (l x card : ℕ) (xs cards : List ℕ) → true ≡ names l card → bucket_at l (x ∷ xs) (card ∷ cards) ≡ x ∷ bucket_at l xs cards
 unfolding bucket_at
-bucket_append l [] ys [] ds e = refl
-bucket_append l [] ys (c ∷ cs) ds e = absurd (omega arith)
-bucket_append l (x ∷ xs) ys [] ds e = absurd (omega arith)
-bucket_append l (x ∷ xs) ys (c ∷ cs) ds e = joined (names l c) x (bucket_at l (xs ++ ys) (cs ++ ds)) (bucket_at l xs cs) (bucket_at l ys ds) (bucket_append l xs ys cs ds (omega arith))
+bucket_named l x card xs cards t = pick_true _ _ (sym t)
 
-bucket_one : (l x c : ℕ) → bucket_at l (x ∷ []) (c ∷ []) ≡ pick (names l c) (x ∷ []) []
+bucket_other : (l x card : ℕ) (xs cards : List ℕ) → false ≡ names l card → bucket_at l (x ∷ xs) (card ∷ cards) ≡ bucket_at l xs cards
 unfolding bucket_at
-bucket_one l x c = refl
+bucket_other l x card xs cards t = pick_false _ _ (sym t)
 
--- the nodes found among the first i
-abbrev pub front : ℕ → List ℕ → List ℕ → ℕ → List ℕ
-front l ids cards i = bucket_at l (take i ids) (take i cards)
+empty : (xs : List ℕ) → length xs ≡ 0 → xs ≡ []
+empty [] e = refl
+empty (x ∷ xs) e = absurd (omega arith)
 
-module _ (l : ℕ) (ids cards : List ℕ) (same : length cards ≡ length ids) where
-  front_more : (i : ℕ) → i < length ids → front l ids cards (i + 1) ≡ front l ids cards i ++ pick (names l (get_or cards i 0)) (get_or ids i 0 ∷ []) []
-  front_more i h =
-      rw add-one (ap₂ (bucket_at l) (take-suc ids i 0 h) (take-suc cards i 0 (omega arith)))
-      ∙ bucket_append l (take i ids) (get_or ids i 0 ∷ []) (take i cards) (get_or cards i 0 ∷ []) (omega (arith, length-take i cards, length-take i ids))
-      ∙ ap (λ (r : List ℕ). front l ids cards i ++ r) (bucket_one l (get_or ids i 0) (get_or cards i 0))
+-- of all nodes and cards these are left; the nodes found among the others stand behind the first `held`, up to `at`
+pub record Appended (l : ℕ) (all_ids all_cards before : List ℕ) (held : ℕ) (ids cards : List ℕ) (at : ℕ) (to : List ℕ) : Type 0 where
+  pub same : length cards ≡ length ids
+  pub at_is : at + length (bucket_at l ids cards) ≡ held + length (bucket_at l all_ids all_cards)
+  pub found : take at to ++ bucket_at l ids cards ≡ take held before ++ bucket_at l all_ids all_cards
+  pub behind : drop at to ≡ drop at before
 
-  front_within : (i : ℕ) → length (front l ids cards i) ≤ length (bucket_at l ids cards)
-  front_within i =
-      let e = bucket_append l (take i ids) (drop i ids) (take i cards) (drop i cards) (omega (arith, length-take i cards, length-take i ids)) in
-      omega (arith, simp (take-append-drop, length-append) at (ap length e))
+module _ {l : ℕ} {all_ids all_cards before : List ℕ} {held : ℕ} where
+  pub appended_none : {ids cards : List ℕ} → ids ≡ all_ids → cards ≡ all_cards → length all_cards ≡ length all_ids
+      → Appended l all_ids all_cards before held ids cards held before
+  appended_none p q h = rw (p, q) record { same = h; at_is = refl; found = refl; behind = refl }
 
-  front_all : (i : ℕ) → length ids ≤ i → front l ids cards i ≡ bucket_at l ids cards
-  front_all i h = ap₂ (bucket_at l) (take_all i ids h) (take_all i cards (omega arith))
+  module _ {ids cards : List ℕ} {at : ℕ} {to : List ℕ} (a : Appended l all_ids all_cards before held ids cards at to) where
+    module _ {x card : ℕ} {xs rest : List ℕ} (p : ids ≡ x ∷ xs) (q : cards ≡ card ∷ rest) where
+      as-long : length rest ≡ length xs
+      as-long = omega (arith, a.same, ap length p, ap length q)
 
--- the nodes found among the first i stand behind the first `held`, up to `at`
-pub record Appended (l : ℕ) (ids cards to₀ : List ℕ) (held i at : ℕ) (to : List ℕ) : Type 0 where
-  pub within : i ≤ length ids
-  pub at_is : at ≡ held + length (front l ids cards i)
-  pub to_is : to ≡ (take held to₀ ++ front l ids cards i) ++ drop at to₀
-
-one_length : (b : Bool) (x : ℕ) → length (pick b (x ∷ []) []) ≡ pick b 1 0
-unfolding pick
-one_length true x = refl
-one_length false x = refl
-
-module _ {l : ℕ} {ids cards to₀ : List ℕ} {held : ℕ} (same : length cards ≡ length ids) (room : held + length (bucket_at l ids cards) ≤ length to₀) where
-  pub appended_none : Appended l ids cards to₀ held 0 held to₀
-  unfolding bucket_at
-  appended_none = record { within = omega arith; at_is = omega arith; to_is = sym (rw append-nil (take-append-drop held to₀)) }
-
-  module _ {i at : ℕ} {to : List ℕ} (a : Appended l ids cards to₀ held i at to) where
-    front_size : length (take held to₀ ++ front l ids cards i) ≡ at
-    front_size = omega (arith, length-append (take held to₀) (front l ids cards i), length-take-le held to₀ (omega arith), a.at_is)
-
-    pub appended_length : length to ≡ length to₀
-    appended_length =
-        ap length a.to_is
-        ∙ front_length to₀ (take held to₀ ++ front l ids cards i) at front_size (omega (arith, a.at_is, front_within l ids cards same i))
-
-    pub appended_done : length ids ≤ i → (at ≡ held + length (bucket_at l ids cards)) × (to ≡ (take held to₀ ++ bucket_at l ids cards) ++ drop at to₀)
-    appended_done h = let e = front_all l ids cards same i h in (rw e at a.at_is, rw e at a.to_is)
-
-    module _ (h : i < length ids) {b : Bool} (test : b ≡ names l (get_or cards i 0)) where
-      longer : length (front l ids cards (i + 1)) ≡ length (front l ids cards i) + pick b 1 0
-      longer = ap length (front_more l ids cards same i h) ∙ rw (← test, length-append, one_length)
+      named : true ≡ names l card → bucket_at l ids cards ≡ x ∷ bucket_at l xs rest
+      named t = ap₂ (bucket_at l) p q ∙ bucket_named l x card xs rest t
 
       -- room for the next
-      pub appended_room : at + pick b 1 0 ≤ length to
-      appended_room = omega (arith, longer, a.at_is, front_within l ids cards same (i + 1), appended_length)
+      pub appended_room : length to ≡ length before → held + length (bucket_at l all_ids all_cards) ≤ length before → true ≡ names l card → at < length to
+      appended_room k h t = omega (arith, a.at_is, ap length (named t))
 
-      pub appended_more : {at' : ℕ} {to' : List ℕ} → at' ≡ at + pick b 1 0 → to' ≡ pick b (set to at (get_or ids i 0)) to
-          → Appended l ids cards to₀ held (i + 1) at' to'
-      unfolding pick
-      appended_more p q = record { within = omega arith; at_is = omega (arith, longer, a.at_is); to_is = q ∙ rw p (go b test longer) }
-        where
-          x : ℕ
-          x = get_or ids i 0
+      pub appended_more : at < length to → true ≡ names l card → Appended l all_ids all_cards before held xs rest (at + 1) (set to at x)
+      appended_more h t = record {
+        same = as-long;
+        at_is = omega (arith, a.at_is, ap length (named t));
+        found =
+            rw add-one (ap (λ (r : List ℕ). r ++ bucket_at l xs rest) (take-suc-set to at x h) ∙ append_snoc (take at to) x (bucket_at l xs rest))
+            ∙ ap (λ (r : List ℕ). take at to ++ r) (sym (named t)) ∙ a.found;
+        behind =
+            drop-set-lt (at + 1) to at x (omega arith) ∙ sym (drop-drop 1 at to) ∙ ap (drop 1) a.behind ∙ drop-drop 1 at before;
+      }
 
-          go : (b : Bool) → b ≡ names l (get_or cards i 0) → length (front l ids cards (i + 1)) ≡ length (front l ids cards i) + pick b 1 0
-              → pick b (set to at x) to ≡ (take held to₀ ++ front l ids cards (i + 1)) ++ drop (at + pick b 1 0) to₀
-          go true e more =
-              ap (λ (r : List ℕ). set r at x) a.to_is
-              ∙ front_set to₀ (take held to₀ ++ front l ids cards i) at x front_size (omega (arith, a.at_is, front_within l ids cards same (i + 1)))
-              ∙ sym (rw (front_more l ids cards same i h, ← e) (simp append_assoc))
-          go false e more = a.to_is ∙ sym (rw (front_more l ids cards same i h, ← e, append-nil) (rw add-zero refl))
+      pub appended_same : false ≡ names l card → Appended l all_ids all_cards before held xs rest at to
+      appended_same t =
+          let e : bucket_at l ids cards ≡ bucket_at l xs rest = ap₂ (bucket_at l) p q ∙ bucket_other l x card xs rest t in
+          record { same = as-long; at_is = rw e at a.at_is; found = rw e at a.found; behind = a.behind }
+
+    -- none is left
+    pub appended_done : length ids ≡ 0
+        → (at ≡ held + length (bucket_at l all_ids all_cards)) × (to ≡ (take held before ++ bucket_at l all_ids all_cards) ++ drop at before)
+    unfolding bucket_at
+    appended_done p =
+        let none : bucket_at l ids cards ≡ [] = ap (λ (r : List ℕ). bucket_at l r cards) (empty ids p) in (
+          omega (arith, a.at_is, ap length none),
+          sym (take-append-drop at to)
+              ∙ (λ i. (sym (append-nil (take at to)) ∙ ap (λ (r : List ℕ). take at to ++ r) (sym none) ∙ a.found) i ++ a.behind i),
+        )

@@ -9,7 +9,7 @@ use native.Mathlib.Numerals.{add-one}
 use native.Mathlib.Nat.{mul-le-mul_right}
 use native.Mathlib.Omega.{arith}
 use lib.Dec.{eqb, leb}
-use lib.ListN.{length, get_or, set, take, drop, length-map, drop_of_length-le, get_or-append}
+use lib.ListN.{length, get_or, set, take, drop, length-map, drop_of_length-le, get_or-append, get_or-map}
 use lib.Seq.{take-suc, take_all, length-take-le}
 use lib.Ieee.{Float}
 use Rattle.basics.specs.Choice.{pick, pick_ind}
@@ -17,6 +17,9 @@ use Rattle.basics.specs.Lists.{keep}
 use Rattle.basics.specs.Nodes.{has, Below}
 use Rattle.basics.proofs.Members.{in_get_d}
 use Rattle.basics.proofs.Loops.{front_set}
+use Rattle.sorting.specs.declared.Keyed.{Keyed}
+use Rattle.sorting.specs.Inside.Pairs.{id_in}
+use Rattle.sorting.proofs.Pairs.{no_pair}
 use Rattle.random.specs.Leaders.{up_to, drawn, draw_start, drawn_into, leader_count, leader_positions}
 use Rattle.random.proofs.leaders.Positions.{length_positions}
 use Rattle.def_graph.specs.Partition.{nearest_leaders, dealt, leaders_of, gathered, buckets_of, fanout}
@@ -77,22 +80,23 @@ module _ (vs : List (List Float)) (fan : ℕ) (leaders : List ℕ) (some : 1 ≤
 
 -- ---- cards, as a loop over nodes writes them
 
-module _ (g : ℕ → ℕ) (ids cards : List ℕ) (same : length cards ≡ length ids) where
+module _ (g : ℕ → ℕ) (ids cards : List ℕ) where
   abbrev pub written : ℕ → List ℕ
   written i = map g (take i ids) ++ drop i cards
 
-  written_size : (i : ℕ) → i ≤ length ids → length (map g (take i ids)) ≡ i
-  written_size i h = length-map (take i ids) g ∙ length-take-le i ids h
+  module _ (same : length cards ≡ length ids) where
+    written_size : (i : ℕ) → i ≤ length ids → length (map g (take i ids)) ≡ i
+    written_size i h = length-map (take i ids) g ∙ length-take-le i ids h
 
-  pub written_more : (i : ℕ) → i < length ids → set (written i) i (g (get_or ids i 0)) ≡ written (i + 1)
-  written_more i h =
-      front_set cards (map g (take i ids)) i (g (get_or ids i 0)) (written_size i (omega arith)) (omega arith)
-      ∙ ap (λ (r : List ℕ). r ++ drop (i + 1) cards)
-      (sym (map-append g (take i ids) (get_or ids i 0 ∷ [])) ∙ ap (map g) (sym (take-suc ids i 0 h) ∙ ap (λ (k : ℕ). take k ids) (sym (add-one i))))
+    pub written_more : (i : ℕ) → i < length ids → set (written i) i (g (get_or ids i 0)) ≡ written (i + 1)
+    written_more i h =
+        front_set cards (map g (take i ids)) i (g (get_or ids i 0)) (written_size i (omega arith)) (omega arith)
+        ∙ ap (λ (r : List ℕ). r ++ drop (i + 1) cards)
+        (sym (map-append g (take i ids) (get_or ids i 0 ∷ [])) ∙ ap (map g) (sym (take-suc ids i 0 h) ∙ ap (λ (k : ℕ). take k ids) (sym (add-one i))))
 
-  pub written_end : (i : ℕ) → length ids ≤ i → written i ≡ map g ids
-  written_end i h =
-      ap₂ (λ (a : List ℕ) (b : List ℕ). map g a ++ b) (take_all i ids h) (drop_of_length-le cards {i = i} (omega arith)) ∙ append-nil (map g ids)
+    pub written_end : (i : ℕ) → length ids ≤ i → written i ≡ map g ids
+    written_end i h =
+        ap₂ (λ (a : List ℕ) (b : List ℕ). map g a ++ b) (take_all i ids h) (drop_of_length-le cards {i = i} (omega arith)) ∙ append-nil (map g ids)
 
 -- ---- the draws, where there is room for all
 
@@ -105,27 +109,32 @@ drawn_all level n room out h k =
 
 -- ---- a card, read from the nearest leaders
 
-module _ (vs : List (List Float)) (fan n : ℕ) (leaders found rest : List ℕ) (id : ℕ) (is : found ≡ nearest_leaders vs n leaders id) (same : n ≡ fan)
+module _ (vs : List (List Float)) (fan : ℕ) (leaders : List ℕ) (found rest : List Keyed) (id : ℕ) (is : map id_in found ≡ nearest_leaders vs fan leaders id)
     (some : 1 ≤ fan) (many : fan ≤ length leaders) where
-  found_size : length found ≡ fan
-  found_size = ap length is ∙ nearest_length vs n leaders id ∙ omega arith
+  abbrev read : ℕ → ℕ
+  read i = (get_or (found ++ rest) i no_pair).id
 
-  pub entry_small : length leaders ≤ 2048 → (i : ℕ) → i < fan → get_or (found ++ rest) i 0 < 2048
+  found_size : length found ≡ fan
+  found_size = sym (length-map found id_in) ∙ ap length is ∙ nearest_length vs fan leaders id ∙ omega arith
+
+  read_is : (i : ℕ) → i < fan → read i ≡ get_or (nearest_leaders vs fan leaders id) i 0
+  read_is i h =
+      let size = found_size in
+      ap id_in (get_or-append found rest no_pair i (omega arith)) ∙ sym (get_or-map id_in found i no_pair) ∙ ap (λ (l : List ℕ). get_or l i 0) is
+
+  pub entry_small : length leaders ≤ 2048 → (i : ℕ) → i < fan → read i < 2048
   entry_small few i h =
       let size = found_size in
-      let here-is = get_or-append found rest 0 i (omega arith) in
-      let one = ap (λ (l : List ℕ). get_or l i 0) is in
-      let m = in_get_d (nearest_leaders vs n leaders id) i 0 (omega (arith, ap length is)) in
-      let b = nearest_below vs n leaders id (get_or (nearest_leaders vs n leaders id) i 0) m in
-      omega arith
+      let m = in_get_d (nearest_leaders vs fan leaders id) i 0 (omega (arith, length-map found id_in, ap length is)) in
+      let b = nearest_below vs fan leaders id (get_or (nearest_leaders vs fan leaders id) i 0) m in
+      omega (arith, read_is i h)
 
-  pub card_read : get_or (found ++ rest) 0 0 + 65536 * get_or (found ++ rest) (fan - 1) 0 ≡ card_of (nearest_leaders vs fan leaders id)
+  pub card_read : read 0 + 65536 * read (fan - 1) ≡ card_of (nearest_leaders vs fan leaders id)
   unfolding card_of
   card_read =
       let size = found_size in
-      let last : fan - 1 ≡ length found - 1 = omega arith in
-      ap₂ (λ (a : ℕ) (b : ℕ). a + 65536 * b) (get_or-append found rest 0 0 (omega arith)) (get_or-append found rest 0 (fan - 1) (omega arith) ∙ ap (λ (k : ℕ). get_or found k 0) last)
-      ∙ ap card_of (is ∙ ap (λ (k : ℕ). nearest_leaders vs k leaders id) same)
+      let last : fan - 1 ≡ length (nearest_leaders vs fan leaders id) - 1 = omega (arith, length-map found id_in, ap length is) in
+      ap₂ (λ (a : ℕ) (b : ℕ). a + 65536 * b) (read_is 0 some) (read_is (fan - 1) (omega arith) ∙ ap (λ (k : ℕ). get_or (nearest_leaders vs fan leaders id) k 0) last)
 
 -- ---- the whole
 

@@ -19,6 +19,8 @@ use Rattle.def_graph.proofs.partition.Laws.{weight_length, entries-length}
 use Rattle.dealing.specs.Inside.Marks.{run, marks_of}
 use Rattle.dealing.specs.Inside.Cards.{bucket_at, buckets_by}
 use Rattle.dealing.specs.Inside.Steps.{Holds, Gathers, Roomy, none_yet}
+use Rattle.dealing.specs.declared.Carded.{Carded}
+use Rattle.dealing.specs.declared.Held.{Held}
 use Rattle.dealing.proofs.Marks.{length_run, length-marks, flatten_snoc, marks_snoc, marks_one}
 
 -- ---- a part put behind what is placed
@@ -32,19 +34,19 @@ Put part at nodes marks nodes' marks' =
 put_front_lem : (front part rest : List ℕ) (k : ℕ) → length front + length part ≡ k → take k (front ++ (part ++ rest)) ≡ front ++ part
 put_front_lem front part rest k e = rw (← append_assoc front part rest) (take_at (front ++ part) rest k (omega (arith, length-append front part)))
 
-holds_more : {g : Gathered} {at held : ℕ} {small nodes marks : List ℕ} → Holds g at held small nodes marks
-    → (part nodes' marks' : List ℕ) → Put part at nodes marks nodes' marks'
+holds_more : {g : Gathered} {w : Held} {small nodes marks : List ℕ} → Holds g w small nodes marks
+    → (part nodes' marks' : List ℕ) → Put part w.at nodes marks nodes' marks'
     → {held' : ℕ} {small' kept : List ℕ} → held' ≡ length kept → take held' small' ≡ kept
-    → Holds (record { placed = g.placed ++ (part ∷ []); small = kept }) (at + length part) held' small' nodes' marks'
-holds_more {g} {at} {held} {small} {nodes} {marks} h part nodes' marks' put size kept_is = record {
+    → Holds (record { placed = g.placed ++ (part ∷ []); small = kept }) (record { at = w.at + length part; held = held' }) small' nodes' marks'
+holds_more {g} {w} {small} {nodes} {marks} h part nodes' marks' put size kept_is = record {
   placed_size = omega (arith, h.placed_size, ap length (flatten_snoc g.placed part), length-append (flatten g.placed) part);
   small_size = size;
   placed_nodes =
-      ap (take (at + length part)) put.0 ∙ put_front_lem (take at nodes) part _ (at + length part) (omega (arith, h.placed_size, ap length h.placed_nodes))
+      ap (take (w.at + length part)) put.0 ∙ put_front_lem (take w.at nodes) part _ (w.at + length part) (omega (arith, h.placed_size, ap length h.placed_nodes))
       ∙ rw (h.placed_nodes, flatten_snoc);
   placed_marks =
-      ap (take (at + length part)) put.1
-      ∙ put_front_lem (take at marks) (run 1 (length part)) _ (at + length part)
+      ap (take (w.at + length part)) put.1
+      ∙ put_front_lem (take w.at marks) (run 1 (length part)) _ (w.at + length part)
       (omega (arith, h.placed_size, ap length h.placed_marks, length-marks g.placed, length_run 1 (length part)))
       ∙ rw (h.placed_marks, marks_snoc);
   small_nodes = kept_is;
@@ -87,37 +89,37 @@ module _ (minLeaf : ℕ) (g : Gathered) (bucket : List ℕ) where
   unfolding gather_one
   one_small h k = pick_false _ _ (lt-leb minLeaf (length bucket) h) ∙ pick_false _ _ (lt-leb minLeaf (length (g.small ++ bucket)) k)
 
-module _ (minLeaf : ℕ) {bucket ids cards : List ℕ} {at held : ℕ} {small nodes marks small' : List ℕ} {end : ℕ}
-    (room : Roomy bucket at held ids cards small nodes marks) (size : end ≡ held + length bucket)
-    (found : small' ≡ (take held small ++ bucket) ++ drop end small) where
-  within : held ≤ length small
+module _ (minLeaf : ℕ) {bucket : List ℕ} {w : Held} {carded : Carded} {small nodes marks small' : List ℕ} {end : ℕ}
+    (room : Roomy bucket w carded small nodes marks) (size : end ≡ w.held + length bucket)
+    (found : small' ≡ (take w.held small ++ bucket) ++ drop end small) where
+  within : w.held ≤ length small
   within = omega (arith, room.small_room)
 
-  joined_is : (g : Gathered) → Holds g at held small nodes marks → take end small' ≡ g.small ++ bucket
-  joined_is g h = found_joined bucket small small' held end within size found ∙ ap (λ (r : List ℕ). r ++ bucket) h.small_nodes
+  joined_is : (g : Gathered) → Holds g w small nodes marks → take end small' ≡ g.small ++ bucket
+  joined_is g h = found_joined bucket small small' w.held end within size found ∙ ap (λ (r : List ℕ). r ++ bucket) h.small_nodes
 
-  joined_size : (g : Gathered) → Holds g at held small nodes marks → end ≡ length (g.small ++ bucket)
+  joined_size : (g : Gathered) → Holds g w small nodes marks → end ≡ length (g.small ++ bucket)
   joined_size g h = omega (arith, length-append g.small bucket, h.small_size)
 
   -- placed: its own place
-  pub gathers_large : {part nodes' marks' : List ℕ} → part ≡ take (end - held) (drop held small') → minLeaf ≤ end - held
-      → Put part at nodes marks nodes' marks' → Gathers minLeaf bucket at held small nodes marks (at + (end - held)) held small' nodes' marks'
+  pub gathers_large : {part nodes' marks' : List ℕ} → part ≡ take (end - w.held) (drop w.held small') → minLeaf ≤ end - w.held
+      → Put part w.at nodes marks nodes' marks' → Gathers minLeaf bucket w small nodes marks (record { at = w.at + (end - w.held); held = w.held }) small' nodes' marks'
   gathers_large {part} {nodes'} {marks'} p large put g h =
-      let is : part ≡ bucket = p ∙ found_bucket bucket small small' held end within size found in
-      let ends : end - held ≡ length part = omega (arith, ap length is) in
+      let is : part ≡ bucket = p ∙ found_bucket bucket small small' w.held end within size found in
+      let ends : end - w.held ≡ length part = omega (arith, ap length is) in
       rw (one_large minLeaf g bucket (omega arith), ← is, ends)
-      (holds_more h part nodes' marks' put h.small_size (found_before bucket small small' held end within size found ∙ h.small_nodes))
+      (holds_more h part nodes' marks' put h.small_size (found_before bucket small small' w.held end within size found ∙ h.small_nodes))
 
   -- placed with those before it
-  pub gathers_joined : {part nodes' marks' : List ℕ} → part ≡ take end small' → end - held < minLeaf → minLeaf ≤ end
-      → Put part at nodes marks nodes' marks' → Gathers minLeaf bucket at held small nodes marks (at + end) 0 small' nodes' marks'
+  pub gathers_joined : {part nodes' marks' : List ℕ} → part ≡ take end small' → end - w.held < minLeaf → minLeaf ≤ end
+      → Put part w.at nodes marks nodes' marks' → Gathers minLeaf bucket w small nodes marks (record { at = w.at + end; held = 0 }) small' nodes' marks'
   gathers_joined {part} {nodes'} {marks'} p few enough put g h =
       let is : part ≡ g.small ++ bucket = p ∙ joined_is g h in
       let ends : end ≡ length part = omega (arith, ap length is, joined_size g h) in
       rw (one_joined minLeaf g bucket (omega arith) (omega (arith, joined_size g h)), ← is, ends) (holds_more h part nodes' marks' put refl refl)
 
   -- it stays with them
-  pub gathers_small : end - held < minLeaf → end < minLeaf → Gathers minLeaf bucket at held small nodes marks at end small' nodes marks
+  pub gathers_small : end - w.held < minLeaf → end < minLeaf → Gathers minLeaf bucket w small nodes marks (record { at = w.at; held = end }) small' nodes marks
   gathers_small few small-yet g h = rw (one_small minLeaf g bucket (omega arith) (omega (arith, joined_size g h))) record {
     placed_size = h.placed_size;
     small_size = joined_size g h;
@@ -154,20 +156,20 @@ module _ (ids cards : List ℕ) where
     abbrev pub so_far : ℕ → Gathered
     so_far l = gather_all minLeaf none_yet (buckets_by l ids cards)
 
-    pub so_far_none : (small nodes marks : List ℕ) → Holds (so_far 0) 0 0 small nodes marks
+    pub so_far_none : (small nodes marks : List ℕ) → Holds (so_far 0) (record { at = 0; held = 0 }) small nodes marks
     unfolding buckets_by up_to gather_all flatten marks_of
     so_far_none small nodes marks = record { placed_size = refl; small_size = refl; placed_nodes = refl; placed_marks = refl; small_nodes = refl }
 
-    module _ (l : ℕ) {at held : ℕ} {small nodes marks : List ℕ} (h : Holds (so_far l) at held small nodes marks) where
-      pub so_far_all : at + held ≡ entries (buckets_by l ids cards)
+    module _ (l : ℕ) {w : Held} {small nodes marks : List ℕ} (h : Holds (so_far l) w small nodes marks) where
+      pub so_far_all : w.at + w.held ≡ entries (buckets_by l ids cards)
       so_far_all =
           omega (arith, all_weight (λ (y : ℕ). 1) minLeaf none_yet (buckets_by l ids cards), entries-length (so_far l).placed, weight_length (so_far l).small, h.placed_size, h.small_size)
 
-      pub so_far_room : (leaders : ℕ) → l < leaders → at + (held + length (bucket_at l ids cards)) ≤ entries (buckets_by leaders ids cards)
+      pub so_far_room : (leaders : ℕ) → l < leaders → w.at + (w.held + length (bucket_at l ids cards)) ≤ entries (buckets_by leaders ids cards)
       so_far_room leaders k = omega (arith, so_far_all, entries_more l, entries_upto (l + 1) leaders (omega arith))
 
-      pub so_far_more : {at' held' : ℕ} {small' nodes' marks' : List ℕ}
-          → Gathers minLeaf (bucket_at l ids cards) at held small nodes marks at' held' small' nodes' marks' → Holds (so_far (l + 1)) at' held' small' nodes' marks'
+      pub so_far_more : {w' : Held} {small' nodes' marks' : List ℕ}
+          → Gathers minLeaf (bucket_at l ids cards) w small nodes marks w' small' nodes' marks' → Holds (so_far (l + 1)) w' small' nodes' marks'
       so_far_more step = rw (by_more l, all_snoc minLeaf none_yet (buckets_by l ids cards) (bucket_at l ids cards)) (step (so_far l) h)
 
 -- ---- what remains
@@ -237,7 +239,7 @@ marks_onto (b ∷ bs) rest f =
     ∙ ap (λ (first : ℕ). marks_of (b ∷ bs) ++ run first (length rest))
     (sym (pick_false {X = ℕ} 1 0 (ne_eqb (length (b ++ flatten bs)) 0 (λ e. omega (arith, f.0, length-append b (flatten bs))))))
 
-module _ (minLeaf : ℕ) (buckets : List (List ℕ)) (at held : ℕ) (small nodes marks : List ℕ) (h : Holds (gather_all minLeaf none_yet buckets) at held small nodes marks) where
+module _ (minLeaf : ℕ) (buckets : List (List ℕ)) (w : Held) (small nodes marks : List ℕ) (h : Holds (gather_all minLeaf none_yet buckets) w small nodes marks) where
   abbrev all : Gathered
   all = gather_all minLeaf none_yet buckets
 
@@ -245,7 +247,7 @@ module _ (minLeaf : ℕ) (buckets : List (List ℕ)) (at held : ℕ) (small node
   none_left [] e = refl
   none_left (x ∷ l) e = absurd (omega arith)
 
-  pub gathered_nodes : take at nodes ++ take held small ≡ flatten (gathered minLeaf buckets)
+  pub gathered_nodes : take w.at nodes ++ take w.held small ≡ flatten (gathered minLeaf buckets)
   unfolding gathered
   gathered_nodes =
       ap₂ (λ (a : List ℕ) (b : List ℕ). a ++ b) h.placed_nodes h.small_nodes
@@ -268,7 +270,7 @@ module _ (minLeaf : ℕ) (buckets : List (List ℕ)) (at held : ℕ) (small node
         | no k ↦ omega arith
       ]
 
-  pub gathered_marks : (rest : ℕ) → rest ≡ held → take at marks ++ run (pick (eqb at 0) 1 0) rest ≡ marks_of (gathered minLeaf buckets)
+  pub gathered_marks : (rest : ℕ) → rest ≡ w.held → take w.at marks ++ run (pick (eqb w.at 0) 1 0) rest ≡ marks_of (gathered minLeaf buckets)
   gathered_marks rest e =
       ap₂ (λ (a : List ℕ) (n : ℕ). a ++ run (pick (eqb n 0) 1 0) rest) h.placed_marks h.placed_size
       ∙ marks_so rest (e ∙ h.small_size)

@@ -1,205 +1,180 @@
--- How a candidate comes to its cell where cells stand in two slices: it belongs behind the hashes below its own, and there it meets the cell that
--- has its hash, or a new cell is put. Assumes nothing.
-use mathlib.Core.Path.{◌≡◌, refl, sym, ap, ap₂, ◌∙◌, subst}
-use mathlib.Core.Bool.{Bool, true, false, ◌&&◌}
+-- How a candidate comes to its cell: it belongs behind the hashes below its own, and there it meets the cell that has its hash, or a new cell is put.
+-- Assumes nothing.
+use mathlib.Core.Path.{◌≡◌, refl, sym, ap, ◌∙◌, subst}
+use mathlib.Core.Bool.{Bool, true, false}
 use mathlib.Core.Logic.{inl, inr}
-use mathlib.Core.List.{List, [], ◌∷◌, ◌++◌, map}
+use mathlib.Core.List.{List, [], ◌∷◌, ◌++◌, map, map-map}
 use mathlib.Core.List.Memᴰ.{append_cases as in-cases}
 use mathlib.Core.List.Memᴰ.{eq_of_singleton as in_one}
 use mathlib.Core.List.Memᴰ.{not-nil as in-nil}
 use mathlib.Core.List.{Memᴰ as In}
-use Prim.Native.Nat.{ℕ, zero, suc, ◌+◌, ◌≤◌, ◌<◌}
+use Prim.Native.Nat.{ℕ, zero, suc, ◌+◌, ◌-◌, ◌≤◌, ◌<◌}
+use lib.ListN.{length-drop}
 use native.Mathlib.Numerals.{add-one}
 use native.Mathlib.Omega.{arith}
-use borrow.Author.Tests.{lt-ltb, le-ltb, eq-eqb, ne_eqb, ltb-true, ltb-false, eqb-true, eqb-false}
+use borrow.Author.Tests.{lt-ltb, le-ltb, eq-eqb, ne_eqb, leb-true, leb-false}
 use lib.Arith.{lt_of_le-ne}
-use lib.Dec.{ltb, eqb}
-use lib.ListN.{length, get_or, set, take, drop, length-take}
-use lib.Seq.{take-suc, take-take, take_at, get_or-take, take-set-lt}
+use lib.Dec.{leb}
+use lib.ListN.{length, get_or, set, take, drop, length-map, get_or-map}
+use lib.Seq.{take-suc, get_or-take, take-set-lt, length-take-le, set_at, take-take, append_snoc}
 use lib.Ieee.{Float, lt}
+use Rattle.std.specs.List.{position, position_or_len, copy_within}
+use Rattle.std.specs.Prelude.{nat_lt}
+use Rattle.std.specs.Option.{unwrap_or}
+use Rattle.std.proofs.lemmas.List.{drop-take}
+use Rattle.std.proofs.lemmas.List.Edits.{take-paste}
+use borrow.Author.Tests.{ltb-false}
+use Rattle.std.proofs.lemmas.List.Sums.{fails_before_first, passes_at_first, prefix_len-le-length}
 use Rattle.basics.specs.Choice.{pick, pick_true, pick_false}
 use Rattle.basics.specs.Nodes.{Below}
-use Rattle.basics.proofs.Tests.{both_true, one_false}
 use Rattle.basics.proofs.Members.{in_get_d}
-use Rattle.sorting.specs.Inside.Pairs.{pairs}
 use Rattle.def_graph.specs.Leaf.{Cell, nodes_in, put_cell, cells_from}
-use Rattle.def_graph.proofs.leaf.Cells.{hashes_in, cells_in_lem}
-use Rattle.hashprune.proofs.Lists.{length_inserted}
-use Rattle.hashprune.specs.Inside.Steps.{cell_in, cells_in, AllBelow, Placed, inserted_at, first_places}
+use Rattle.def_graph.proofs.leaf.Cells.{cells_in_lem}
+use Rattle.hashprune.specs.declared.Candidate.{Candidate}
+use Rattle.hashprune.specs.declared.Cell.{Cell as Taken}
+use Rattle.hashprune.specs.Inside.Steps.{no_cell, place_in, cell_in, cells_in, far_at, winner, first_places}
 
 -- ---- where a hash belongs
 
-pub below_more : (h : ℕ) (l : List ℕ) (x : ℕ) → AllBelow h l → x < h → AllBelow h (l ++ (x ∷ []))
-below_more h [] x b k = (k, tt)
-below_more h (y ∷ l) x b k = (b.0, below_more h l x b.1 k)
-
-pub below_next : (h : ℕ) (l : List ℕ) (j : ℕ) → j < length l → AllBelow h (take j l) → get_or l j 0 < h → AllBelow h (take (j + 1) l)
-below_next h l j k b less = rw (add-one j, take-suc l j 0 k) (below_more h (take j l) (get_or l j 0) b less)
+position_len : {A : Type 0} (p : A → Bool) (xs : List A) → unwrap_or (position p xs) (length xs) ≡ position_or_len p xs
+position_len p xs = go (nat_lt (position_or_len p xs) (length xs)) refl
+  where
+    go : (t : Bool) → nat_lt (position_or_len p xs) (length xs) ≡ t
+        → unwrap_or (mathlib.Core.Bool.cond t (Rattle.std.specs.Prelude.Some (position_or_len p xs)) Rattle.std.specs.Prelude.None) (length xs) ≡ position_or_len p xs
+    go true e = refl
+    go false e = omega (arith, ltb-false (position_or_len p xs) (length xs) e, prefix_len-le-length (λ x. mathlib.Core.Bool.not (p x)) xs)
 
 -- ---- one candidate comes
 
-module _ (far : ℕ → Float) (new : Cell) where
+-- an element put at a place, and what stood from there on moved up by one
+abbrev pub inserted_at {ℓ} : {A : Type ℓ} → ℕ → A → List A → List A
+inserted_at j v l = take j l ++ (v ∷ drop j l)
+
+module _ (far : ℕ → Float) (new d : Cell) where
   -- to no cell that is there
-  pub put_new : (cells : List Cell) (j : ℕ) → j ≤ length cells → AllBelow new.hash (take j (hashes_in cells))
-      → (j < length cells → new.hash < get_or (hashes_in cells) j 0) → put_cell far new cells ≡ inserted_at j new cells
+  put_new : (cells : List Cell) (j : ℕ) → j ≤ length cells → ((k : ℕ) → k < j → (get_or cells k d).hash < new.hash)
+      → (j < length cells → new.hash < (get_or cells j d).hash) → put_cell far new cells ≡ inserted_at j new cells
   unfolding put_cell
   put_new [] zero h b n = refl
   put_new [] (suc j) h b n = absurd (omega arith)
   put_new (c ∷ cells) zero h b n = pick_true _ _ (lt-ltb new.hash c.hash (n (omega arith)))
   put_new (c ∷ cells) (suc j) h b n =
-      let less : c.hash < new.hash = b.0 in
+      let less : c.hash < new.hash = b 0 (omega arith) in
       pick_false _ _ (le-ltb new.hash c.hash (omega arith))
       ∙ pick_false _ _ (ne_eqb new.hash c.hash (λ e. omega arith))
-      ∙ ap (λ (l : List Cell). c ∷ l) (put_new cells j (omega arith) b.1 (λ k. n (omega arith)))
+      ∙ ap (λ (l : List Cell). c ∷ l) (put_new cells j (omega arith) (λ k g. b (suc k) (omega arith)) (λ k. n (omega arith)))
 
   -- to the cell that has its hash
-  pub put_taken : (cells : List Cell) (j : ℕ) → j < length cells → AllBelow new.hash (take j (hashes_in cells)) → get_or (hashes_in cells) j 0 ≡ new.hash
-      → put_cell far new cells ≡ set cells j (pick (lt (far new.node) (far (get_or cells j new).node)) new (get_or cells j new))
+  put_taken : (cells : List Cell) (j : ℕ) → j < length cells → ((k : ℕ) → k < j → (get_or cells k d).hash < new.hash) → (get_or cells j d).hash ≡ new.hash
+      → put_cell far new cells ≡ set cells j (pick (lt (far new.node) (far (get_or cells j d).node)) new (get_or cells j d))
   unfolding put_cell
   put_taken [] j h b e = absurd (omega arith)
   put_taken (c ∷ cells) zero h b e =
       pick_false _ _ (le-ltb new.hash c.hash (omega arith)) ∙ pick_true _ _ (eq-eqb new.hash c.hash (sym e))
   put_taken (c ∷ cells) (suc j) h b e =
-      let less : c.hash < new.hash = b.0 in
+      let less : c.hash < new.hash = b 0 (omega arith) in
       pick_false _ _ (le-ltb new.hash c.hash (omega arith))
       ∙ pick_false _ _ (ne_eqb new.hash c.hash (λ e. omega arith))
-      ∙ ap (λ (l : List Cell). c ∷ l) (put_taken cells j (omega arith) b.1 e)
+      ∙ ap (λ (l : List Cell). c ∷ l) (put_taken cells j (omega arith) (λ k g. b (suc k) (omega arith)) e)
 
--- ---- cells in two lists of one length
+-- ---- the slice
 
-hashes_of : (hs is : List ℕ) → length hs ≡ length is → hashes_in (map cell_in (pairs hs is)) ≡ hs
-unfolding pairs
-hashes_of [] is e = refl
-hashes_of (h ∷ hs) [] e = absurd (omega arith)
-hashes_of (h ∷ hs) (i ∷ is) e = ap (λ (l : List ℕ). h ∷ l) (hashes_of hs is (omega arith))
+-- the first of a slice from a place on moved up by one, and v put there
+opened : {A : Type 0} (d v : A) (xs : List A) (held at : ℕ) → at ≤ held → held < length xs
+    → take (held + 1) (set (copy_within xs at held (at + 1)) at v) ≡ inserted_at at v (take held xs)
+opened {A} d v xs held at h room =
+    let n : at + 1 + (held - at) ≡ held + 1 = omega arith in
+    let m : at + (held - at) ≡ held = omega arith in
+    let moved : take (held + 1) (copy_within xs at held (at + 1)) ≡ take (at + 1) xs ++ take (held - at) (drop at xs)
+    = ap (λ (k : ℕ). take k (copy_within xs at held (at + 1))) (sym n) ∙ take-paste xs (at + 1) (drop at xs) (held - at) (omega arith) (omega (arith, length-drop at xs)) in
+    let rest : take (held - at) (drop at xs) ≡ drop at (take held xs) = sym (drop-take at (held - at) xs) ∙ ap (λ (k : ℕ). drop at (take k xs)) m in
+    let one : take (at + 1) xs ≡ take at xs ++ (get_or xs at d ∷ []) = rw add-one (take-suc xs at d (omega arith)) in
+    take-set-lt (held + 1) (copy_within xs at held (at + 1)) at v (omega arith)
+    ∙ ap (λ (l : List A). set l at v) (moved ∙ (λ i. one i ++ rest i) ∙ append_snoc (take at xs) (get_or xs at d) (drop at (take held xs)))
+    ∙ set_at (take at xs) (get_or xs at d) (drop at (take held xs)) v at (length-take-le at xs (omega arith))
+    ∙ ap (λ (l : List A). l ++ (v ∷ drop at (take held xs))) (sym (take-take at held xs h))
 
-pub nodes_of : (hs is : List ℕ) → length hs ≡ length is → nodes_in (map cell_in (pairs hs is)) ≡ is
-unfolding pairs
-nodes_of [] [] e = refl
-nodes_of [] (i ∷ is) e = absurd (omega arith)
-nodes_of (h ∷ hs) [] e = absurd (omega arith)
-nodes_of (h ∷ hs) (i ∷ is) e = ap (λ (l : List ℕ). i ∷ l) (nodes_of hs is (omega arith))
+map_set : {A B : Type 0} (f : A → B) (xs : List A) (j : ℕ) (v : A) → map f (set xs j v) ≡ set (map f xs) j (f v)
+map_set f [] j v = refl
+map_set f (x ∷ xs) zero v = refl
+map_set f (x ∷ xs) (suc j) v = ap (λ l. f x ∷ l) (map_set f xs j v)
 
-length_cells : (hs is : List ℕ) → length hs ≡ length is → length (map cell_in (pairs hs is)) ≡ length hs
-unfolding pairs
-length_cells [] is e = refl
-length_cells (h ∷ hs) [] e = absurd (omega arith)
-length_cells (h ∷ hs) (i ∷ is) e = ap suc (length_cells hs is (omega arith))
+map_inserted : {A B : Type 0} (f : A → B) (xs : List A) (j : ℕ) (v : A) → map f (inserted_at j v xs) ≡ inserted_at j (f v) (map f xs)
+map_inserted f xs zero v = refl
+map_inserted f [] (suc j) v = refl
+map_inserted f (x ∷ xs) (suc j) v = ap (λ l. f x ∷ l) (map_inserted f xs j v)
 
-cell_at : (d : Cell) (hs is : List ℕ) (j : ℕ) → j < length hs → j < length is → get_or (map cell_in (pairs hs is)) j d ≡ cell_in (get_or hs j 0, get_or is j 0)
-unfolding pairs
-cell_at d [] is j h k = absurd (omega arith)
-cell_at d (x ∷ hs) [] j h k = absurd (omega arith)
-cell_at d (x ∷ hs) (i ∷ is) zero h k = refl
-cell_at d (x ∷ hs) (i ∷ is) (suc j) h k = cell_at d hs is j (omega arith) (omega arith)
-
-cells_set : (hs is : List ℕ) (j v : ℕ) → map cell_in (pairs hs (set is j v)) ≡ set (map cell_in (pairs hs is)) j (cell_in (get_or hs j 0, v))
-unfolding pairs
-cells_set [] is j v = refl
-cells_set (h ∷ hs) [] j v = refl
-cells_set (h ∷ hs) (i ∷ is) zero v = refl
-cells_set (h ∷ hs) (i ∷ is) (suc j) v = ap (λ (l : List Cell). cell_in (h, i) ∷ l) (cells_set hs is j v)
-
-cells_put : (hs is : List ℕ) (j h i : ℕ) → length hs ≡ length is → j ≤ length hs
-    → map cell_in (pairs (inserted_at j h hs) (inserted_at j i is)) ≡ inserted_at j (cell_in (h, i)) (map cell_in (pairs hs is))
-unfolding pairs
-cells_put hs is zero h i e k = refl
-cells_put [] is (suc j) h i e k = absurd (omega arith)
-cells_put (x ∷ hs) [] (suc j) h i e k = absurd (omega arith)
-cells_put (x ∷ hs) (y ∷ is) (suc j) h i e k = ap (λ (l : List Cell). cell_in (x, y) ∷ l) (cells_put hs is j h i (omega arith) (omega arith))
-
--- ---- the slices
-
--- the first n + 1 of a slice into whose first n a number is put
-inserted_take : (l : List ℕ) (n j v : ℕ) → j ≤ n → n < length l → take (suc n) (inserted_at j v (take (suc n) l)) ≡ inserted_at j v (take n l)
-inserted_take [] n j v h k = absurd (omega arith)
-inserted_take (x ∷ l) n zero v h k = ap (λ (r : List ℕ). v ∷ r) (take-take n (suc n) (x ∷ l) (omega arith))
-inserted_take (x ∷ l) zero (suc j) v h k = absurd (omega arith)
-inserted_take (x ∷ l) (suc n) (suc j) v h k = ap (λ (r : List ℕ). x ∷ r) (inserted_take l n j v (omega arith) (omega arith))
-
-inserted_front : (l l' : List ℕ) (n j v : ℕ) → j ≤ n → n < length l → l' ≡ take (length (take (n + 1) l)) (inserted_at j v (take (n + 1) l)) ++ drop (n + 1) l
-    → take (n + 1) l' ≡ inserted_at j v (take n l)
-inserted_front l l' n j v h k e =
-    let size : length (take (n + 1) l) ≡ n + 1 = simp length-take (omega arith) in
-    let part : take (n + 1) (inserted_at j v (take (n + 1) l)) ≡ inserted_at j v (take n l) = rw (add-one n) (inserted_take l n j v h k) in
-    let long : length (inserted_at j v (take n l)) ≡ n + 1 = omega (arith, length_inserted (take n l) j v, length-take n l) in
-    ap (take (n + 1)) (e ∙ ap (λ (m : ℕ). take m (inserted_at j v (take (n + 1) l)) ++ drop (n + 1) l) size ∙ ap (λ (r : List ℕ). r ++ drop (n + 1) l) part)
-    ∙ take_at (inserted_at j v (take n l)) (drop (n + 1) l) (n + 1) long
-
-pick_cell : (t : Bool) (h a b : ℕ) → cell_in (h, pick t a b) ≡ pick t (cell_in (h, a)) (cell_in (h, b))
+pick_place : (t : Bool) (h a b : ℕ) → cell_in (record { hash = h; place = pick t a b }) ≡ pick t (cell_in (record { hash = h; place = a })) (cell_in (record { hash = h; place = b }))
 unfolding pick
-pick_cell true h a b = refl
-pick_cell false h a b = refl
+pick_place true h a b = refl
+pick_place false h a b = refl
 
-module _ (far : ℕ → Float) (held hash place at : ℕ) (hs is : List ℕ) (hk : held ≤ length hs) (ik : held ≤ length is) (placed : Placed hash (take held hs) at) where
-  abbrev new : Cell
-  new = cell_in (hash, place)
+module _ (candidates : List Candidate) (held : ℕ) (new : Taken) (cells : List Taken) (room : held < length cells) (at : ℕ)
+    (found : at ≡ unwrap_or (position (λ (c : Taken). leb new.hash c.hash) (take held cells)) held) where
+  abbrev far : ℕ → Float
+  far = far_at candidates
 
-  abbrev cells : List Cell
-  cells = cells_in held hs is
+  abbrev none : Cell
+  none = cell_in no_cell
 
-  abbrev test : Bool
-  test = ltb at (length (take held hs)) && eqb (get_or (take held hs) at 0) hash
+  size : length (take held cells) ≡ held
+  size = length-take-le held cells (omega arith)
 
-  size_h : length (take held hs) ≡ held
-  size_h = simp length-take (omega arith)
-
-  size_i : length (take held is) ≡ held
-  size_i = simp length-take (omega arith)
-
-  hashes_are : hashes_in cells ≡ take held hs
-  hashes_are = hashes_of (take held hs) (take held is) (size_h ∙ sym size_i)
-
-  many : length cells ≡ held
-  many = length_cells (take held hs) (take held is) (size_h ∙ sym size_i) ∙ size_h
-
-  before : AllBelow hash (take at (hashes_in cells))
-  before = rw hashes_are placed.before
+  is : at ≡ position_or_len (λ (c : Taken). leb new.hash c.hash) (take held cells)
+  is = found ∙ ap (unwrap_or (position (λ (c : Taken). leb new.hash c.hash) (take held cells))) (sym size) ∙ position_len (λ (c : Taken). leb new.hash c.hash) (take held cells)
 
   pub at_within : at ≤ held
-  at_within = omega (arith, size_h, placed.within)
+  at_within = omega (arith, is, size, prefix_len-le-length (λ (c : Taken). mathlib.Core.Bool.not (leb new.hash c.hash)) (take held cells))
 
-  pub at_inside : test ≡ true → at < held
-  at_inside t = omega (arith, size_h, ltb-true at (length (take held hs)) (both_true (ltb at (length (take held hs))) (eqb (get_or (take held hs) at 0) hash) t).0)
+  many : length (cells_in held cells) ≡ held
+  many = length-map (take held cells) cell_in ∙ size
+
+  read : (k : ℕ) → k < held → get_or (cells_in held cells) k none ≡ cell_in (get_or cells k no_cell)
+  read k h = get_or-map cell_in (take held cells) k no_cell ∙ ap cell_in (get_or-take held cells k no_cell h)
+
+  -- all before it are below its hash
+  before : (k : ℕ) → k < at → (get_or (cells_in held cells) k none).hash < new.hash
+  before k h =
+      let fails = fails_before_first (λ (c : Taken). leb new.hash c.hash) (take held cells) k no_cell (subst (λ (j : ℕ). k < j) is h) in
+      let less : (get_or (take held cells) k no_cell).hash < new.hash = leb-false _ _ fails in
+      subst (λ (c : Cell). c.hash < new.hash) (sym (get_or-map cell_in (take held cells) k no_cell)) less
+
+  -- the one there is not
+  here : at < held → new.hash ≤ (get_or cells at no_cell).hash
+  here h =
+      let passes = passes_at_first (λ (c : Taken). leb new.hash c.hash) (take held cells) no_cell (omega (arith, is, size)) in
+      let more = leb-true _ _ passes in
+      subst (λ (c : Taken). new.hash ≤ c.hash) (ap (λ (j : ℕ). get_or (take held cells) j no_cell) (sym is) ∙ get_or-take held cells at no_cell h) more
 
   -- its hash is there
-  pub taken_cells : (is' : List ℕ) → test ≡ true → is' ≡ set is at (pick (lt (far place) (far (get_or is at 0))) place (get_or is at 0))
-      → cells_in held hs is' ≡ put_cell far new cells
-  taken_cells is' t e =
-      let inside : at < held = at_inside t in
-      let same : get_or (take held hs) at 0 ≡ hash = eqb-true _ _ (both_true (ltb at (length (take held hs))) (eqb (get_or (take held hs) at 0) hash) t).1 in
-      let holder : ℕ = get_or is at 0 in
-      let won : Bool = lt (far place) (far holder) in
-      let old : get_or cells at new ≡ cell_in (hash, holder)
-      = cell_at new (take held hs) (take held is) at (omega (arith, size_h)) (omega (arith, size_i))
-      ∙ ap₂ (λ (h i : ℕ). cell_in (h, i)) same (get_or-take held is at 0 inside) in
-      ap (cells_in held hs) e
-      ∙ ap (λ (r : List ℕ). map cell_in (pairs (take held hs) r)) (take-set-lt held is at (pick won place holder) inside)
-      ∙ cells_set (take held hs) (take held is) at (pick won place holder)
-      ∙ ap (λ (h : ℕ). set cells at (cell_in (h, pick won place holder))) same
-      ∙ ap (set cells at) (pick_cell won hash place holder)
-      ∙ ap (λ (c : Cell). set cells at (pick (lt (far place) (far c.node)) new c)) (sym old)
-      ∙ sym (put_taken far new cells at (omega (arith, many)) before (ap (λ (l : List ℕ). get_or l at 0) hashes_are ∙ same))
+  pub taken_cells : (cells' : List Taken) → at < held → (get_or cells at no_cell).hash ≡ new.hash
+      → cells' ≡ set cells at (winner candidates new.place (get_or cells at no_cell)) → cells_in held cells' ≡ put_cell far (cell_in new) (cells_in held cells)
+  taken_cells cells' h same e =
+      let old : Taken = get_or cells at no_cell in
+      let won : Bool = lt (far new.place) (far old.place) in
+      ap (cells_in held) e
+      ∙ ap (map cell_in) (take-set-lt held cells at (winner candidates new.place old) h)
+      ∙ map_set cell_in (take held cells) at (winner candidates new.place old)
+      ∙ ap (set (cells_in held cells) at) (pick_place won old.hash new.place old.place ∙ ap (λ (k : ℕ). pick won (cell_in (record { hash = k; place = new.place })) (cell_in old)) same)
+      ∙ ap (λ (c : Cell). set (cells_in held cells) at (pick (lt (far new.place) (far c.node)) (cell_in new) c)) (sym (read at h))
+      ∙ sym (put_taken far (cell_in new) none (cells_in held cells) at (omega (arith, many)) before (ap (λ (c : Cell). c.hash) (read at h) ∙ same))
 
   -- it is not
-  pub new_cells : (hs' is' : List ℕ) → test ≡ false → held < length hs → held < length is
-      → hs' ≡ take (length (take (held + 1) hs)) (inserted_at at hash (take (held + 1) hs)) ++ drop (held + 1) hs
-      → is' ≡ take (length (take (held + 1) is)) (inserted_at at place (take (held + 1) is)) ++ drop (held + 1) is
-      → cells_in (held + 1) hs' is' ≡ put_cell far new cells
-  new_cells hs' is' t hr ir eh ei =
-      ap₂ (λ (h i : List ℕ). map cell_in (pairs h i)) (inserted_front hs hs' held at hash at_within hr eh) (inserted_front is is' held at place at_within ir ei)
-      ∙ cells_put (take held hs) (take held is) at hash place (size_h ∙ sym size_i) placed.within
-      ∙ sym (put_new far new cells at (omega (arith, many, at_within)) before (λ k.
-      elim (one_false (ltb at (length (take held hs))) (eqb (get_or (take held hs) at 0) hash) t) [
-        | inl f ↦ absurd (omega (arith, ltb-false at (length (take held hs)) f, size_h, many))
-        | inr f ↦ rw hashes_are (lt_of_le-ne (placed.here (omega (arith, size_h, many))) (λ e. eqb-false (get_or (take held hs) at 0) hash f (sym e)))
-      ]))
+  pub new_cells : (moved : List Taken) → (at < held → (get_or cells at no_cell).hash ≡ new.hash → ⊥)
+      → moved ≡ copy_within cells at held (at + 1) → cells_in (held + 1) (set moved at new) ≡ put_cell far (cell_in new) (cells_in held cells)
+  new_cells moved other e =
+      ap (λ (l : List Taken). map cell_in (take (held + 1) (set l at new))) e
+      ∙ ap (map cell_in) (opened no_cell new cells held at at_within room)
+      ∙ map_inserted cell_in (take held cells) at new
+      ∙ sym (put_new far (cell_in new) none (cells_in held cells) at (omega (arith, many, at_within)) before (λ k.
+      let h : at < held = omega (arith, many) in
+      subst (λ (c : Cell). new.hash < c.hash) (sym (read at h)) (lt_of_le-ne (here h) (λ q. other h (sym q)))))
 
   -- the place that holds the cell is among those held
-  pub holder_inside : (m : ℕ) → Below m (take held is) → test ≡ true → get_or is at 0 < m
-  holder_inside m b t =
-      let inside : at < held = at_inside t in
-      subst (λ (x : ℕ). x < m) (get_or-take held is at 0 inside) (b _ (in_get_d (take held is) at 0 (omega (arith, size_i))))
+  pub holder_inside : (m : ℕ) → Below m (map place_in (take held cells)) → at < held → place_in (get_or cells at no_cell) < m
+  holder_inside m b h =
+      subst (λ (x : ℕ). x < m) (get_or-map place_in (take held cells) at no_cell ∙ ap place_in (get_or-take held cells at no_cell h))
+      (b _ (in_get_d (map place_in (take held cells)) at 0 (omega (arith, size, length-map (take held cells) place_in))))
 
 -- ---- all candidates come
 
@@ -222,32 +197,26 @@ module _ (far : ℕ → Float) (hash : ℕ → ℕ) where
   pub cells_below : (i : ℕ) → Below i (nodes_in (cells_from far hash [] (first_places i)))
   cells_below i x m = elim (cells_in_lem far hash x [] (first_places i) m) [ inl n ↦ absurd (in-nil n) | inr n ↦ places_below i x n ]
 
-  -- the first i have come, and hold the first cells of two slices
-  pub record Came (i held : ℕ) (hs is : List ℕ) : Type 0 where
+  -- the first i have come, and hold the first cells of a slice
+  pub record Came (i held : ℕ) (cells : List Taken) : Type 0 where
     pub few : held ≤ i
-    pub cells_are : cells_in held hs is ≡ cells_from far hash [] (first_places i)
+    pub cells_are : cells_in held cells ≡ cells_from far hash [] (first_places i)
 
-module _ {far : ℕ → Float} {hash : ℕ → ℕ} where
-  pub came_none : {hs is : List ℕ} → Came far hash 0 0 hs is
-  unfolding cells_from first_places pairs
-  came_none = record { few = omega arith; cells_are = refl }
+  pub came_none : (cells : List Taken) → Came 0 0 cells
+  unfolding cells_from first_places
+  came_none cells = record { few = omega arith; cells_are = refl }
 
-  pub came_more : {i held r h : ℕ} {hs is hs' is' : List ℕ} → Came far hash i held hs is → h ≡ hash i → r ≤ held + 1
-      → cells_in r hs' is' ≡ put_cell far (cell_in (h, i)) (cells_in held hs is) → Came far hash (i + 1) r hs' is'
+  pub came_more : (i held r h : ℕ) (cells cells' : List Taken) → Came i held cells → h ≡ hash i → r ≤ held + 1
+      → cells_in r cells' ≡ put_cell far (cell_in (record { hash = h; place = i })) (cells_in held cells) → Came (i + 1) r cells'
   unfolding first_places
-  came_more {i} c e n q = record {
+  came_more i held r h cells cells' c e n q = record {
     few = omega (arith, c.few);
-    cells_are = q ∙ rw (e, c.cells_are, add-one) (sym (cells_snoc far hash [] (first_places i) i));
+    cells_are = q ∙ rw (e, c.cells_are, add-one) (sym (cells_snoc [] (first_places i) i));
   }
 
--- the slice of places alone
-pub places_are : (held : ℕ) (hs is : List ℕ) (cells : List Cell) → held ≤ length hs → held ≤ length is → cells_in held hs is ≡ cells
-    → take held is ≡ nodes_in cells
-places_are held hs is cells hk ik e =
-    let h : length (take held hs) ≡ held = simp length-take (omega arith) in
-    let k : length (take held is) ≡ held = simp length-take (omega arith) in
-    sym (nodes_of (take held hs) (take held is) (h ∙ sym k)) ∙ ap nodes_in e
+  -- the places that hold them
+  pub places_are : (held : ℕ) (cells : List Taken) (all : List Cell) → cells_in held cells ≡ all → map place_in (take held cells) ≡ nodes_in all
+  places_are held cells all e = sym (map-map (λ (c : Cell). c.node) cell_in (take held cells)) ∙ ap nodes_in e
 
-pub came_below : {far : ℕ → Float} {hash : ℕ → ℕ} {i held : ℕ} {hs is : List ℕ} → held ≤ length hs → held ≤ length is
-    → Came far hash i held hs is → Below i (take held is)
-came_below {far} {hash} {i} {held} {hs} {is} hk ik c x m = cells_below far hash i x (rw (places_are held hs is _ hk ik c.cells_are) at m)
+  pub came_below : (i held : ℕ) (cells : List Taken) → Came i held cells → Below i (map place_in (take held cells))
+  came_below i held cells c x m = cells_below i x (rw (places_are held cells _ c.cells_are) at m)

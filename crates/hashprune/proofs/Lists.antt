@@ -1,68 +1,29 @@
--- Laws of lists that the loops of this crate use: a number put at a place by moving on what it meets, a residual cut to the room there is.
--- Assumes nothing.
-use mathlib.Core.Path.{◌≡◌, refl, sym, ap, ap₂, ◌∙◌}
-use mathlib.Core.List.{List, [], ◌∷◌, ◌++◌, append-nil}
+-- Laws of lists that the loops of this crate use: elements put at the front one by one, a residual cut to the room there is. Assumes nothing.
+use mathlib.Core.Path.{◌≡◌, sym, ap, ap₂, ◌∙◌}
+use mathlib.Core.List.{List, [], ◌∷◌, ◌++◌, map, map-append, append-nil}
 use Prim.Native.Nat.{ℕ, zero, suc, ◌+◌, ◌≤◌, ◌<◌, min}
 use native.Mathlib.Nat.{zero-min}
 use native.Mathlib.Numerals.{add-one}
 use native.Mathlib.Omega.{arith}
-use lib.ListN.{length, get_or, set, take, drop, length-take, length-drop, length-append, take-append-drop, drop_of_length-le}
-use lib.Seq.{take_at, drop-cons, drop-length, get_or_at, length-take-le}
+use lib.ListN.{length, get_or, set, take, drop, length-map, drop_of_length-le}
+use lib.Seq.{take_at, take-suc, take_all, length-take-le}
 use lib.Ieee.{Float}
-use Rattle.words.proofs.slices.Laws.{copied, copied_more}
-use Rattle.hashprune.specs.Inside.Steps.{inserted_at}
+use Rattle.basics.proofs.Loops.{front_set}
 
-pub length_inserted : (l : List ℕ) (j v : ℕ) → length (inserted_at j v l) ≡ suc (length l)
-length_inserted l j v = simp (length-append, length-take, length-drop) (omega arith)
+-- ---- the images of a list, put at the front of another one by one
 
-inserted_after : (l : List ℕ) (at v j : ℕ) → at ≤ j → at ≤ length l → get_or (inserted_at at v l) (suc j) 0 ≡ get_or l j 0
-inserted_after l zero v j h k = refl
-inserted_after [] (suc at) v j h k = absurd (omega arith)
-inserted_after (x ∷ l) (suc at) v zero h k = absurd (omega arith)
-inserted_after (x ∷ l) (suc at) v (suc j) h k = inserted_after l at v j (omega arith) (omega arith)
+module _ {A B : Type 0} (f : A → B) (xs : List A) (ys : List B) where
+  abbrev pub written : ℕ → List B
+  written i = map f (take i xs) ++ drop i ys
 
--- what a loop that copies has not reached is as it was
-pub copied_rest : (to from : List ℕ) (j : ℕ) → j < length to → j ≤ length from → get_or (copied to from j) j 0 ≡ get_or to j 0
-copied_rest to from j h k =
-    ap (λ (l : List ℕ). get_or (take j from ++ l) j 0) (drop-cons to j 0 h)
-    ∙ get_or_at (take j from) (get_or to j 0) (drop (suc j) to) 0 j (length-take-le j from k)
+  pub written_more : (d : A) (i : ℕ) → i < length xs → length xs ≤ length ys → set (written i) i (f (get_or xs i d)) ≡ written (i + 1)
+  written_more d i h room =
+      front_set ys (map f (take i xs)) i (f (get_or xs i d)) (length-map (take i xs) f ∙ length-take-le i xs (omega arith)) (omega arith)
+      ∙ ap (λ (r : List B). r ++ drop (i + 1) ys)
+      (sym (map-append f (take i xs) (get_or xs i d ∷ [])) ∙ ap (map f) (sym (take-suc xs i d h) ∙ ap (λ (k : ℕ). take k xs) (sym (add-one i))))
 
--- the loop of `insert_at` carries the element that belongs at j, and the first j are written
-pub record Carried (s₀ : List ℕ) (at v : ℕ) (s : List ℕ) (carried j : ℕ) : Type 0 where
-  pub from : at ≤ j
-  pub within : j ≤ length s₀
-  pub long : length s ≡ length s₀
-  pub so_far : s ≡ copied s₀ (inserted_at at v s₀) j
-  pub next : carried ≡ get_or (inserted_at at v s₀) j 0
-
-module _ (s₀ : List ℕ) (at v : ℕ) (room : at ≤ length s₀) where
-  pub carried_first : Carried s₀ at v s₀ v at
-  carried_first = record {
-    from = omega arith;
-    within = room;
-    long = refl;
-    so_far =
-        sym (ap (λ (l : List ℕ). l ++ drop at s₀) (take_at (take at s₀) (v ∷ drop at s₀) at (length-take-le at s₀ room)) ∙ take-append-drop at s₀);
-    next = sym (get_or_at (take at s₀) v (drop at s₀) 0 at (length-take-le at s₀ room));
-  }
-
-  pub carried_more : (s : List ℕ) (carried j : ℕ) → j < length s₀ → Carried s₀ at v s carried j → Carried s₀ at v (set s j carried) (get_or s j 0) (j + 1)
-  carried_more s carried j h c =
-      let long = length_inserted s₀ at v in record {
-        from = omega (arith, c.from);
-        within = omega arith;
-        long = lib.ListN.length-set s j carried ∙ c.long;
-        so_far = ap₂ (λ (l : List ℕ) (x : ℕ). set l j x) c.so_far c.next ∙ copied_more s₀ (inserted_at at v s₀) 0 j h (omega arith);
-        next =
-            ap (λ (l : List ℕ). get_or l j 0) c.so_far
-            ∙ copied_rest s₀ (inserted_at at v s₀) j h (omega arith)
-            ∙ sym (ap (λ (k : ℕ). get_or (inserted_at at v s₀) k 0) (add-one j) ∙ inserted_after s₀ at v j c.from room);
-      }
-
-  pub carried_end : (s : List ℕ) (carried j : ℕ) → length s₀ ≤ j → Carried s₀ at v s carried j → s ≡ take (length s₀) (inserted_at at v s₀)
-  carried_end s carried j h c =
-      let e : j ≡ length s₀ = omega (arith, c.within) in
-      c.so_far ∙ rw (e, drop-length s₀) (append-nil (take (length s₀) (inserted_at at v s₀)))
+  pub written_end : (i : ℕ) → i ≡ length xs → written i ≡ map f xs ++ drop (length (map f xs)) ys
+  written_end i e = ap₂ (λ (r : List A) (k : ℕ). map f r ++ drop k ys) (take_all i xs (omega arith)) (e ∙ sym (length-map xs f))
 
 pub take_least : {A : Type 0} (n : ℕ) (l : List A) → take (min n (length l)) l ≡ take n l
 take_least zero l = ap (λ (k : ℕ). take k l) (zero-min (length l))

@@ -1,6 +1,6 @@
 -- What the steps make of a turn is what the definitions of part 5 say, where the caller prepared what `Turn` says: an index stands for its candidate,
 -- a pair for its node. Assumes nothing.
-use mathlib.Core.Path.{◌≡◌, refl, sym, ap, ap₂, ◌∙◌}
+use mathlib.Core.Path.{◌≡◌, refl, sym, ap, ap₂, subst, ◌∙◌}
 use mathlib.Core.Logic.{inl, inr}
 use mathlib.Core.Bool.{Bool}
 use mathlib.Core.List.{List, [], ◌∷◌, ◌++◌, map, map-append, map-map, map-id}
@@ -24,6 +24,8 @@ use Rattle.sorting.specs.Sorting.{sort_by}
 use Rattle.sorting.specs.Inside.Pairs.{key_in, id_in}
 use Rattle.sorting.proofs.Laws.{sort_map, take-map}
 use Rattle.distance.specs.Vectors.{vectors_in, vector_of, between, rank}
+use Rattle.distance.specs.declared.vectors.Vectors.{Vectors}
+use Rattle.sorting.specs.declared.Keyed.{Keyed}
 use Rattle.def_graph.specs.Simhash.{residual}
 use Rattle.def_graph.specs.Leaf.{Cell, nodes_in, put_cell, cells_from, dedup, hash_of, selected, merged}
 use Rattle.def_graph.proofs.leaf.Cells.{cells_in_lem}
@@ -31,9 +33,10 @@ use Rattle.simhash.specs.Inside.Blocks.{blocks_hash}
 use Rattle.simhash.proofs.Residual.{length-residual}
 use Rattle.simhash.proofs.Laws.{hash_is_simhash}
 use Rattle.store.specs.View.{entries_in, row_block}
+use Rattle.hashprune.specs.declared.Candidate.{Candidate}
 use Rattle.hashprune.specs.declared.Point.{Point}
-use Rattle.hashprune.specs.Inside.Steps.{far_at, hash_at, first_places, cells_of, ranked_place, ranked_node, selected_pairs, old_pairs, merged_pairs, row_after}
-use Rattle.hashprune.specs.Inside.Hashprune.{Turn}
+use Rattle.hashprune.specs.Inside.Steps.{no_candidate, node_at, far_at, hash_at, first_places, cells_of, ranked_place, ranked_node, selected_pairs, old_pairs, merged_pairs, row_after}
+use Rattle.hashprune.specs.Inside.Hashprune.{Turn, node_of, far_of}
 use Rattle.hashprune.proofs.Cells.{cells_below, places_below}
 
 -- ---- lists
@@ -106,19 +109,19 @@ module _ (n : ℕ) (far far' : ℕ → Float) (same : (i : ℕ) → i < n → fa
       ∙ cells_same hash hash' e (put_cell far' new cells) xs (put_below new cells h b) (λ y m. s y (there m))
 
 -- a list by its places
-places_all : (l : List ℕ) (n : ℕ) → n ≤ length l → map (λ (i : ℕ). get_or l i 0) (first_places n) ≡ take n l
+places_all : (l : List Candidate) (n : ℕ) → n ≤ length l → map (node_at l) (first_places n) ≡ map node_of (take n l)
 unfolding first_places
 places_all l zero h = refl
 places_all l (suc n) h =
-    map-append (λ (i : ℕ). get_or l i 0) (first_places n) (n ∷ [])
-    ∙ ap (λ (r : List ℕ). r ++ (get_or l n 0 ∷ [])) (places_all l n (omega arith))
-    ∙ sym (lib.Seq.take-suc l n 0 (omega arith))
+    map-append (node_at l) (first_places n) (n ∷ [])
+    ∙ ap (λ (r : List ℕ). r ++ (node_at l n ∷ [])) (places_all l n (omega arith))
+    ∙ sym (ap (map node_of) (lib.Seq.take-suc l n no_candidate (omega arith)) ∙ map-append node_of (take n l) (get_or l n no_candidate ∷ []))
 
 -- ---- pairs that stand for nodes
 
 module _ (f : ℕ → ℕ) where
-  abbrev ranked : ℕ → ℕ × ℕ
-  ranked x = (f x, x)
+  abbrev ranked : ℕ → Keyed
+  ranked x = record { key = f x; id = x }
 
   sort_ranked : (xs : List ℕ) → sort_by key_in (map ranked xs) ≡ map ranked (sort_by f xs)
   sort_ranked xs = sort_map key_in ranked xs
@@ -137,38 +140,55 @@ full vectors d i h =
     let whole = div-mul-le_self (length vectors) d in
     ap length (nth_piece d (length vectors / d) vectors i h) ∙ simp (length-take, length-drop) (omega arith)
 
-module _ (vectors : List Float) (dimension bits : ℕ) (planes : List Float) (p : ℕ) (candidates : List ℕ) (far : List Float) (row old : List ℕ)
-    (t : Turn vectors dimension bits planes p candidates far row old) where
+module _ (v : Vectors) (point : Point) (planes : List Float) (candidates : List Candidate) (row old : List ℕ)
+    (t : Turn v.components.now v.dimension point.bits planes point.node.0 (map node_of candidates) (map far_of candidates) row old) where
+  abbrev vectors : List Float
+  vectors = v.components.now
+
+  abbrev dimension : ℕ
+  dimension = v.dimension
+
+  abbrev bits : ℕ
+  bits = point.bits
+
+  abbrev p : ℕ
+  p = point.node.0
+
   abbrev vs : List (List Float)
   vs = vectors_in dimension vectors
 
-  abbrev point : Point
-  point = record { node = record { 0 = p }; dimension = dimension; bits = bits }
-
-  abbrev node_at : ℕ → ℕ
-  node_at i = get_or candidates i 0
+  abbrev nodes : List ℕ
+  nodes = map node_of candidates
 
   abbrev n : ℕ
   n = length candidates
 
-  far_same : (i : ℕ) → i < n → far_at far i ≡ between vs p (node_at i)
+  many : length nodes ≡ n
+  many = length-map candidates node_of
+
+  node_same : (i : ℕ) → get_or nodes i 0 ≡ node_at candidates i
+  node_same i = get_or-map node_of candidates i no_candidate
+
+  far_same : (i : ℕ) → i < n → far_at candidates i ≡ between vs p (node_at candidates i)
   far_same i h =
-      ap (λ (l : List Float). get_or l i nan) t.far_is
-      ∙ default (map (between vs p) candidates) i (omega (arith, length-map candidates (between vs p)))
-      ∙ get_or-map (between vs p) candidates i 0
+      sym (get_or-map far_of candidates i no_candidate)
+      ∙ ap (λ (l : List Float). get_or l i nan) t.far_is
+      ∙ default (map (between vs p) nodes) i (omega (arith, length-map nodes (between vs p), many))
+      ∙ get_or-map (between vs p) nodes i 0
+      ∙ ap (between vs p) (node_same i)
     where
       default : (l : List Float) (i : ℕ) → i < length l → get_or l i nan ≡ get_or l i (between vs p 0)
       default [] i h = absurd (omega arith)
       default (x ∷ l) zero h = refl
       default (x ∷ l) (suc i) h = default l i (omega arith)
 
-  hash_same : (i : ℕ) → i < n → hash_at point vectors planes candidates i ≡ hash_of bits dimension vs p (node_at i)
+  hash_same : (i : ℕ) → i < n → hash_at point v planes candidates i ≡ hash_of bits dimension vs p (node_at candidates i)
   unfolding hash_of
   hash_same i h =
       let pv : List Float = vector_of vs p in
-      let cv : List Float = vector_of vs (node_at i) in
+      let cv : List Float = vector_of vs (node_at candidates i) in
       let pl : length pv ≡ dimension = full vectors dimension p t.p_there in
-      let cl : length cv ≡ dimension = full vectors dimension (node_at i) (t.candidates_there (node_at i) (in_get_d candidates i 0 h)) in
+      let cl : length cv ≡ dimension = full vectors dimension (node_at candidates i) (subst (λ (x : ℕ). x < length vectors / dimension) (node_same i) (t.candidates_there (get_or nodes i 0) (in_get_d nodes i 0 (omega (arith, many))))) in
       let long : length (residual binary32 cv pv) ≡ dimension = omega (arith, length-residual binary32 cv pv) in
       let ps = t.planes_are in
       ap (λ (r : List Float). blocks_hash r planes (min bits 16)) (take_all 64 (residual binary32 cv pv) (omega (arith, t.dimension_most)))
@@ -179,45 +199,45 @@ module _ (vectors : List Float) (dimension bits : ℕ) (planes : List Float) (p 
   entries_are = ap entries_in t.row_is ∙ take_at old _ (length old) refl
 
   -- the pairs of the row's entries, and of the nodes that hold cells
-  old_are : old_pairs vectors dimension (vector_of vs p) row ≡ map (ranked (rank vs p)) old
+  old_are : old_pairs v (vector_of vs p) row ≡ map (ranked (rank vs p)) old
   unfolding rank between
-  old_are = ap (map (ranked_node vectors dimension (vector_of vs p))) entries_are
+  old_are = ap (map (ranked_node v (vector_of vs p))) entries_are
 
-  place_ranked : (i : ℕ) → i < n → ranked_place candidates far i ≡ ranked (rank vs p) (node_at i)
+  place_ranked : (i : ℕ) → i < n → ranked_place candidates i ≡ ranked (rank vs p) (node_at candidates i)
   unfolding rank
-  place_ranked i h = ap (λ (x : Float). (key_of binary32 x, node_at i)) (far_same i h)
+  place_ranked i h = ap (λ (x : Float). record { key = key_of binary32 x; id = node_at candidates i }) (far_same i h)
 
-  cells_are : map (ranked_place candidates far) (nodes_in (cells_of point vectors planes candidates far))
-      ≡ map (ranked (rank vs p)) (nodes_in (cells_from (between vs p) (hash_of bits dimension vs p) [] candidates))
+  cells_are : map (ranked_place candidates) (nodes_in (cells_of point v planes candidates))
+      ≡ map (ranked (rank vs p)) (nodes_in (cells_from (between vs p) (hash_of bits dimension vs p) [] nodes))
   cells_are =
-      let places : List Cell = cells_of point vectors planes candidates far in
-      let by_node : places ≡ cells_from (λ i. between vs p (node_at i)) (λ i. hash_of bits dimension vs p (node_at i)) [] (first_places n)
-      = cells_same n (far_at far) (λ i. between vs p (node_at i)) far_same (hash_at point vectors planes candidates)
-      (λ i. hash_of bits dimension vs p (node_at i)) hash_same [] (first_places n) (λ x m. absurd (in-nil m)) (λ x m. places_below n x m) in
-      let all : map node_at (first_places n) ≡ candidates = places_all candidates n (omega arith) ∙ lib.Seq.take-length candidates in
-      map_same (ranked_place candidates far) (λ i. ranked (rank vs p) (node_at i)) n (nodes_in places)
-      (cells_below (far_at far) (hash_at point vectors planes candidates) n) place_ranked
-      ∙ sym (map-map (ranked (rank vs p)) node_at (nodes_in places))
+      let places : List Cell = cells_of point v planes candidates in
+      let by_node : places ≡ cells_from (λ i. between vs p (node_at candidates i)) (λ i. hash_of bits dimension vs p (node_at candidates i)) [] (first_places n)
+      = cells_same n (far_at candidates) (λ i. between vs p (node_at candidates i)) far_same (hash_at point v planes candidates)
+      (λ i. hash_of bits dimension vs p (node_at candidates i)) hash_same [] (first_places n) (λ x m. absurd (in-nil m)) (λ x m. places_below n x m) in
+      let all : map (node_at candidates) (first_places n) ≡ nodes = places_all candidates n (omega arith) ∙ ap (map node_of) (lib.Seq.take-length candidates) in
+      map_same (ranked_place candidates) (λ i. ranked (rank vs p) (node_at candidates i)) n (nodes_in places)
+      (cells_below (far_at candidates) (hash_at point v planes candidates) n) place_ranked
+      ∙ sym (map-map (ranked (rank vs p)) (node_at candidates) (nodes_in places))
       ∙ ap (map (ranked (rank vs p)))
-      (ap (λ (l : List Cell). map node_at (nodes_in l)) by_node
-      ∙ sym (nodes_map node_at (cells_from (λ i. between vs p (node_at i)) (λ i. hash_of bits dimension vs p (node_at i)) [] (first_places n)))
-      ∙ ap nodes_in (sym (cells_map node_at (between vs p) (hash_of bits dimension vs p) [] (first_places n)))
+      (ap (λ (l : List Cell). map (node_at candidates) (nodes_in l)) by_node
+      ∙ sym (nodes_map (node_at candidates) (cells_from (λ i. between vs p (node_at candidates i)) (λ i. hash_of bits dimension vs p (node_at candidates i)) [] (first_places n)))
+      ∙ ap nodes_in (sym (cells_map (node_at candidates) (between vs p) (hash_of bits dimension vs p) [] (first_places n)))
       ∙ ap (λ (l : List ℕ). nodes_in (cells_from (between vs p) (hash_of bits dimension vs p) [] l)) all)
 
-  selected_are : take (length row - 1) (selected_pairs point vectors planes candidates far)
-      ≡ map (ranked (rank vs p)) (selected (length row - 1) bits dimension vs p candidates)
+  selected_are : take (length row - 1) (selected_pairs point v planes candidates)
+      ≡ map (ranked (rank vs p)) (selected (length row - 1) bits dimension vs p nodes)
   unfolding selected
   selected_are =
-      let nodes : List ℕ = nodes_in (cells_from (between vs p) (hash_of bits dimension vs p) [] candidates) in
-      ap (λ (l : List (ℕ × ℕ)). take (length row - 1) (sort_by key_in l)) cells_are
-      ∙ ap (take (length row - 1)) (sort_ranked (rank vs p) nodes)
-      ∙ take-map (ranked (rank vs p)) (length row - 1) (sort_by (rank vs p) nodes)
+      let held : List ℕ = nodes_in (cells_from (between vs p) (hash_of bits dimension vs p) [] nodes) in
+      ap (λ (l : List Keyed). take (length row - 1) (sort_by key_in l)) cells_are
+      ∙ ap (take (length row - 1)) (sort_ranked (rank vs p) held)
+      ∙ take-map (ranked (rank vs p)) (length row - 1) (sort_by (rank vs p) held)
 
-  pub turn_is : row_after point vectors planes candidates far row
-      ≡ row_block (length row - 1) (merged (length row - 1) vs p old (selected (length row - 1) bits dimension vs p candidates))
+  pub turn_is : row_after point v planes candidates row
+      ≡ row_block (length row - 1) (merged (length row - 1) vs p old (selected (length row - 1) bits dimension vs p nodes))
   unfolding merged
   turn_is =
-      let new : List ℕ = selected (length row - 1) bits dimension vs p candidates in
+      let new : List ℕ = selected (length row - 1) bits dimension vs p nodes in
       ap (row_block (length row - 1))
-      (ap (merged_pairs (length row - 1)) (ap₂ (λ (a b : List (ℕ × ℕ)). a ++ b) old_are selected_are ∙ sym (map-append (ranked (rank vs p)) old new))
+      (ap (merged_pairs (length row - 1)) (ap₂ (λ (a b : List Keyed). a ++ b) old_are selected_are ∙ sym (map-append (ranked (rank vs p)) old new))
       ∙ merged_ranked (rank vs p) (length row - 1) (old ++ new))

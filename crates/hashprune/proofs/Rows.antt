@@ -1,169 +1,134 @@
 -- A row's entries, the loops that drop equal neighbours and that write a row. Assumes nothing.
 use mathlib.Core.Path.{◌≡◌, refl, sym, ap, ap₂, ◌∙◌}
-use mathlib.Core.Bool.{Bool, true, false, ◌&&◌}
-use mathlib.Core.Logic.{◌⊎◌, inl, inr}
-use mathlib.Core.List.{List, [], ◌∷◌, ◌++◌, append-nil}
-use Prim.Native.Nat.{ℕ, zero, suc, ◌+◌, ◌-◌, ◌≤◌, ◌<◌, min}
+use mathlib.Core.Bool.{Bool, true, false}
+use mathlib.Core.List.{List, ◌∷◌, ◌++◌, map}
+use Prim.Native.Nat.{ℕ, suc, ◌+◌, ◌-◌, ◌≤◌, ◌<◌, min}
+use native.Mathlib.Numerals.{add-one}
 use native.Mathlib.Omega.{arith}
-use borrow.Author.Tests.{eq-eqb, ne_eqb, ltb-true, ltb-false, eqb-true, eqb-false}
-use lib.Dec.{ltb, eqb}
-use lib.ListN.{length, get_or, set, take, drop, replicate, length-take, length-drop, length-map, length-set, length-append, length-replicate, drop_of_length-le}
-use lib.Seq.{take_all, take-length, drop-length, drop-cons, get_or-take, get_or-set_same, take-set-le, take-take, drop-set-lt}
-use lib.Ieee.{Float}
+use lib.ListN.{length, get_or, set, take, drop, replicate, length-take, length-drop, length-map, length-set, length-replicate}
+use lib.Seq.{take_all, drop-length, drop-cons, get_or-take, get_or-set_same, take-set-le, take-take, drop-set-lt}
+use Rattle.std.proofs.lemmas.List.{drop-replicate, take_rest}
+use Rattle.sorting.proofs.Laws.{take-map}
 use Rattle.basics.specs.Choice.{pick_true, pick_false}
-use Rattle.basics.proofs.Tests.{both_true, one_false}
+use Rattle.sorting.specs.declared.Keyed.{Keyed}
+use Rattle.sorting.specs.Inside.Pairs.{id_in}
+use Rattle.sorting.proofs.Pairs.{no_pair}
 use Rattle.def_graph.specs.Leaf.{starts_with, dedup}
 use Rattle.store.specs.View.{entries_in, row_block}
-use Rattle.words.proofs.slices.Laws.{copied, copied_more}
-use Rattle.hashprune.specs.Inside.Steps.{ranked_node, old_pairs}
+use Rattle.hashprune.proofs.Lists.{written, written_more, take_least}
 
 -- ---- entries
 
 pub length-entries : (row : List ℕ) → length (entries_in row) ≡ min (get_or row 0 0) (length row - 1)
 length-entries row = simp (length-take, length-drop) (omega arith)
 
-pub old_few : (vectors : List Float) (dimension : ℕ) (p : List Float) (row : List ℕ) → length (old_pairs vectors dimension p row) ≤ length row - 1
-old_few vectors dimension p row = omega (arith, length-map (entries_in row) (ranked_node vectors dimension p), length-entries row)
-
--- all that stands from k on
-pub rest-whole : (l : List ℕ) (k : ℕ) → take (length l - k) (drop k l) ≡ drop k l
-rest-whole l k = take_all (length l - k) (drop k l) (omega (arith, length-drop k l))
-
 -- ---- equal neighbours
 
--- what stands from `from` on is what stays of the elements from i on; before i nothing changed
-pub record Deduped (ids₀ ids : List ℕ) (i from : ℕ) : Type 0 where
+-- what stands from `from` on is what stays of the pairs from i on; before i nothing changed
+pub record Deduped (l₀ l : List Keyed) (i from : ℕ) : Type 0 where
   pub behind : i ≤ from
-  pub within : from ≤ length ids₀
-  pub long : length ids ≡ length ids₀
-  pub before : take i ids ≡ take i ids₀
-  pub stays : drop from ids ≡ dedup (drop i ids₀)
+  pub within : from ≤ length l₀
+  pub long : length l ≡ length l₀
+  pub before : take i l ≡ take i l₀
+  pub stays : map id_in (drop from l) ≡ dedup (map id_in (drop i l₀))
 
-abbrev stands : List ℕ → ℕ → ℕ → Bool
-stands l at x = ltb at (length l) && eqb (get_or l at 0) x
-
-starts_yes : (l : List ℕ) (at x : ℕ) → stands l at x ≡ true → starts_with x (drop at l) ≡ true
-starts_yes l at x t =
-    let b = both_true (ltb at (length l)) (eqb (get_or l at 0) x) t in
-    ap (starts_with x) (drop-cons l at 0 (ltb-true at (length l) b.0)) ∙ eq-eqb x (get_or l at 0) (sym (eqb-true (get_or l at 0) x b.1))
-
-starts_no : (l : List ℕ) (at x : ℕ) → at ≤ length l → stands l at x ≡ false → starts_with x (drop at l) ≡ false
-starts_no l at x h t = go (one_false (ltb at (length l)) (eqb (get_or l at 0) x) t)
-  where
-    past : length l ≤ at → starts_with x (drop at l) ≡ false
-    past k = ap (starts_with x) (drop_of_length-le l k)
-
-    go : (ltb at (length l) ≡ false) ⊎ (eqb (get_or l at 0) x ≡ false) → starts_with x (drop at l) ≡ false
-    go (inl e) = past (ltb-false at (length l) e)
-    go (inr e) = elim (native.Mathlib.Decide.dec_lt at (length l)) [
-      | yes k ↦ ap (starts_with x) (drop-cons l at 0 k) ∙ ne_eqb x (get_or l at 0) (λ q. eqb-false (get_or l at 0) x e (sym q))
-      | no k ↦ past (omega arith)
-    ]
-
-module _ (ids₀ : List ℕ) where
-  pub deduped_none : Deduped ids₀ ids₀ (length ids₀) (length ids₀)
+module _ (l₀ : List Keyed) where
+  pub deduped_none : Deduped l₀ l₀ (length l₀) (length l₀)
   unfolding dedup
-  deduped_none = record { behind = omega arith; within = omega arith; long = refl; before = refl; stays = drop-length ids₀ ∙ sym (ap dedup (drop-length ids₀)) }
+  deduped_none = record {
+    behind = omega arith;
+    within = omega arith;
+    long = refl;
+    before = refl;
+    stays = ap (map id_in) (drop-length l₀) ∙ sym (ap (λ (r : List Keyed). dedup (map id_in r)) (drop-length l₀));
+  }
 
-  module _ (ids : List ℕ) (i from : ℕ) (some : 0 < i) (d : Deduped ids₀ ids i from) where
-    same_id : get_or ids (i - 1) 0 ≡ get_or ids₀ (i - 1) 0
-    same_id =
-        sym (get_or-take i ids (i - 1) 0 (omega arith)) ∙ ap (λ (l : List ℕ). get_or l (i - 1) 0) d.before ∙ get_or-take i ids₀ (i - 1) 0 (omega arith)
+  module _ (l : List Keyed) (i from : ℕ) (some : 0 < i) (d : Deduped l₀ l i from) where
+    abbrev pair : Keyed
+    pair = get_or l (i - 1) no_pair
 
-    longer : drop (i - 1) ids₀ ≡ get_or ids (i - 1) 0 ∷ drop i ids₀
+    same_pair : pair ≡ get_or l₀ (i - 1) no_pair
+    same_pair =
+        sym (get_or-take i l (i - 1) no_pair (omega arith))
+        ∙ ap (λ (r : List Keyed). get_or r (i - 1) no_pair) d.before
+        ∙ get_or-take i l₀ (i - 1) no_pair (omega arith)
+
+    longer : map id_in (drop (i - 1) l₀) ≡ pair.id ∷ map id_in (drop i l₀)
     longer =
         let e : suc (i - 1) ≡ i = omega arith in
-        let k : i - 1 < length ids₀ = omega (arith, d.behind, d.within) in
-        drop-cons ids₀ (i - 1) 0 k ∙ ap₂ (λ (x : ℕ) (j : ℕ). x ∷ drop j ids₀) (sym same_id) e
+        let k : i - 1 < length l₀ = omega (arith, d.behind, d.within) in
+        ap (map id_in) (drop-cons l₀ (i - 1) no_pair k) ∙ (λ j. id_in (sym same_pair j) ∷ map id_in (drop (e j) l₀))
 
-    before_less : (l : List ℕ) → take i l ≡ take i ids₀ → take (i - 1) l ≡ take (i - 1) ids₀
-    before_less l e = sym (take-take (i - 1) i l (omega arith)) ∙ ap (take (i - 1)) e ∙ take-take (i - 1) i ids₀ (omega arith)
+    before_less : (r : List Keyed) → take i r ≡ take i l₀ → take (i - 1) r ≡ take (i - 1) l₀
+    before_less r e = sym (take-take (i - 1) i r (omega arith)) ∙ ap (take (i - 1)) e ∙ take-take (i - 1) i l₀ (omega arith)
 
-    pub deduped_same : stands ids from (get_or ids (i - 1) 0) ≡ true → Deduped ids₀ ids (i - 1) from
+    rest : {b : Bool} → starts_with pair.id (map id_in (take (length l - from) (drop from l))) ≡ b → starts_with pair.id (map id_in (drop from l)) ≡ b
+    rest t = rw take_rest at t
+
+    pub deduped_same : starts_with pair.id (map id_in (take (length l - from) (drop from l))) ≡ true → Deduped l₀ l (i - 1) from
     unfolding dedup
     deduped_same t = record {
       behind = omega (arith, d.behind);
       within = d.within;
       long = d.long;
-      before = before_less ids d.before;
-      stays =
-          d.stays
-          ∙ sym (ap dedup longer ∙ pick_true _ _ (ap (starts_with (get_or ids (i - 1) 0)) (sym d.stays) ∙ starts_yes ids from (get_or ids (i - 1) 0) t));
+      before = before_less l d.before;
+      stays = d.stays ∙ sym (ap dedup longer ∙ pick_true _ _ (ap (starts_with pair.id) (sym d.stays) ∙ rest t));
     }
 
-    pub deduped_kept : stands ids from (get_or ids (i - 1) 0) ≡ false → Deduped ids₀ (set ids (from - 1) (get_or ids (i - 1) 0)) (i - 1) (from - 1)
+    pub deduped_kept : starts_with pair.id (map id_in (take (length l - from) (drop from l))) ≡ false → Deduped l₀ (set l (from - 1) pair) (i - 1) (from - 1)
     unfolding dedup
     deduped_kept t =
-        let x : ℕ = get_or ids (i - 1) 0 in
-        let ids' : List ℕ = set ids (from - 1) x in
-        let inside : from - 1 < length ids = omega (arith, d.behind, d.within, d.long) in
+        let l' : List Keyed = set l (from - 1) pair in
+        let inside : from - 1 < length l = omega (arith, d.behind, d.within, d.long) in
         let e : suc (from - 1) ≡ from = omega (arith, d.behind) in
-        let grown : drop (from - 1) ids' ≡ x ∷ drop from ids
-        = drop-cons ids' (from - 1) 0 (omega (arith, length-set ids (from - 1) x))
-        ∙ ap₂ (λ (y : ℕ) (l : List ℕ). y ∷ l) (get_or-set_same ids (from - 1) x 0 inside)
-        (drop-set-lt (suc (from - 1)) ids (from - 1) x (omega arith) ∙ ap (λ (j : ℕ). drop j ids) e) in record {
+        let grown : drop (from - 1) l' ≡ pair ∷ drop from l
+        = drop-cons l' (from - 1) no_pair (omega (arith, length-set l (from - 1) pair))
+        ∙ ap₂ (λ (y : Keyed) (r : List Keyed). y ∷ r) (get_or-set_same l (from - 1) pair no_pair inside)
+        (drop-set-lt (suc (from - 1)) l (from - 1) pair (omega arith) ∙ ap (λ (j : ℕ). drop j l) e) in record {
           behind = omega (arith, d.behind);
           within = omega (arith, d.within);
-          long = length-set ids (from - 1) x ∙ d.long;
-          before = take-set-le (i - 1) ids (from - 1) x (omega (arith, d.behind)) ∙ before_less ids d.before;
+          long = length-set l (from - 1) pair ∙ d.long;
+          before = take-set-le (i - 1) l (from - 1) pair (omega (arith, d.behind)) ∙ before_less l d.before;
           stays =
-              grown
-              ∙ ap (λ (l : List ℕ). x ∷ l) d.stays
-              ∙ sym (ap dedup longer ∙ pick_false _ _ (ap (starts_with x) (sym d.stays) ∙ starts_no ids from x (omega (arith, d.within, d.long)) t));
+              ap (map id_in) grown
+              ∙ ap (λ (r : List ℕ). pair.id ∷ r) d.stays
+              ∙ sym (ap dedup longer ∙ pick_false _ _ (ap (starts_with pair.id) (sym d.stays) ∙ rest t));
         }
 
 -- ---- a row as words
 
-padded_at : (l : List ℕ) (m k : ℕ) → get_or (l ++ replicate m 0) k 0 ≡ get_or l k 0
-padded_at [] zero k = refl
-padded_at [] (suc m) zero = refl
-padded_at [] (suc m) (suc k) = padded_at [] m k
-padded_at (x ∷ l) m zero = refl
-padded_at (x ∷ l) m (suc k) = padded_at l m k
+-- a count, the ids of the first i pairs, and zeros
+abbrev pub Written : ℕ → List Keyed → ℕ → List ℕ → Type 0
+Written D ps i row = row ≡ length ps ∷ written id_in ps (replicate D 0) i
 
--- the words of a row of D places with the first D of some nodes
-abbrev block : ℕ → List ℕ → List ℕ
-block D nodes = row_block D (take D nodes)
+pub written_count : (row : List ℕ) (ps : List Keyed) (count : ℕ) → 1 ≤ length row → count ≡ length ps
+    → Written (length row - 1) ps 0 (set (replicate (length row) 0) 0 count)
+written_count row ps count h e =
+    let n : length row ≡ suc (length row - 1) = omega arith in
+    ap (λ (k : ℕ). set (replicate k 0) 0 count) n ∙ ap (λ (k : ℕ). k ∷ replicate (length row - 1) 0) e
 
-length_block : (D : ℕ) (nodes : List ℕ) → length (block D nodes) ≡ suc D
-length_block D nodes = simp (length-append, length-replicate, length-take) (omega arith)
+pub written_next : (D : ℕ) (ps : List Keyed) (i : ℕ) (row : List ℕ) → i < length ps → length ps ≤ D → Written D ps i row
+    → Written D ps (i + 1) (set row (i + 1) (get_or ps i no_pair).id)
+written_next D ps i row h room w =
+    rw (add-one i)
+    (ap (λ (r : List ℕ). set r (suc i) (get_or ps i no_pair).id) w
+    ∙ ap (λ (r : List ℕ). length ps ∷ r) (written_more id_in ps (replicate D 0) no_pair i h (omega (arith, length-replicate {A = ℕ} D 0)) ∙ ap (written id_in ps (replicate D 0)) (add-one i)))
 
--- the first k words are written
-pub record Written (row₀ nodes row : List ℕ) (k : ℕ) : Type 0 where
-  pub some : 1 ≤ k
-  pub within : k ≤ length row₀
-  pub long : length row ≡ length row₀
-  pub are : row ≡ copied row₀ (block (length row₀ - 1) nodes) k
+whole : (ps : List Keyed) (i : ℕ) → i ≡ length ps → take i ps ≡ ps
+whole ps i k = take_all i ps (omega arith)
 
-module _ (nodes : List ℕ) where
-  pub written_count : (row : List ℕ) (count : ℕ) → 1 ≤ length row → count ≡ min (length row - 1) (length nodes)
-      → Written (set row 0 count) nodes (set row 0 count) 1
-  written_count [] count h e = absurd (omega arith)
-  written_count (x ∷ row) count h e =
-      let size : count ≡ length (take (suc (length row) - 1) nodes) = simp length-take (omega arith) in
-      record { some = omega arith; within = omega arith; long = refl; are = ap (λ (n : ℕ). n ∷ row) size }
+entries_are : (D : ℕ) (ps all : List Keyed) → ps ≡ take (min (length all) D) all → map id_in ps ≡ take D (map id_in all)
+entries_are D ps all e =
+    let n : min (length all) D ≡ min D (length (map id_in all)) = omega (arith, length-map all id_in) in
+    ap (map id_in) e ∙ sym (take-map id_in (min (length all) D) all) ∙ ap (λ (j : ℕ). take j (map id_in all)) n ∙ take_least D (map id_in all)
 
-  pub written_more : (row₀ row : List ℕ) (k v : ℕ) → k < length row₀ → Written row₀ nodes row k → v ≡ get_or nodes (k - 1) 0
-      → Written row₀ nodes (set row k v) (k + 1)
-  written_more row₀ row k v h w e =
-      let D : ℕ = length row₀ - 1 in
-      let at : k ≡ suc (k - 1) = omega (arith, w.some) in
-      let word : v ≡ get_or (block D nodes) k 0
-      = e
-      ∙ sym (get_or-take D nodes (k - 1) 0 (omega (arith, w.some)))
-      ∙ sym (padded_at (take D nodes) (D - length (take D nodes)) (k - 1))
-      ∙ ap (λ (j : ℕ). get_or (block D nodes) j 0) (sym at) in record {
-        some = omega arith;
-        within = omega arith;
-        long = length-set row k v ∙ w.long;
-        are = ap₂ (λ (l : List ℕ) (x : ℕ). set l k x) w.are word ∙ copied_more row₀ (block D nodes) 0 k h (omega (arith, length_block D nodes));
-      }
+many : (D : ℕ) (ps all : List Keyed) → ps ≡ take (min (length all) D) all → length ps ≡ length (take D (map id_in all))
+many D ps all e = sym (length-map ps id_in) ∙ ap length (entries_are D ps all e)
 
-  pub written_end : (row₀ row : List ℕ) (k : ℕ) → length row₀ ≤ k → Written row₀ nodes row k → row ≡ block (length row₀ - 1) nodes
-  written_end row₀ row k h w =
-      let e : k ≡ length row₀ = omega (arith, w.within) in
-      let f : k ≡ length (block (length row₀ - 1) nodes) = omega (arith, w.some, length_block (length row₀ - 1) nodes) in
-      w.are
-      ∙ ap₂ (λ (j i : ℕ). take j (block (length row₀ - 1) nodes) ++ drop i row₀) f e
-      ∙ ap₂ (λ (x y : List ℕ). x ++ y) (take-length (block (length row₀ - 1) nodes)) (drop-length row₀)
-      ∙ append-nil (block (length row₀ - 1) nodes)
+pub written_done : (D : ℕ) (ps all : List Keyed) (i : ℕ) (row : List ℕ) → ps ≡ take (min (length all) D) all → i ≡ length ps → Written D ps i row
+    → row ≡ row_block D (take D (map id_in all))
+written_done D ps all i row e k w =
+    let front = ap (map id_in) (whole ps i k) ∙ entries_are D ps all e in
+    let zeros : drop i (replicate {A = ℕ} D 0) ≡ replicate (D - length (take D (map id_in all))) 0
+    = drop-replicate i D 0 ∙ ap (λ (j : ℕ). replicate (D - j) 0) (k ∙ many D ps all e) in
+    w ∙ (λ j. many D ps all e j ∷ (front j ++ zeros j))

@@ -12,30 +12,41 @@
 // each other.
 #![tactic(auto)]
 
-ghost use Rattle.std.specs.Prelude.{◌≡◌, map, ◌+◌, ◌-◌, ◌≤◌, ◌<◌, ◌&&◌, ltb, eqb, length, get_or, set, take, drop};
-ghost use Rattle.std.specs.Float.{binary32};
-ghost use Rattle.distance.specs.Order.{key_of};
-ghost use Rattle.distance.specs.Distance.{distance_of};
-ghost use Rattle.distance.specs.Vectors.{vectors_in, vector_of};
-ghost use Rattle.sorting.specs.Inside.Pairs.{pairs, keys_of, ids_of, sorted_keys, sorted_ids};
-ghost use Rattle.def_graph.specs.Leaf.{put_cell, dedup};
+ghost use Rattle.std.specs.Prelude.{◌≡◌, map, ◌+◌, ◌-◌, ◌≤◌, ◌<◌, leb, length, get_or, set, take, drop};
+ghost use Rattle.std.specs.List.{position};
+ghost use Rattle.distance.specs.Vectors.{vectors_of, vector_of};
+ghost use Rattle.sorting.specs.Inside.Pairs.{id_in, put_front};
+ghost use Rattle.def_graph.specs.Leaf.{put_cell, dedup, starts_with};
 ghost use Rattle.store.specs.View.{row_block};
-ghost use Rattle.hashprune.specs.Inside.Steps.{cell_in, cells_in, Placed, inserted_at, far_at, winner, ContestRoom, hash_by, cells_of};
-ghost use Rattle.hashprune.specs.Inside.Steps.{CellRoom, PlaceRoom, RowRoom, SortRoom, SelectRoom, Selected, MergeRoom, TurnRoom, TurnScratch, row_after};
+ghost use Rattle.hashprune.specs.Inside.Steps.{no_cell, place_in, cell_in, cells_in, far_at, winner, ContestRoom, hash_by, cells_of};
+ghost use Rattle.hashprune.specs.Inside.Steps.{CellRoom, PlaceRoom, RowRoom, SelectRoom, Selected, MergeRoom, TurnRoom, row_after};
 ghost use Rattle.hashprune.specs.Inside.Steps.{ranked_place, selected_pairs, old_pairs, merged_pairs};
 ghost use Rattle.hashprune.specs.Inside.Hashprune.{Inserted};
 
-use distance::{order, vectors};
+use distance::order;
+use distance::vectors::Vectors;
+use sorting::Keyed;
 use words::ids::Node;
-use words::slices;
 
-// The node whose turn it is, and what the index has for it: how long its vectors and how many its hash bits
-// are.
+// The node whose turn it is, and how many hash bits its index has.
 #[derive(Clone, Copy)]
 pub struct Point {
     pub node: Node,
-    pub dimension: u32,
     pub bits: u32,
+}
+
+// A node of the leaf that may come into the row, and how far it is from the node whose turn it is.
+#[derive(Clone, Copy)]
+pub struct Candidate {
+    pub node: Node,
+    pub far: f32,
+}
+
+// A hash, and the place of the candidate that holds its cell.
+#[derive(Clone, Copy)]
+struct Cell {
+    hash: u32,
+    place: u32,
 }
 
 // The hash of a candidate's residual, seen from p.
@@ -43,355 +54,211 @@ fn hash_of(p: &[f32], c: &[f32], planes: &[f32], bits: u32) -> u32
     ensures { result ≡ hash_by planes.now bits p.now c.now }
 {
     let mut room = [0.0f32; 64];
-    let n = slices::lesser(64, slices::lesser(p.len(), c.len()));
+    let n = p.len().min(c.len()).min(64);
     simhash::residual_into(c, p, &mut room[..n]);
     simhash::simhash_residual(&room[..n], planes, bits)
 }
 
-// Where a hash belongs: behind all that are below it.
-fn place_of(hashes: &[u32], hash: u32) -> usize
-    ensures { Placed hash hashes.now result }
+// Where a hash belongs: at the first that is not below it, or behind all.
+fn place_of(cells: &[Cell], hash: u32) -> Option<usize>
+    ensures { result ≡ position (λ cell. leb hash cell.hash) cells.now }
 {
-    let mut j: usize = 0;
-    while j < hashes.len() {
-        if hashes[j] >= hash {
-            return j;
-        }
-        j += 1;
-    }
-    j
-}
-
-// Puts v at a place; what stands there and behind it moves up by one, and the last one goes.
-fn insert_at(s: &mut [u32], at: usize, v: u32)
-    requires { at ≤ length s.old }
-    ensures { s.new ≡ take (length s.old) (inserted_at at v s.old) }
-{
-    let mut carried = v;
-    let mut j = at;
-    while j < s.len() {
-        let next = s[j];
-        s[j] = carried;
-        carried = next;
-        j += 1;
-    }
-}
-
-// Whether a number stands at a place of a list.
-fn stands_at(list: &[u32], at: usize, x: u32) -> bool
-    ensures { result ≡ (ltb at (length list.now) && eqb (get_or list.now at 0) x) }
-{
-    if at < list.len() {
-        return list[at] == x;
-    }
-    false
+    cells.iter().position(|cell| cell.hash >= hash)
 }
 
 // The candidate at a place comes to a cell that is taken, and wins it only by a strictly smaller
 // distance.
-fn contest(places: &mut [u32], at: usize, place: u32, far: &[f32])
-    requires { (at < length places.old) × (place < length far.now) × (get_or places.old at 0 < length far.now) }
-    ensures { places.new ≡ set places.old at (winner far.now place (get_or places.old at 0)) }
+fn contest(cells: &mut [Cell], at: usize, place: u32, candidates: &[Candidate])
+    requires { (at < length cells.old) × (place < length candidates.now) × (place_in (get_or cells.old at no_cell) < length candidates.now) }
+    ensures { cells.new ≡ set cells.old at (winner candidates.now place (get_or cells.old at no_cell)) }
 {
-    let holder = places[at];
-    if far[place as usize] < far[holder as usize] {
-        places[at] = place;
+    let holder = cells[at].place;
+    if candidates[place as usize].far < candidates[holder as usize].far {
+        cells[at].place = place;
     }
 }
 
-// The candidate at a place comes to its cell. Returns how many cells are taken then.
-fn put_cell(
-    hashes: &mut [u32],
-    places: &mut [u32],
-    held: usize,
-    hash: u32,
-    place: u32,
-    far: &[f32],
-) -> usize
-    requires { ContestRoom held place hashes.old places.old far.now }
+// A candidate comes to its cell. Returns how many cells are taken then.
+fn put_cell(cells: &mut [Cell], held: usize, new: Cell, candidates: &[Candidate]) -> usize
+    requires { ContestRoom held new cells.old candidates.now }
     ensures { (result ≤ held + 1)
-        × (cells_in result hashes.new places.new
-        ≡ put_cell (far_at far.now) (cell_in (hash, place)) (cells_in held hashes.old places.old)) }
+        × (cells_in result cells.new ≡ put_cell (far_at candidates.now) (cell_in new) (cells_in held cells.old)) }
 {
-    let at = place_of(&hashes[..held], hash);
-    if stands_at(&hashes[..held], at, hash) {
-        contest(places, at, place, far);
+    let at = place_of(&cells[..held], new.hash).unwrap_or(held);
+    if at < held && cells[at].hash == new.hash {
+        contest(cells, at, new.place, candidates);
         return held;
     }
-    let end = held + 1;
-    insert_at(&mut hashes[..end], at, hash);
-    insert_at(&mut places[..end], at, place);
-    end
+    cells.copy_within(at..held, at + 1);
+    cells[at] = new;
+    held + 1
 }
 
-fn hash_of_node(
-    vectors: &[f32],
-    dimension: u32,
-    p: &[f32],
-    node: Node,
-    planes: &[f32],
-    bits: u32,
-) -> u32
-    ensures { result ≡ hash_by planes.now bits p.now (vector_of (vectors_in dimension vectors.now) node.0) }
-{
-    let c = vectors::get_vector(vectors, dimension, node);
-    hash_of(p, c, planes, bits)
-}
-
-// The cells after all candidates have come, in their order, at the front of two slices. Returns how many
+// The cells after all candidates have come, in their order, at the front of a slice. Returns how many
 // there are.
 fn fill_cells(
-    vectors: &[f32],
+    vectors: Vectors,
     point: Point,
     planes: &[f32],
-    candidates: &[u32],
-    far: &[f32],
-    hashes: &mut [u32],
-    places: &mut [u32],
+    candidates: &[Candidate],
+    cells: &mut [Cell],
 ) -> usize
-    requires { CellRoom (length candidates.now) far.now hashes.old places.old }
-    ensures { (result ≤ length candidates.now) × (cells_in result hashes.new places.new
-        ≡ cells_of point vectors.now planes.now candidates.now far.now) }
+    requires { CellRoom (length candidates.now) cells.old }
+    ensures { (result ≤ length candidates.now) × (cells_in result cells.new
+        ≡ cells_of point vectors.entry planes.now candidates.now) }
 {
-    let p = vectors::get_vector(vectors, point.dimension, point.node);
-    let mut held: usize = 0;
-    let mut i: usize = 0;
-    while i < candidates.len() {
-        let hash = hash_of_node(
-            vectors,
-            point.dimension,
-            p,
-            Node(candidates[i]),
-            planes,
-            point.bits,
-        );
-        held = put_cell(hashes, places, held, hash, i as u32, far);
-        i += 1;
+    let p = vectors.get(point.node);
+    let mut held = 0;
+    for (i, candidate) in candidates.iter().enumerate() {
+        let hash = hash_of(p, vectors.get(candidate.node), planes, point.bits);
+        let cell = Cell {
+            hash,
+            place: i as u32,
+        };
+        held = put_cell(cells, held, cell, candidates);
     }
     held
 }
 
-// The nodes of the candidates at some places, with the keys of their distances, at the front of two
-// slices.
-fn rank_places(candidates: &[u32], far: &[f32], places: &[u32], keys: &mut [u32], ids: &mut [u32])
-    requires { PlaceRoom candidates.now far.now places.now keys.old ids.old }
-    ensures { (keys.new ≡ keys_of (map (ranked_place candidates.now far.now) places.now) keys.old)
-        × (ids.new ≡ ids_of (map (ranked_place candidates.now far.now) places.now) ids.old) }
+// The nodes of the candidates that hold cells, with the keys of their distances, at the front of a slice.
+fn rank_places(candidates: &[Candidate], cells: &[Cell], pairs: &mut [Keyed])
+    requires { PlaceRoom candidates.now cells.now pairs.old }
+    ensures { pairs.new ≡ put_front (map (λ cell. ranked_place candidates.now (place_in cell)) cells.now) pairs.old }
 {
-    let mut i: usize = 0;
-    while i < places.len() {
-        let place = places[i] as usize;
-        keys[i] = order::key(far[place]);
-        ids[i] = candidates[place];
-        i += 1;
+    for (i, cell) in cells.iter().enumerate() {
+        let candidate = candidates[cell.place as usize];
+        pairs[i] = Keyed {
+            key: order::key(candidate.far),
+            id: candidate.node.0,
+        };
     }
 }
 
-fn node_key(vectors: &[f32], dimension: u32, p: &[f32], node: Node) -> u32
-    ensures { result ≡ key_of binary32 (distance_of binary32 p.now (vector_of (vectors_in dimension vectors.now) node.0)) }
-{
-    let x = vectors::get_vector(vectors, dimension, node);
-    order::key(distance::cosine_distance_normalized(p, x))
-}
-
-// The entries of a row, with the keys of their distances from p, at the front of two slices. Returns how
+// The entries of a row, with the keys of their distances from p, at the front of a slice. Returns how
 // many there are.
-fn rank_row(
-    vectors: &[f32],
-    dimension: u32,
-    p: &[f32],
-    row: &[u32],
-    keys: &mut [u32],
-    ids: &mut [u32],
-) -> usize
-    requires { RowRoom row.now keys.old ids.old }
-    ensures { (result ≡ length (old_pairs vectors.now dimension p.now row.now))
-        × (keys.new ≡ keys_of (old_pairs vectors.now dimension p.now row.now) keys.old)
-        × (ids.new ≡ ids_of (old_pairs vectors.now dimension p.now row.now) ids.old) }
+fn rank_row(vectors: Vectors, p: &[f32], row: &[u32], pairs: &mut [Keyed]) -> usize
+    requires { RowRoom row.now pairs.old }
+    ensures { (result ≡ length (old_pairs vectors.entry p.now row.now))
+        × (pairs.new ≡ put_front (old_pairs vectors.entry p.now row.now) pairs.old) }
 {
     let degree = (row.len() - 1) as u16;
     let entries = lists::row_of(row, degree, Node(0));
-    let mut i: usize = 0;
-    while i < entries.len() {
-        let node = entries[i];
-        keys[i] = node_key(vectors, dimension, p, Node(node));
-        ids[i] = node;
-        i += 1;
+    for (i, entry) in entries.iter().enumerate() {
+        let key = order::key(vectors.distance_from(p, Node(*entry)));
+        pairs[i] = Keyed { key, id: *entry };
     }
     entries.len()
 }
 
-// Of equal neighbours one stays: what is left stands at the end, from the place returned on. From the
-// end, as the definition goes; which of equals stays makes no difference.
-fn dedup(ids: &mut [u32]) -> usize
-    ensures { (result ≤ length ids.old) × (drop result ids.new ≡ dedup ids.old) }
+// Whether the first of some pairs has this id.
+fn begins_with(pairs: &[Keyed], id: u32) -> bool
+    ensures { result ≡ starts_with id (map id_in pairs.now) }
 {
-    let mut from = ids.len();
-    let mut i = ids.len();
-    while i > 0 {
-        i -= 1;
-        let id = ids[i];
-        if !stands_at(ids, from, id) {
+    pairs.first().is_some_and(|pair| id == pair.id)
+}
+
+// Of neighbours with equal ids one stays: what is left stands at the end, from the place returned on. From
+// the end, as the definition goes; which of equals stays makes no difference.
+// kept: std's `dedup_by_key` is of a Vec, and there is none here
+fn dedup(pairs: &mut [Keyed]) -> usize
+    ensures { (result ≤ length pairs.old) × (map id_in (drop result pairs.new) ≡ dedup (map id_in pairs.old)) }
+{
+    let mut from = pairs.len();
+    for i in (0..pairs.len()).rev() {
+        let pair = pairs[i];
+        if !begins_with(&pairs[from..], pair.id) {
             from -= 1;
-            ids[from] = id;
+            pairs[from] = pair;
         }
     }
     from
 }
 
 // A row: a count, as many of the nodes as there is room for, and zeros.
-fn write_row(row: &mut [u32], nodes: &[u32])
-    requires { (1 ≤ length row.old) × (length nodes.now ≤ 64) }
-    ensures { row.new ≡ row_block (length row.old - 1) (take (length row.old - 1) nodes.now) }
+fn write_row(row: &mut [u32], pairs: &[Keyed])
+    requires { (1 ≤ length row.old) × (length pairs.now ≤ 64) }
+    ensures { row.new ≡ row_block (length row.old - 1) (take (length row.old - 1) (map id_in pairs.now)) }
 {
-    row[0] = slices::lesser(row.len() - 1, nodes.len()) as u32;
-    let mut k: usize = 1;
-    while k < row.len() {
-        row[k] = slices::word_at(nodes, k - 1);
-        k += 1;
+    let count = pairs.len().min(row.len() - 1);
+    row.fill(0);
+    row[0] = count as u32;
+    for (i, pair) in pairs[..count].iter().enumerate() {
+        row[i + 1] = pair.id;
     }
 }
 
-// Sorts the first n pairs.
-fn sort_first(
-    keys: &mut [u32],
-    ids: &mut [u32],
-    n: usize,
-    spare_keys: &mut [u32],
-    spare_ids: &mut [u32],
-)
-    requires { SortRoom n keys.old ids.old spare_keys.old spare_ids.old }
-    ensures { (keys.new ≡ sorted_keys n keys.old ids.old)
-        × (ids.new ≡ sorted_ids n keys.old ids.old) }
-{
-    sorting::sort_pairs(&mut keys[..n], &mut ids[..n], spare_keys, spare_ids);
-}
-
 // The nodes that hold cells after the candidates have come, the nearest first, with their keys, at the
-// front of two slices. Returns how many there are. Cells and sorting share the scratch.
+// front of a slice. Returns how many there are.
 fn select(
-    vectors: &[f32],
+    vectors: Vectors,
     point: Point,
     planes: &[f32],
-    candidates: &[u32],
-    far: &[f32],
-    hashes: &mut [u32],
-    places: &mut [u32],
-    keys: &mut [u32],
-    ids: &mut [u32],
+    candidates: &[Candidate],
+    pairs: &mut [Keyed],
+    spare: &mut [Keyed],
 ) -> usize
-    requires { SelectRoom (length candidates.now) far.now hashes.old places.old keys.old ids.old }
-    ensures { Selected (selected_pairs point vectors.now planes.now candidates.now far.now)
-        (length candidates.now) result keys.old ids.old keys.new ids.new }
+    requires { SelectRoom (length candidates.now) pairs.old spare.old }
+    ensures { Selected (selected_pairs point vectors.entry planes.now candidates.now)
+        (length candidates.now) result pairs.old pairs.new }
 {
-    let held = fill_cells(vectors, point, planes, candidates, far, hashes, places);
-    rank_places(candidates, far, &places[..held], keys, ids);
-    sort_first(keys, ids, held, hashes, places);
+    let mut cells = [Cell { hash: 0, place: 0 }; 64];
+    let held = fill_cells(vectors, point, planes, candidates, &mut cells);
+    rank_places(candidates, &cells[..held], pairs);
+    sorting::sort_pairs(&mut pairs[..held], spare);
     held
 }
 
 // A row of the nodes of some pairs, the nearest first, of equal neighbours one.
-fn merge_row(
-    keys: &mut [u32],
-    ids: &mut [u32],
-    spare_keys: &mut [u32],
-    spare_ids: &mut [u32],
-    row: &mut [u32],
-)
-    requires { MergeRoom keys.old ids.old spare_keys.old spare_ids.old row.old }
-    ensures { row.new
-        ≡ row_block (length row.old - 1) (merged_pairs (length row.old - 1) (pairs keys.old ids.old)) }
+fn merge_row(pairs: &mut [Keyed], spare: &mut [Keyed], row: &mut [u32])
+    requires { MergeRoom pairs.old spare.old row.old }
+    ensures { row.new ≡ row_block (length row.old - 1) (merged_pairs (length row.old - 1) pairs.old) }
 {
-    sorting::sort_pairs(keys, ids, spare_keys, spare_ids);
-    let from = dedup(ids);
-    write_row(row, &ids[from..]);
+    sorting::sort_pairs(pairs, spare);
+    let from = dedup(pairs);
+    write_row(row, &pairs[from..]);
 }
 
-// The turn of a node, where sizes fit and there is scratch: the row's entries come first, then what is
-// selected.
-fn insert_with(
-    vectors: &[f32],
+// The turn of a node, where sizes fit: the row's entries come first, then what is selected.
+fn insert_fitting(
+    vectors: Vectors,
     point: Point,
     planes: &[f32],
-    candidates: &[u32],
-    far: &[f32],
+    candidates: &[Candidate],
     row: &mut [u32],
-    keys: &mut [u32],
-    ids: &mut [u32],
-    hashes: &mut [u32],
-    places: &mut [u32],
 )
-    requires turn_room { TurnRoom candidates.now far.now row.old }
-    requires turn_scratch { TurnScratch keys.old ids.old hashes.old places.old }
-    ensures { row.new
-        ≡ row_after point vectors.now planes.now candidates.now far.now row.old }
+    requires { TurnRoom candidates.now row.old }
+    ensures { row.new ≡ row_after point vectors.entry planes.now candidates.now row.old }
 {
-    let p = vectors::get_vector(vectors, point.dimension, point.node);
-    let old = rank_row(vectors, point.dimension, p, row, keys, ids);
+    let none = Keyed { key: 0, id: 0 };
+    let mut pairs = [none; 96];
+    let mut spare = [none; 64];
+    let p = vectors.get(point.node);
+    let old = rank_row(vectors, p, row, &mut pairs);
     let new = select(
         vectors,
         point,
         planes,
         candidates,
-        far,
-        hashes,
-        places,
-        &mut keys[old..],
-        &mut ids[old..],
+        &mut pairs[old..],
+        &mut spare,
     );
-    let all = old + slices::lesser(row.len() - 1, new);
-    merge_row(&mut keys[..all], &mut ids[..all], hashes, places, row);
-}
-
-// The same with scratch of its own.
-fn insert_fitting(
-    vectors: &[f32],
-    point: Point,
-    planes: &[f32],
-    candidates: &[u32],
-    far: &[f32],
-    row: &mut [u32],
-)
-    requires { TurnRoom candidates.now far.now row.old }
-    ensures { row.new
-        ≡ row_after point vectors.now planes.now candidates.now far.now row.old }
-{
-    let mut keys = [0u32; 96];
-    let mut ids = [0u32; 96];
-    let mut hashes = [0u32; 64];
-    let mut places = [0u32; 64];
-    insert_with(
-        vectors,
-        point,
-        planes,
-        candidates,
-        far,
-        row,
-        &mut keys[..],
-        &mut ids[..],
-        &mut hashes[..],
-        &mut places[..],
-    );
+    let all = old + new.min(row.len() - 1);
+    merge_row(&mut pairs[..all], &mut spare, row);
 }
 
 // The turn of a node: `row` is its row, a count and D entries with D at most 32, `candidates` are at most
-// 64 nodes in their order with their distances from it in `far`, and `planes` the blocks of hyperplanes.
+// 64 nodes in their order with their distances from it, and `planes` the blocks of hyperplanes.
 // It is promised for sizes that fit (`Turn` of specs/Inside/Hashprune); for others it is safe, and no more is said.
 pub fn hashprune_insert(
-    vectors: &[f32],
+    vectors: Vectors,
     point: Point,
     planes: &[f32],
-    candidates: &[u32],
-    far: &[f32],
+    candidates: &[Candidate],
     row: &mut [u32],
 )
-    ensures { Inserted point vectors.now planes.now candidates.now far.now
-        row.old row.new }
+    ensures { Inserted point vectors.entry planes.now candidates.now row.old row.new }
 {
     if candidates.len() > 64 {
-        return;
-    }
-    if far.len() < candidates.len() {
         return;
     }
     if row.len() == 0 {
@@ -400,5 +267,5 @@ pub fn hashprune_insert(
     if row.len() > 33 {
         return;
     }
-    insert_fitting(vectors, point, planes, candidates, far, row);
+    insert_fitting(vectors, point, planes, candidates, row);
 }

@@ -7,7 +7,7 @@ use native.Mathlib.Omega.{arith}
 use lib.ListN.{length, take, drop, length-drop}
 use lib.Seq.{length-take-le}
 use borrow.Rule.Slice.PartMut.{same_len_mid}
-use Rattle.distance.specs.Vectors.{vectors_in}
+use Rattle.distance.specs.Vectors.{vectors_of}
 use Rattle.def_graph.specs.Partition.{buckets_of}
 use Rattle.carving.specs.Inside.Steps.{first_size}
 use Rattle.carving.proofs.Leaves.{NextSize, next_size}
@@ -30,7 +30,7 @@ part_long xs at end h = length-take-le (end - at) (drop at xs) (omega (arith, le
 pub carve_buckets-loop-at-init : goal.carve_buckets-loop-at-init
 carve_buckets-loop-at-init t c =
     let x = c.args in
-    (omega arith, refl, refl, refl, refl, refl, λ bs h. partly_none x.max_leaf x.p.min_leaf x.p.leader_fraction (vectors_in x.p.dimension x.vectors.now) x.level bs x.nodes.now x.marks.now h)
+    (omega arith, refl, refl, λ bs h. partly_none x.p.max_leaf x.p.dealing.min_leaf x.p.dealing.leader_fraction (vectors_of x.vectors) x.level bs x.nodes.now x.marks.now h)
 
 pub carve_buckets-overflow_add-end : goal.carve_buckets-overflow_add-end
 carve_buckets-overflow_add-end t c =
@@ -63,11 +63,6 @@ carve_buckets-carve_segment-requires t c =
         levels = seg.levels;
         few = omega (arith, a, seg.few, l.invariant.1, n.within, even);
         marked = part_long l.marks l.at end n.within ∙ sym a;
-        scratch = record {
-          ids_size = omega (arith, l.invariant.3, seg.scratch.ids_size);
-          room_size = omega (arith, l.invariant.4, seg.scratch.room_size);
-          cards_size = omega (arith, l.invariant.5, seg.scratch.cards_size);
-        };
       },
     )
 
@@ -94,11 +89,8 @@ carve_buckets-loop-at-preserved t c =
       omega (arith, nodes-same, h),
       nodes-same ∙ l.invariant.1,
       marks-same ∙ l.invariant.2,
-      carved.auto.ids ∙ l.invariant.3,
-      carved.auto.room ∙ l.invariant.4,
-      carved.auto.cards ∙ l.invariant.5,
-      λ bs held. partly_more x.max_leaf x.p.min_leaf x.p.leader_fraction (vectors_in x.p.dimension x.vectors.now) x.level bs l.nodes l.marks carved.new.nodes carved.new.marks l.at (l.at + size)
-          c.loop-at-test.true even (omega (arith, n.is)) h carved.auto.nodes carved.auto.marks carved.ensures (l.invariant.6 bs held),
+      λ bs held. partly_more x.p.max_leaf x.p.dealing.min_leaf x.p.dealing.leader_fraction (vectors_of x.vectors) x.level bs l.nodes l.marks carved.new.nodes carved.new.marks l.at (l.at + size)
+          c.loop-at-test.true even (omega (arith, n.is)) h carved.auto.nodes carved.auto.marks carved.ensures (l.invariant.3 bs held),
     )
 
 pub carve_buckets-shape_of-marks : goal.carve_buckets-shape_of-marks
@@ -108,24 +100,24 @@ pub carve_buckets-returns : goal.carve_buckets-returns
 carve_buckets-returns t c bs held =
     let x = c.args in
     let l = c.loop-at in
-    partly_done x.max_leaf x.p.min_leaf x.p.leader_fraction (vectors_in x.p.dimension x.vectors.now) x.level bs l.nodes l.marks l.at
-    c.loop-at-test.false (l.invariant.2 ∙ c.requires.marked ∙ sym l.invariant.1) (l.invariant.6 bs held)
+    partly_done x.p.max_leaf x.p.dealing.min_leaf x.p.dealing.leader_fraction (vectors_of x.vectors) x.level bs l.nodes l.marks l.at
+    c.loop-at-test.false (l.invariant.2 ∙ c.requires.marked ∙ sym l.invariant.1) (l.invariant.3 bs held)
 
 -- ---- one segment
 
 pub carve_segment-returns-then-fan_of-eq0 : goal.carve_segment-returns-then-fan_of-eq0
 carve_segment-returns-then-fan_of-eq0 t c =
     let x = c.args in
-    let vs = vectors_in x.p.dimension x.vectors.now in
-    leaf_stays x.max_leaf x.p.min_leaf x.p.leader_fraction vs x.level x.nodes.now x.marks.now
-    (leaf_deep x.max_leaf x.p.min_leaf x.p.leader_fraction vs x.level x.nodes.now (sym c.fan_of.ensures ∙ c.if-fan_of-eq0.true))
+    let vs = vectors_of x.vectors in
+    leaf_stays x.p.max_leaf x.p.dealing.min_leaf x.p.dealing.leader_fraction vs x.level x.nodes.now x.marks.now
+    (leaf_deep x.p.max_leaf x.p.dealing.min_leaf x.p.dealing.leader_fraction vs x.level x.nodes.now (sym c.fan_of.ensures ∙ c.if-fan_of-eq0.true))
 
-pub carve_segment-returns-then-nodes-max_leaf : goal.carve_segment-returns-then-nodes-max_leaf
-carve_segment-returns-then-nodes-max_leaf t c =
+pub carve_segment-returns-then-nodes-p : goal.carve_segment-returns-then-nodes-p
+carve_segment-returns-then-nodes-p t c =
     let x = c.args in
-    let vs = vectors_in x.p.dimension x.vectors.now in
-    leaf_stays x.max_leaf x.p.min_leaf x.p.leader_fraction vs x.level x.nodes.now x.marks.now
-    (leaf_small x.max_leaf x.p.min_leaf x.p.leader_fraction vs x.level x.nodes.now c.if-nodes-max_leaf.true)
+    let vs = vectors_of x.vectors in
+    leaf_stays x.p.max_leaf x.p.dealing.min_leaf x.p.dealing.leader_fraction vs x.level x.nodes.now x.marks.now
+    (leaf_small x.p.max_leaf x.p.dealing.min_leaf x.p.dealing.leader_fraction vs x.level x.nodes.now c.if-nodes-p.true)
 
 pub carve_segment-deal_over-requires : goal.carve_segment-deal_over-requires
 carve_segment-deal_over-requires t c =
@@ -133,10 +125,9 @@ carve_segment-deal_over-requires t c =
     record {
       below = seg.below;
       levels = fan_some c.args.level (λ z. c.if-fan_of-eq0.false (c.fan_of.ensures ∙ z));
-      two = omega (arith, seg.some, c.if-nodes-max_leaf.false);
+      two = omega (arith, seg.some, c.if-nodes-p.false);
       few = seg.few;
       marked = seg.marked;
-      scratch = seg.scratch;
     }
 
 pub carve_segment-carve_buckets-requires : goal.carve_segment-carve_buckets-requires
@@ -152,17 +143,12 @@ carve_segment-carve_buckets-requires t c =
         levels = omega arith;
         few = omega (arith, a, seg.few);
         marked = kept.marks ∙ seg.marked ∙ sym a;
-        scratch = record {
-          ids_size = omega (arith, kept.ids, seg.scratch.ids_size);
-          room_size = omega (arith, kept.room, seg.scratch.room_size);
-          cards_size = omega (arith, kept.cards, seg.scratch.cards_size);
-        };
       },
     )
 
 pub carve_segment-returns : goal.carve_segment-returns
 carve_segment-returns t c m =
     let x = c.args in
-    let vs = vectors_in x.p.dimension x.vectors.now in
-    let down = dealt_down x.max_leaf x.p.min_leaf x.p.leader_fraction vs x.level x.nodes.now c.if-nodes-max_leaf.false (λ z. c.if-fan_of-eq0.false (c.fan_of.ensures ∙ z)) in
-    rw down (c.carve_buckets.ensures (buckets_of x.p.min_leaf x.p.leader_fraction vs x.level x.nodes.now) c.deal_over.ensures)
+    let vs = vectors_of x.vectors in
+    let down = dealt_down x.p.max_leaf x.p.dealing.min_leaf x.p.dealing.leader_fraction vs x.level x.nodes.now c.if-nodes-p.false (λ z. c.if-fan_of-eq0.false (c.fan_of.ensures ∙ z)) in
+    rw down (c.carve_buckets.ensures (buckets_of x.p.dealing.min_leaf x.p.dealing.leader_fraction vs x.level x.nodes.now) c.deal_over.ensures)

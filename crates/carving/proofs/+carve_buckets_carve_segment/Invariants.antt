@@ -4,7 +4,7 @@ use mathlib.Core.Path.{◌≡◌}
 use mathlib.Core.List.{List}
 use Prim.Native.Nat.{ℕ, ◌+◌, ◌-◌, ◌*◌, ◌≤◌}
 use lib.ListN.{length}
-use Rattle.distance.specs.Vectors.{vectors_in}
+use Rattle.distance.specs.Vectors.{vectors_of}
 use Rattle.dealing.specs.Inside.Deal.{Holding}
 use Rattle.carving.proofs.Carving.{Partly}
 use Rattle.carving.proofs.+carve_buckets_carve_segment.Given as goal
@@ -17,9 +17,9 @@ decreases-carve_segment l = 2 * (21 - l.level)
 
 abbrev pub invariant-carve_buckets-loop-at : goal.invariant-carve_buckets-loop-at
 invariant-carve_buckets-loop-at l =
-    (l.at ≤ length l.nodes) × (length l.nodes ≡ length l.initial.nodes) × (length l.marks ≡ length l.initial.marks) × (length l.ids ≡ length l.initial.ids) × (length l.room ≡ length l.initial.room) × (length l.cards ≡ length l.initial.cards)
+    (l.at ≤ length l.nodes) × (length l.nodes ≡ length l.initial.nodes) × (length l.marks ≡ length l.initial.marks)
     × ((buckets : List (List ℕ)) → Holding buckets l.initial.nodes l.initial.marks
-    → Partly l.initial.max_leaf l.initial.p.min_leaf l.initial.p.leader_fraction (vectors_in l.initial.p.dimension l.initial.vectors) l.initial.level buckets l.nodes l.marks l.at)
+    → Partly l.initial.p.max_leaf l.initial.p.dealing.min_leaf l.initial.p.dealing.leader_fraction (vectors_of l.initial.vectors) l.initial.level buckets l.nodes l.marks l.at)
 
 abbrev pub decreases-carve_buckets-loop-at : goal.decreases-carve_buckets-loop-at
 decreases-carve_buckets-loop-at l = length l.nodes - l.at

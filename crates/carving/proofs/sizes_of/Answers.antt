@@ -1,14 +1,11 @@
--- The invariant, for any leaves whose marks these are: the sizes of some are listed, and the marks of the others follow (`Listed`). The measure is how
--- many marks are left. Assumes nothing.
-use mathlib.Core.Path.{refl, ◌∙◌}
-use lib.ListN.{length-set}
+-- One size more. Assumes nothing.
 use Rattle.carving.proofs.Leaves.{listed_none, listed_more, listed_done, NextSize, next_size}
 use native.Mathlib.Omega.{arith}
 use Rattle.carving.proofs.sizes_of.Goals as goal
 use Rattle.carving.proofs.sizes_of.Goals.{After-first_size-size}
 
 pub loop-at-init : goal.loop-at-init
-loop-at-init c = let x = c.args in (omega arith, omega arith, refl, λ leaves e. listed_none leaves x.marks.now x.sizes.now e)
+loop-at-init c = let x = c.args in (omega arith, omega arith, λ leaves e. listed_none leaves x.marks.now x.sizes.now e)
 
 next : (c : After-first_size-size) → NextSize c.args.marks.now c.loop-at.at c.first_size-size.result
 next c = next_size _ _ _ c.loop-at-test.true c.first_size-size.ensures
@@ -19,15 +16,14 @@ loop-at-preserved c =
     let n = next (goal.at.loop-at-preserved c).After-first_size-size in (
       omega arith,
       omega arith,
-      length-set l.sizes l.count _ ∙ l.invariant.2,
-      λ leaves e. listed_more leaves c.args.marks.now l.sizes l.at l.count c.first_size-size.result (l.invariant.3 leaves e) c.loop-at-test.true (omega (arith, c.requires.1)) n.is,
+      λ leaves e. listed_more leaves c.args.marks.now l.sizes l.at l.count c.first_size-size.result (l.invariant.2 leaves e) c.loop-at-test.true (omega (arith, c.requires.1)) n.is,
     )
 
 pub returns : goal.returns
 returns c =
     let l = c.loop-at in
     record {
-      marked_sizes = (λ leaves e. listed_done leaves c.args.marks.now l.sizes l.at l.count (l.invariant.3 leaves e) (omega arith));
+      marked_sizes = (λ leaves e. listed_done leaves c.args.marks.now l.sizes l.at l.count (l.invariant.2 leaves e) (omega arith));
       upper_bound = omega (arith, c.requires.0);
     }
 
@@ -45,6 +41,3 @@ overflow_add-at c = let n = next (goal.at.overflow_add-at c).After-first_size-si
 
 pub loop-at-smaller : goal.loop-at-smaller
 loop-at-smaller c = let n = next (goal.at.loop-at-smaller c).After-first_size-size in omega arith
-
-pub shape_of-sizes : goal.shape_of-sizes
-shape_of-sizes c = c.loop-at.invariant.2

@@ -10,7 +10,7 @@ use Rattle.carving.proofs.sizes_of.Given as goal
 
 abbrev pub invariant-loop-at : goal.invariant-loop-at
 invariant-loop-at l =
-    (l.at ≤ length l.initial.marks) × (l.count ≤ l.at) × (length l.sizes ≡ length l.initial.sizes) × ((leaves : List (List ℕ)) → l.initial.marks ≡ marks_of leaves → Listed leaves l.initial.marks l.sizes l.at l.count)
+    (l.at ≤ length l.initial.marks) × (l.count ≤ l.at) × ((leaves : List (List ℕ)) → l.initial.marks ≡ marks_of leaves → Listed leaves l.initial.marks l.sizes l.at l.count)
 
 abbrev pub decreases-loop-at : goal.decreases-loop-at
 decreases-loop-at l = length l.initial.marks - l.at

@@ -1,45 +1,30 @@
 -- What the steps of carving ask of each other, inside this crate.
-use Rattle.std.specs.Prelude.{◌≡◌, List, [], ◌∷◌, map, ℕ, suc, ◌+◌, ◌≤◌, eqb, length, take, drop, Float}
-use Rattle.basics.specs.Choice.{pick}
+use Rattle.std.specs.Prelude.{◌≡◌, List, [], ◌∷◌, map, ℕ, ◌+◌, ◌≤◌, eqb, length, take, drop, Float}
+use Rattle.std.specs.List.{prefix_len}
 use Rattle.def_graph.specs.Partition.{carve_segment, carve_buckets, leaves_of}
 use Rattle.dealing.specs.Inside.Marks.{marks_of}
 use Rattle.dealing.specs.Inside.Deal.{Holding}
 use Rattle.carving.specs.Inside.Carving.{non_empty}
 
--- how many zeroes stand in front
-unfoldable pub zeroes : List ℕ → ℕ
-unfolding pick
-zeroes [] = 0
-zeroes (x ∷ xs) = let rest : ℕ = zeroes xs in pick (eqb x 0) (suc rest) 0
-
 -- a first mark, and as many zeroes as follow it
 unfoldable pub first_size : List ℕ → ℕ
-unfolding zeroes
-first_size marks = 1 + zeroes (drop 1 marks)
-
--- room for the copy of a segment, for what dealing gathers and for its cards
-pub record DealingRoom (ids room cards : ℕ) : Type 0 where
-  pub ids_size : 2048 ≤ ids
-  pub room_size : 2048 ≤ room
-  pub cards_size : 2048 ≤ cards
+first_size marks = 1 + prefix_len (λ (mark : ℕ). eqb mark 0) (drop 1 marks)
 
 -- levels below the top, and as many marks as nodes
-pub record Segment (maxLeaf level : ℕ) (nodes marks : List ℕ) (ids room cards : ℕ) : Type 0 where
+pub record Segment (maxLeaf level : ℕ) (nodes marks : List ℕ) : Type 0 where
   pub some : 1 ≤ maxLeaf
   pub below : 1 ≤ level
   pub levels : level ≤ 21
   pub few : length nodes ≤ 2048
   pub marked : length marks ≡ length nodes
-  pub scratch : DealingRoom ids room cards
 
 -- a segment that is dealt over its own place
-pub record Dealing (level : ℕ) (nodes marks : List ℕ) (ids room cards : ℕ) : Type 0 where
+pub record Dealing (level : ℕ) (nodes marks : List ℕ) : Type 0 where
   pub below : 1 ≤ level
   pub levels : level ≤ 20
   pub two : 2 ≤ length nodes
   pub few : length nodes ≤ 2048
   pub marked : length marks ≡ length nodes
-  pub scratch : DealingRoom ids room cards
 
 module _ (maxLeaf minLeaf : ℕ) (fraction : Float) (vs : List (List Float)) (level : ℕ) where
   -- a segment marked as one is carved

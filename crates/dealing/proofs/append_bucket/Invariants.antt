@@ -1,12 +1,7 @@
--- The invariant is `Appended`: of the first i nodes those whose cards name the leader stand behind the first `held`. The measure is how many nodes
--- are left. Assumes nothing.
-use Prim.Native.Nat.{◌-◌}
-use lib.ListN.{length}
+-- The invariant is `Appended`: of the nodes so far those whose cards name the leader stand behind the first `held`. Assumes nothing.
 use Rattle.dealing.proofs.Buckets.{Appended}
 use Rattle.dealing.proofs.append_bucket.Given as goal
 
-abbrev pub invariant-loop-i : goal.invariant-loop-i
-invariant-loop-i l = Appended l.initial.l l.initial.ids l.initial.cards l.initial.to l.initial.held l.i l.at l.to
-
-abbrev pub decreases-loop-i : goal.decreases-loop-i
-decreases-loop-i l = length l.initial.ids - l.i
+abbrev pub invariant-loop-id : goal.invariant-loop-id
+invariant-loop-id l =
+    Appended l.initial.l l.initial.carded.ids.now l.initial.carded.cards.now l.initial.to l.initial.held l.id-iterator.a.rest.now l.id-iterator.b.rest.now l.at l.to

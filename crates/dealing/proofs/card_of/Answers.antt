@@ -1,41 +1,42 @@
--- The slices of `fan` words at the front of two arrays hold the nearest leaders, whose numbers are below 2,048: the card fits. No loop. Assumes nothing.
-use mathlib.Core.Path.{◌≡◌, refl, sym}
-use mathlib.Core.List.{[], ◌∷◌}
-use Prim.Native.Nat.{ℕ, ◌-◌}
-use lib.ListN.{length, take, drop}
+-- The first `fan` pairs of an array hold the nearest leaders, whose numbers are below 2,048: the card fits. Assumes nothing.
+use mathlib.Core.Path.{◌≡◌, ap, ◌∙◌}
+use mathlib.Core.List.{List, [], ◌∷◌, ◌++◌, map}
+use Prim.Native.Nat.{ℕ, ◌-◌, ◌<◌}
+use lib.ListN.{get_or, drop}
 use lib.Seq.{length-take-le}
-use Rattle.distance.specs.Vectors.{vectors_in}
+use Rattle.distance.specs.Vectors.{vectors_of}
+use Rattle.sorting.specs.declared.Keyed.{Keyed}
+use Rattle.sorting.specs.Inside.Pairs.{id_in}
+use Rattle.sorting.proofs.Pairs.{no_pair}
+use Rattle.def_graph.specs.Partition.{nearest_leaders}
 use Rattle.dealing.proofs.Dealing.{entry_small, card_read}
 use native.Mathlib.Omega.{arith}
 use Rattle.dealing.proofs.card_of.Goals as goal
+use Rattle.dealing.proofs.card_of.Goals.{After-nearest_leaders}
 
-pub nearest_leaders-requires : goal.nearest_leaders-requires
-nearest_leaders-requires c =
-    (c.requires.0, refl, omega (arith, length-take-le {A = ℕ} c.args.fan (0 ∷ 0 ∷ []) c.requires.2))
+abbrev two : List Keyed
+two = no_pair ∷ no_pair ∷ []
+
+-- as many as `fan`
+found : (c : After-nearest_leaders) → map id_in c.nearest_leaders.new.found ≡ nearest_leaders (vectors_of c.args.vectors) c.args.fan c.args.leaders.now c.args.id
+found c =
+    c.nearest_leaders.ensures ∙ ap (λ (n : ℕ). nearest_leaders (vectors_of c.args.vectors) n c.args.leaders.now c.args.id) (length-take-le c.args.fan two c.requires.2)
+
+small : (c : After-nearest_leaders) (i : ℕ) → i < c.args.fan → (get_or (c.nearest_leaders.new.found ++ drop c.args.fan two) i no_pair).id < 2048
+small c i h =
+    let x = c.args in
+    entry_small (vectors_of x.vectors) x.fan x.leaders.now c.nearest_leaders.new.found (drop x.fan two) x.id (found c) c.requires.1 c.requires.3 c.requires.0 i h
 
 pub overflow_mul-result : goal.overflow_mul-result
-overflow_mul-result c =
-    let x = c.args in
-    let near = c.nearest_leaders in
-    let same : length (take {A = ℕ} x.fan (0 ∷ 0 ∷ [])) ≡ x.fan = length-take-le x.fan (0 ∷ 0 ∷ []) c.requires.2 in
-    omega (arith, entry_small (vectors_in x.dimension x.vectors.now) x.fan _ x.leaders.now _ (drop {A = ℕ} x.fan (0 ∷ 0 ∷ [])) x.id near.ensures same c.requires.1 c.requires.3 c.requires.0 (x.fan - 1) (omega arith))
+overflow_mul-result c = omega (arith, small (goal.at.overflow_mul-result c).After-nearest_leaders (c.args.fan - 1) (omega arith))
 
 pub overflow_add-result : goal.overflow_add-result
 overflow_add-result c =
-    let x = c.args in
-    let near = c.nearest_leaders in
-    let same : length (take {A = ℕ} x.fan (0 ∷ 0 ∷ [])) ≡ x.fan = length-take-le x.fan (0 ∷ 0 ∷ []) c.requires.2 in
-    omega (arith, entry_small (vectors_in x.dimension x.vectors.now) x.fan _ x.leaders.now _ (drop {A = ℕ} x.fan (0 ∷ 0 ∷ [])) x.id near.ensures same c.requires.1 c.requires.3 c.requires.0 0 (omega arith), entry_small (vectors_in x.dimension x.vectors.now) x.fan _ x.leaders.now _ (drop {A = ℕ} x.fan (0 ∷ 0 ∷ [])) x.id near.ensures same c.requires.1 c.requires.3 c.requires.0 (x.fan - 1) (omega arith))
+    let near = (goal.at.overflow_add-result c).After-nearest_leaders in
+    omega (arith, small near 0 (omega arith), small near (c.args.fan - 1) (omega arith))
 
 pub returns : goal.returns
 returns c =
     let x = c.args in
-    let near = c.nearest_leaders in
-    let same : length (take {A = ℕ} x.fan (0 ∷ 0 ∷ [])) ≡ x.fan = length-take-le x.fan (0 ∷ 0 ∷ []) c.requires.2 in
-    card_read (vectors_in x.dimension x.vectors.now) x.fan _ x.leaders.now _ (drop {A = ℕ} x.fan (0 ∷ 0 ∷ [])) x.id near.ensures same c.requires.1 c.requires.3
-
-pub slice_bounds-nearest_leaders-end : goal.slice_bounds-nearest_leaders-end
-slice_bounds-nearest_leaders-end c = sym (length-take-le _ _ c.requires.2)
-
-pub slice_bounds-nearest_leaders-end-2 : goal.slice_bounds-nearest_leaders-end-2
-slice_bounds-nearest_leaders-end-2 c = sym (length-take-le _ _ c.requires.2)
+    card_read (vectors_of x.vectors) x.fan x.leaders.now c.nearest_leaders.new.found (drop x.fan two) x.id (found (goal.at.returns c).After-nearest_leaders)
+    c.requires.1 c.requires.3

@@ -3,10 +3,11 @@
 use mathlib.Core.Path.{◌≡◌, sym, ap, ◌∙◌}
 use mathlib.Core.List.{List, ◌++◌, map, flatten}
 use Prim.Native.Nat.{ℕ, ◌*◌, ◌≤◌}
-use lib.ListN.{length, get_or, take, drop, length-take, length-drop, length-append}
+use lib.ListN.{length, get_or, take, drop, length-drop, length-append}
 use lib.Seq.{length-take-le, take_at}
 use lib.Ieee.{Float}
-use Rattle.distance.specs.Vectors.{vectors_in}
+use Rattle.distance.specs.Vectors.{vectors_of}
+use Rattle.distance.specs.declared.vectors.Vectors.{Vectors}
 use Rattle.random.specs.Leaders.{drawn, draw_start, up_to, leader_count}
 use Rattle.def_graph.specs.Partition.{nearest_leaders, gathered}
 use Rattle.def_graph.specs.Inside.Occurrences.{entries}
@@ -39,56 +40,33 @@ module _ {k : ℕ} (leaders room : List ℕ) (fit : k ≤ length room) (as-many 
   room_size = omega (arith, length-append leaders (drop k room), length-drop k room, leaders_size)
 
 -- ---- the cards, and what they deal
-module _ (p : DealParams) (vectors : List Float) (room : List ℕ) {level fan k : ℕ} {ids nodes marks leaders cards : List ℕ} {many : ℕ}
+module _ (p : DealParams) (vectors : Vectors) (room : List ℕ) {level fan k : ℕ} {ids nodes marks leaders cards : List ℕ} {many : ℕ}
     (fan-is : fan ≡ fanout level) (fits : Fitting level ids nodes marks (length room) many) (count : k ≡ leader_count (length ids) p.leader_fraction)
     (as-many : length leaders ≡ length (take k room))
     (draws : leaders ≡ map (λ (q : ℕ). get_or ids q 0) (drawn (length (take k room)) (draw_start level) (up_to (length ids))))
-    (given : cards ≡ map (λ (id : ℕ). card_of (nearest_leaders (vectors_in p.dimension vectors) fan (take k (leaders ++ drop k room)) id)) ids) where
+    (given : cards ≡ map (λ (id : ℕ). card_of (nearest_leaders (vectors_of vectors) fan (take k (leaders ++ drop k room)) id)) ids) where
   leaders_are : leaders ≡ map (λ (q : ℕ). get_or ids q 0) (drawn k (draw_start level) (up_to (length ids)))
   leaders_are =
       draws
       ∙ ap (λ (m : ℕ). map (λ (q : ℕ). get_or ids q 0) (drawn m (draw_start level) (up_to (length ids)))) (length-take-le _ _ (within p.leader_fraction fits count).1)
 
-  cards_are : cards ≡ map (λ (id : ℕ). card_of (nearest_leaders (vectors_in p.dimension vectors) fan leaders id)) ids
+  cards_are : cards ≡ map (λ (id : ℕ). card_of (nearest_leaders (vectors_of vectors) fan leaders id)) ids
   cards_are =
       given
-      ∙ ap (λ (l : List ℕ). map (λ (id : ℕ). card_of (nearest_leaders (vectors_in p.dimension vectors) fan l id)) ids)
+      ∙ ap (λ (l : List ℕ). map (λ (id : ℕ). card_of (nearest_leaders (vectors_of vectors) fan l id)) ids)
       (leaders_part leaders room (within p.leader_fraction fits count).1 as-many)
 
   buckets_are : gathered p.min_leaf (buckets_by k ids cards) ≡ buckets_for p vectors level ids
   buckets_are =
-      deal_is p.min_leaf p.leader_fraction (vectors_in p.dimension vectors) level fan k ids leaders cards
+      deal_is p.min_leaf p.leader_fraction (vectors_of vectors) level fan k ids leaders cards
       fan-is (omega (arith, fits.deals)) fits.two (few_ids fits).0 count leaders_are cards_are
 
   entries_are : entries (buckets_by k ids cards) ≡ fan * length ids
   entries_are =
-      deal_entries p.min_leaf p.leader_fraction (vectors_in p.dimension vectors) level fan k ids leaders cards
+      deal_entries p.min_leaf p.leader_fraction (vectors_of vectors) level fan k ids leaders cards
       fan-is (omega (arith, fits.deals)) fits.two (few_ids fits).0 count leaders_are cards_are
 
 -- ---- the answers
-pub overflow_cast-ids : goal.overflow_cast-ids
-overflow_cast-ids c = let f = few_ids c.requires.fitting in omega arith
-
-pub slice_bounds-draw-end : goal.slice_bounds-draw-end
-slice_bounds-draw-end c = (within _ c.requires.fitting c.leader_count-count.ensures).1
-
-pub slice_bounds-draw-end-2 : goal.slice_bounds-draw-end-2
-slice_bounds-draw-end-2 c = sym (length-take-le _ _ (within _ c.requires.fitting c.leader_count-count.ensures).1)
-
-pub draw-requires : goal.draw-requires
-draw-requires c =
-    let f = few_ids c.requires.fitting in
-    let w = within _ c.requires.fitting c.leader_count-count.ensures in
-    (f.0, f.1, simp length-take (omega arith))
-
-pub slice_bounds-assign-end : goal.slice_bounds-assign-end
-slice_bounds-assign-end c =
-    let w = (within _ c.requires.fitting c.leader_count-count.ensures).1 in
-    omega (arith, room_size _ _ w c.draw.auto.leaders)
-
-pub slice_bounds-assign-end-2 : goal.slice_bounds-assign-end-2
-slice_bounds-assign-end-2 c = sym (part_size _ _ (within _ c.requires.fitting c.leader_count-count.ensures).1 c.draw.auto.leaders)
-
 pub assign-requires : goal.assign-requires
 assign-requires c =
     let fits = c.requires.fitting in
@@ -98,26 +76,20 @@ assign-requires c =
     let most = fan_most c.args.level in
     (omega (arith, part), omega (arith, c.requires.fan_value, fits.deals), omega (arith, c.requires.fan_value), omega (arith, part, c.requires.fan_value, fits.two), fits.cards_size)
 
-pub gather-requires : goal.gather-requires
-gather-requires c =
+pub gather-requires-clause-dealt : goal.gather-requires-clause-dealt
+gather-requires-clause-dealt c =
     let fits = c.requires.fitting in
     let count = c.leader_count-count.ensures in
     let left = c.draw.auto.left in
     record {
-      dealt = record {
-        cards_size = c.assign.auto.cards ∙ fits.cards_size;
-        marks_size = fits.marks_size ∙ sym left;
-        all_entries = entries_are c.args.p c.args.vectors.now c.args.room.now c.requires.fan_value fits count c.draw.auto.leaders c.draw.ensures c.assign.ensures
-            ∙ ap (λ (f : ℕ). f * length c.args.ids.now) c.requires.fan_value ∙ sym fits.nodes_size ∙ sym left;
-        few = omega (arith, fits.few, left);
-      };
-      nodes_in_bounds = omega (arith, fits.room_size, left, room_size _ _ (within _ fits count).1 c.draw.auto.leaders);
+      cards_size = c.assign.auto.cards ∙ fits.cards_size;
+      marks_size = fits.marks_size ∙ sym left;
+      all_entries = entries_are c.args.p c.args.vectors c.args.room.now c.requires.fan_value fits count c.draw.auto.leaders c.draw.ensures c.assign.ensures
+          ∙ ap (λ (f : ℕ). f * length c.args.ids.now) c.requires.fan_value ∙ sym fits.nodes_size ∙ sym left;
+      few = omega (arith, fits.few, left);
     }
-
-pub shape_of-room : goal.shape_of-room
-shape_of-room c = c.gather.auto.small ∙ room_size _ _ (within _ c.requires.fitting c.leader_count-count.ensures).1 c.draw.auto.leaders
 
 pub returns : goal.returns
 returns c =
-    let same = buckets_are c.args.p c.args.vectors.now c.args.room.now c.requires.fan_value c.requires.fitting c.leader_count-count.ensures c.draw.auto.leaders c.draw.ensures c.assign.ensures in
+    let same = buckets_are c.args.p c.args.vectors c.args.room.now c.requires.fan_value c.requires.fitting c.leader_count-count.ensures c.draw.auto.leaders c.draw.ensures c.assign.ensures in
     (c.gather.ensures.0 ∙ ap flatten same, c.gather.ensures.1 ∙ ap marks_of same)

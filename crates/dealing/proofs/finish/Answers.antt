@@ -1,23 +1,24 @@
--- The part from `at` on is as long as what remains: it is written whole, and nothing follows it. No loop. Assumes nothing.
-use mathlib.Core.Path.{◌≡◌, sym, ap₂, ◌∙◌}
-use mathlib.Core.List.{List, ◌++◌}
+-- The part from `at` on is as long as what remains: it is written whole, and nothing follows it. Assumes nothing.
+use mathlib.Core.Path.{◌≡◌, ap₂, refl, ◌∙◌}
 use Prim.Native.Nat.{ℕ, ◌-◌}
-use lib.ListN.{length, take}
+use mathlib.Core.Bool.{Bool, true, false}
+use lib.ListN.{length, length-take, length-drop}
+use Rattle.std.specs.Int.{from_bool}
+use Rattle.basics.specs.Choice.{pick}
 use Rattle.dealing.specs.Inside.Marks.{run}
-use Rattle.dealing.proofs.Placing.{put_words, put_marks, to_end}
+use Rattle.dealing.proofs.Placing.{put_end}
 use native.Mathlib.Omega.{arith}
 use Rattle.dealing.proofs.finish.Goals as goal
 
+one_if : (t : Bool) → from_bool t ≡ pick t 1 0
+unfolding pick
+one_if true = refl
+one_if false = refl
+
 pub returns : goal.returns
 returns c =
-    let x = c.args in
-    let rest : List ℕ = x.rest.now in
-    let k : ℕ = length x.nodes.now - x.at in
-    let k' : ℕ = length x.marks.now - x.at in
-    let same : k ≡ length rest = omega arith in
-    let same' : k' ≡ length rest = omega arith in
-    let first = c.first_mark in (
-      put_words x.nodes.now x.at k (omega arith) rest _ (sym same) c.copy_words.ensures ∙ to_end x.nodes.now rest x.at k (omega arith),
-      put_marks x.marks.now x.at k' (omega arith) first.result _ c.mark.ensures ∙ to_end x.marks.now (run first.result k') x.at k' (omega arith)
-          ∙ ap₂ (λ (f : ℕ) (j : ℕ). take x.at x.marks.now ++ run f j) first.ensures same',
+    let x = c.args in (
+      put_end x.nodes.now x.at (length x.nodes.now - x.at) (omega arith) c.copy_from_slice.ensures.after,
+      put_end x.marks.now x.at (length x.marks.now - x.at) (omega arith)
+          (c.mark.ensures ∙ ap₂ (λ (f : ℕ) (n : ℕ). run f n) (c.from.ensures ∙ one_if _) (simp (length-take, length-drop) (omega arith))),
     )

@@ -19,7 +19,7 @@ small c = c.gather_all-g.new.small
 all_held : (c : After-gather_all-g) → c.gather_all-g.result.at + c.gather_all-g.result.held ≡ length c.args.nodes.now
 all_held c =
     let x = c.args in
-    so_far_all x.ids.now x.cards.now x.min_leaf x.leaders c.gather_all-g.ensures ∙ c.requires.dealt.all_entries
+    so_far_all x.carded.ids.now x.carded.cards.now x.min_leaf x.leaders c.gather_all-g.ensures ∙ c.requires.dealt.all_entries
 
 held_fits : (c : After-gather_all-g) → c.gather_all-g.result.held ≤ length (small c)
 held_fits c = omega (arith, all_held c, c.requires.nodes_in_bounds, c.gather_all-g.auto.small)
@@ -32,12 +32,6 @@ pub returns : goal.returns
 returns c =
     let x = c.args in
     let end = c.finish in (
-      end.ensures.0 ∙ gathered_nodes x.min_leaf (buckets_by x.leaders x.ids.now x.cards.now) _ _ _ _ _ c.gather_all-g.ensures,
-      end.ensures.1 ∙ gathered_marks x.min_leaf (buckets_by x.leaders x.ids.now x.cards.now) _ _ _ _ _ c.gather_all-g.ensures _ (length-take-le c.gather_all-g.result.held (small (goal.at.returns c).After-gather_all-g) (held_fits (goal.at.returns c).After-gather_all-g)),
+      end.ensures.0 ∙ gathered_nodes x.min_leaf (buckets_by x.leaders x.carded.ids.now x.carded.cards.now) _ _ _ _ c.gather_all-g.ensures,
+      end.ensures.1 ∙ gathered_marks x.min_leaf (buckets_by x.leaders x.carded.ids.now x.carded.cards.now) _ _ _ _ c.gather_all-g.ensures _ (length-take-le c.gather_all-g.result.held (small (goal.at.returns c).After-gather_all-g) (held_fits (goal.at.returns c).After-gather_all-g)),
     )
-
-pub slice_bounds-finish-end : goal.slice_bounds-finish-end
-slice_bounds-finish-end c = held_fits (goal.at.slice_bounds-finish-end c).After-gather_all-g
-
-pub slice_bounds-finish-end-2 : goal.slice_bounds-finish-end-2
-slice_bounds-finish-end-2 c = sym (length-take-le _ _ (held_fits (goal.at.slice_bounds-finish-end-2 c).After-gather_all-g))

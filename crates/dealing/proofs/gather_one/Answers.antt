@@ -1,7 +1,5 @@
--- The bucket found stands behind what has gathered. Three ways, as in `gather_one`: placed, placed with those before it, or kept with them. No loop. Assumes nothing.
-use mathlib.Core.Path.{refl, sym}
-use lib.ListN.{length-take}
-use lib.Seq.{length-take-le}
+-- The bucket found stands behind what has gathered. Three ways, as in `gather_one`: placed, placed with those before it, or kept with them. Assumes nothing.
+use mathlib.Core.Path.{refl}
 use Rattle.dealing.proofs.Gathering.{gathers_large, gathers_joined, gathers_small}
 use native.Mathlib.Omega.{arith}
 use Rattle.dealing.proofs.gather_one.Goals as goal
@@ -10,15 +8,6 @@ pub returns-then-end-held : goal.returns-then-end-held
 returns-then-end-held c =
     let found = c.append_bucket-end.ensures in
     gathers_large c.args.min_leaf c.requires found.0 found.1 refl c.if-end-held.true c.place.ensures
-
-pub slice_bounds-place-end-then-end-min_leaf-2 : goal.slice_bounds-place-end-then-end-min_leaf-2
-slice_bounds-place-end-then-end-min_leaf-2 c =
-    sym (length-take-le _ _ (omega (arith, c.append_bucket-end.ensures.0, c.append_bucket-end.auto.to, c.requires.small_room)))
-
-pub place-requires-then-end-min_leaf : goal.place-requires-then-end-min_leaf
-place-requires-then-end-min_leaf c =
-    let found = c.append_bucket-end in
-    (simp length-take (omega (arith, found.ensures.0, found.auto.to, c.requires.nodes_room)), c.requires.marks_size)
 
 pub returns-then-end-min_leaf : goal.returns-then-end-min_leaf
 returns-then-end-min_leaf c =

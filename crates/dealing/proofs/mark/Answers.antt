@@ -1,20 +1,18 @@
--- All zeroes, then the first mark if there is a first. No loop. Assumes nothing.
-use mathlib.Core.Path.{ap, ◌∙◌}
+-- All zeroes, then the first mark if there is a first. Assumes nothing.
+use mathlib.Core.Path.{ap, sym, ◌∙◌}
 use mathlib.Core.List.{List}
 use Prim.Native.Nat.{ℕ}
 use lib.ListN.{length, set}
 use Rattle.dealing.proofs.Marks.{run-set, run_none}
 use native.Mathlib.Omega.{arith}
+use borrow.Author.Tests.{ltb-true}
 use Rattle.dealing.proofs.mark.Goals as goal
 
-pub returns-then-marks-gt0 : goal.returns-then-marks-gt0
-returns-then-marks-gt0 c =
-    let x = c.args in
-    let cleared = c.clear_words in
-    ap (λ (r : List ℕ). set r 0 x.first) cleared.ensures ∙ run-set x.first (length x.marks.now) (omega (arith, c.if-marks-gt0.true, cleared.auto.s))
+pub returns-in-Some : goal.returns-in-Some
+returns-in-Some c =
+    let some = ltb-true _ _ (sym c.in-Some.ensures.item.0) in
+    ap (λ (r : List ℕ). set r 0 c.args.first) (c.fill.ensures.after (λ y e. e)) ∙ run-set c.args.first (length c.args.marks.now) (omega (arith, some, c.fill.ensures.len))
 
-pub returns-else-marks-gt0 : goal.returns-else-marks-gt0
-returns-else-marks-gt0 c =
-    let x = c.args in
-    let cleared = c.clear_words in
-    cleared.ensures ∙ run_none x.first (length x.marks.now) (omega (arith, c.if-marks-gt0.false, cleared.auto.s))
+pub returns-in_default : goal.returns-in_default
+returns-in_default c =
+    c.fill.ensures.after (λ y e. e) ∙ run_none c.args.first (length c.args.marks.now) (omega (arith, c.in_default.ensures.item.3, c.fill.ensures.len))

@@ -2,6 +2,7 @@
 use Rattle.std.specs.Prelude.{Bool, ◌||◌, List, [], ◌∷◌, map, ℕ, ◌+◌, ◌-◌, ◌*◌, ◌/◌, ◌%◌, eqb, length, get_or}
 use Rattle.basics.specs.Choice.{pick}
 use Rattle.random.specs.Leaders.{up_to}
+use Rattle.dealing.specs.declared.Carded.{Carded}
 
 -- the first of the leaders that a node goes to, and 2^16 times the last
 unfoldable pub card_of : List ℕ → ℕ
@@ -21,3 +22,10 @@ bucket_at l (x ∷ ids) (card ∷ cards) = let rest : List ℕ = bucket_at l ids
 unfoldable pub buckets_by : ℕ → List ℕ → List ℕ → List (List ℕ)
 unfolding bucket_at up_to
 buckets_by leaders ids cards = map (λ (l : ℕ). bucket_at l ids cards) (up_to leaders)
+
+-- the same of nodes and cards as the code passes them
+abbrev pub bucket_in : ℕ → Carded → List ℕ
+bucket_in l c = bucket_at l c.ids.now c.cards.now
+
+abbrev pub buckets_in : ℕ → Carded → List (List ℕ)
+buckets_in leaders c = buckets_by leaders c.ids.now c.cards.now

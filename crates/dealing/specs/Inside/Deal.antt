@@ -3,7 +3,8 @@
 use Rattle.std.specs.Prelude.{◌≡◌, ℕ, ◌*◌, ◌≤◌, length, Float}
 use mathlib.Core.List.{List, flatten}
 use Rattle.def_graph.specs.Partition.{fanout, buckets_of}
-use Rattle.distance.specs.Vectors.{vectors_in}
+use Rattle.distance.specs.Vectors.{vectors_of}
+use Rattle.distance.specs.declared.vectors.Vectors.{Vectors}
 use Rattle.dealing.specs.Inside.Marks.{marks_of}
 use Rattle.dealing.specs.declared.DealParams.{DealParams}
 
@@ -26,6 +27,6 @@ pub record Deals (minLeaf : ℕ) (fraction : Float) (vs : List (List Float)) (le
   pub dealt : Fitting level ids nodes marks room cards → Holding (buckets_of minLeaf fraction vs level ids) nodes' marks'
   pub kept : (Fitting level ids nodes marks room cards → ⊥) → (nodes' ≡ nodes) × (marks' ≡ marks)
 
--- the buckets of a segment of nodes whose vectors stand in a slice
-abbrev pub buckets_for : DealParams → List Float → ℕ → List ℕ → List (List ℕ)
-buckets_for p vectors level ids = buckets_of p.min_leaf p.leader_fraction (vectors_in p.dimension vectors) level ids
+-- the buckets of a segment of nodes, by their vectors
+abbrev pub buckets_for : DealParams → Vectors → ℕ → List ℕ → List (List ℕ)
+buckets_for p vectors level ids = buckets_of p.min_leaf p.leader_fraction (vectors_of vectors) level ids

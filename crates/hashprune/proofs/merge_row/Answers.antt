@@ -1,23 +1,23 @@
--- The ids sorted, without equal neighbours, as a row. Assumes nothing.
-use mathlib.Core.Path.{◌≡◌, ap, ◌∙◌}
-use mathlib.Core.List.{List}
-use Prim.Native.Nat.{ℕ, ◌-◌}
+-- The pairs sorted, without equal neighbours, as a row. Assumes nothing.
+use mathlib.Core.Path.{ap, ◌∙◌}
+use mathlib.Core.List.{List, map}
+use Prim.Native.Nat.{ℕ, ◌-◌, min}
 use lib.ListN.{length, take}
-use Rattle.sorting.specs.Inside.Pairs.{fitting}
+use Rattle.std.proofs.lemmas.List.{take_rest}
+use Rattle.sorting.specs.declared.Keyed.{Keyed}
+use Rattle.sorting.specs.Inside.Pairs.{id_in}
+use Rattle.sorting.proofs.Pairs.{sorted_all}
 use Rattle.def_graph.specs.Leaf.{dedup}
 use Rattle.store.specs.View.{row_block}
-use Rattle.hashprune.proofs.Rows.{rest-whole}
-use Rattle.hashprune.proofs.Ranked.{sorted_whole}
 use native.Mathlib.Omega.{arith}
 use Rattle.hashprune.proofs.merge_row.Goals as goal
 
 pub returns : goal.returns
 returns c =
     let a = c.args in
-    let t = c.sort_pairs in
     let d = c.dedup-from in
-    let fit : fitting a.keys.now a.ids.now a.spare_keys.now a.spare_ids.now ≡ length a.keys.now
-    = omega (arith, c.requires.same, c.requires.spare_keys_room, c.requires.spare_ids_room) in
+    let D : ℕ = length a.row.now - 1 in
+    let sorted = c.sort_pairs.ensures ∙ sorted_all (min (length a.pairs.now) (length a.spare.now)) a.pairs.now (omega (arith, c.requires.spare_room)) in
     c.write_row.ensures
-    ∙ ap (λ (l : List ℕ). row_block (length a.row.now - 1) (take (length a.row.now - 1) l))
-    (rest-whole d.new.ids d.result ∙ d.ensures.1 ∙ ap dedup (t.ensures.1 ∙ sorted_whole _ a.keys.now a.ids.now c.requires.same fit))
+    ∙ ap (λ (l : List Keyed). row_block D (take D (map id_in l))) (take_rest d.new.pairs d.result)
+    ∙ ap (λ (l : List ℕ). row_block D (take D l)) (d.ensures.1 ∙ ap (λ (l : List Keyed). dedup (map id_in l)) sorted)

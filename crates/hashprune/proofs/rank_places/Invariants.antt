@@ -1,12 +1,9 @@
--- The invariant: the pairs of the first i places are put. The measure is how many are left. Assumes nothing.
-use Prim.Native.Nat.{◌-◌}
-use lib.ListN.{length}
-use Rattle.hashprune.specs.Inside.Steps.{ranked_place}
-use Rattle.hashprune.proofs.Ranked.{Ranking}
+-- The invariant: the pairs of the first i cells are put. Assumes nothing.
+use mathlib.Core.Path.{◌≡◌}
+use Rattle.hashprune.specs.declared.Cell.{Cell}
+use Rattle.hashprune.specs.Inside.Steps.{place_in, ranked_place}
+use Rattle.hashprune.proofs.Lists.{written}
 use Rattle.hashprune.proofs.rank_places.Given as goal
 
 abbrev pub invariant-loop-i : goal.invariant-loop-i
-invariant-loop-i l = Ranking (ranked_place l.initial.candidates l.initial.far) l.initial.places l.initial.keys l.initial.ids l.keys l.ids l.i
-
-abbrev pub decreases-loop-i : goal.decreases-loop-i
-decreases-loop-i l = length l.initial.places - l.i
+invariant-loop-i l = l.pairs ≡ written (λ (cell : Cell). ranked_place l.initial.candidates (place_in cell)) l.initial.cells l.initial.pairs l.i

@@ -1,33 +1,34 @@
--- The invariant: the pairs of the first i entries are put, and there are no more entries than the row has room for. The measure is how many are
--- left. Assumes nothing.
-use mathlib.Core.Path.{refl, sym, ap, ◌∙◌}
+-- One pair more; there are no more entries than the row has room for. Assumes nothing.
+use mathlib.Core.Path.{refl, sym, ap, ap₂, ◌∙◌}
 use mathlib.Core.List.{List, map}
 use Prim.Native.Nat.{ℕ}
-use lib.ListN.{length, length-map}
-use Rattle.sorting.specs.Inside.Pairs.{keys_of, ids_of}
+use lib.Ieee.{binary32}
+use lib.ListN.{length, get_or, set, length-map}
+use Rattle.distance.specs.Order.{key_of}
+use Rattle.sorting.specs.declared.Keyed.{Keyed}
+use Rattle.sorting.specs.Inside.Pairs.{put_front}
 use Rattle.lists.proofs.Reading.{one_row}
 use Rattle.hashprune.specs.Inside.Steps.{ranked_node}
+use Rattle.hashprune.proofs.Lists.{written_more, written_end}
 use Rattle.hashprune.proofs.Rows.{length-entries}
-use Rattle.hashprune.proofs.Ranked.{ranking_none, ranking_more, ranking_end}
 use native.Mathlib.Omega.{arith}
 use Rattle.hashprune.proofs.rank_row.Goals as goal
 
 pub loop-i-init : goal.loop-i-init
 loop-i-init c =
     let a = c.args in
-    let is = c.row_of-entries.ensures ∙ one_row a.row.now c.requires.counted in (
-      omega (arith, ap length is, length-entries a.row.now),
-      ranking_none (ranked_node a.vectors.now a.dimension a.p.now) c.row_of-entries.result.now a.keys.now a.ids.now,
-    )
+    let is = c.row_of-entries.ensures ∙ one_row a.row.now c.requires.counted in
+    (omega (arith, ap length is, length-entries a.row.now, c.requires.room), refl)
 
 pub loop-i-preserved : goal.loop-i-preserved
 loop-i-preserved c =
     let a = c.args in
     let l = c.loop-i in
-    let k = c.node_key in (
+    let entries : List ℕ = c.row_of-entries.result.now in
+    let key = c.key-key.ensures ∙ ap (key_of binary32) c.distance_from.ensures in (
       l.invariant.0,
-      ranking_more (ranked_node a.vectors.now a.dimension a.p.now) c.row_of-entries.result.now a.keys.now a.ids.now l.keys l.ids l.i k.result _
-          (omega arith) (omega (arith, c.requires.keys_room)) (omega (arith, c.requires.ids_room)) l.invariant.1 k.ensures refl,
+      ap₂ (λ (r : List Keyed) (k : ℕ). set r l.i (record { key = k; id = get_or entries l.i 0 })) l.invariant.1 key
+          ∙ written_more (ranked_node a.vectors a.p.now) entries a.pairs.now 0 l.i c.loop-i-test.true l.invariant.0,
     )
 
 pub returns : goal.returns
@@ -35,16 +36,8 @@ returns c =
     let a = c.args in
     let l = c.loop-i in
     let row = c.row_of-entries in
-    let f = ranked_node a.vectors.now a.dimension a.p.now in
-    let is = row.ensures ∙ one_row a.row.now c.requires.counted in
-    let whole = ranking_end f row.result.now a.keys.now a.ids.now l.keys l.ids l.i (omega arith) l.invariant.1 in (
+    let f = ranked_node a.vectors a.p.now in
+    let is = row.ensures ∙ one_row a.row.now c.requires.counted in (
       sym (length-map row.result.now f) ∙ ap (λ (xs : List ℕ). length (map f xs)) is,
-      whole.0 ∙ ap (λ (xs : List ℕ). keys_of (map f xs) a.keys.now) is,
-      whole.1 ∙ ap (λ (xs : List ℕ). ids_of (map f xs) a.ids.now) is,
+      l.invariant.1 ∙ written_end f row.result.now a.pairs.now l.i (omega arith) ∙ ap (λ (xs : List ℕ). put_front (map f xs) a.pairs.now) is,
     )
-
-pub shape_of-keys : goal.shape_of-keys
-shape_of-keys c = c.loop-i.invariant.1.keys_long
-
-pub shape_of-ids : goal.shape_of-ids
-shape_of-ids c = c.loop-i.invariant.1.ids_long

@@ -1,42 +1,49 @@
 -- The cells' places, their pairs, and these sorted. Assumes nothing.
-use mathlib.Core.Path.{sym, subst}
-use mathlib.Core.List.{Memᴰ as In}
-use Prim.Native.Nat.{◌≤◌}
-use lib.ListN.{length}
+use mathlib.Core.Path.{◌≡◌, sym, ap, subst, ◌∙◌}
+use mathlib.Core.List.{◌++◌, map, map-map, Memᴰ as In}
+use lib.ListN.{length, take, drop, length-map, length-take}
 use lib.Seq.{length-take-le}
-use Rattle.hashprune.specs.Inside.Steps.{far_at, hash_at, ranked_place}
+use Rattle.def_graph.specs.Leaf.{nodes_in}
+use Rattle.sorting.specs.Sorting.{sort_by}
+use Rattle.sorting.specs.Inside.Pairs.{key_in}
+use Rattle.hashprune.specs.declared.Cell.{Cell}
+use Rattle.hashprune.specs.Inside.Steps.{Selected, place_in, far_at, hash_at, cells_of, ranked_place}
 use Rattle.hashprune.proofs.Cells.{cells_below, places_are}
 use Rattle.hashprune.proofs.Ranked.{put_sorted}
 use native.Mathlib.Omega.{arith}
 use Rattle.hashprune.proofs.select.Goals as goal
+use Rattle.hashprune.proofs.select.Goals.{After-fill_cells-held}
 
-pub slice_bounds-rank_places-end-2 : goal.slice_bounds-rank_places-end-2
-slice_bounds-rank_places-end-2 c =
+-- the places that hold cells
+places : (c : After-fill_cells-held) → map place_in (take c.fill_cells-held.result c.fill_cells-held.new.cells)
+    ≡ nodes_in (cells_of c.args.point c.args.vectors c.args.planes.now c.args.candidates.now)
+places c =
+    let a = c.args in
     let f = c.fill_cells-held in
-    sym (length-take-le f.result f.new.places (omega (arith, f.auto.places, f.ensures.0, c.requires.cells.places_room)))
+    places_are (far_at a.candidates.now) (hash_at a.point a.vectors a.planes.now a.candidates.now) f.result f.new.cells
+    (cells_of a.point a.vectors a.planes.now a.candidates.now) f.ensures.1
 
 pub rank_places-requires : goal.rank_places-requires
 rank_places-requires c =
     let a = c.args in
     let f = c.fill_cells-held in
-    let hashes : f.result ≤ length f.new.hashes = omega (arith, f.auto.hashes, f.ensures.0, c.requires.cells.hashes_room) in
-    let places : f.result ≤ length f.new.places = omega (arith, f.auto.places, f.ensures.0, c.requires.cells.places_room) in
-    let size = length-take-le f.result f.new.places places in
-    let are = places_are _ _ _ _ hashes places f.ensures.1 in
-    let below = cells_below (far_at a.far.now) (hash_at a.point a.vectors.now a.planes.now a.candidates.now) (length a.candidates.now) in
+    let are = places (goal.at.rank_places-requires c).After-fill_cells-held in
+    let below = cells_below (far_at a.candidates.now) (hash_at a.point a.vectors a.planes.now a.candidates.now) (length a.candidates.now) in
     record {
-      nodes = λ x m. below x (subst (In x) are m);
-      fars = λ x m. let k = below x (subst (In x) are m) in omega (arith, c.requires.cells.fars);
-      keys_room = omega (arith, size, f.ensures.0, c.requires.keys_room);
-      ids_room = omega (arith, size, f.ensures.0, c.requires.ids_room);
+      held = λ x m. below x (subst (In x) are m);
+      room = omega (arith, length-take f.result f.new.cells, f.ensures.0, c.requires.room);
     }
 
 pub returns : goal.returns
 returns c =
     let a = c.args in
     let f = c.fill_cells-held in
-    let hashes : f.result ≤ length f.new.hashes = omega (arith, f.auto.hashes, f.ensures.0, c.requires.cells.hashes_room) in
-    let places : f.result ≤ length f.new.places = omega (arith, f.auto.places, f.ensures.0, c.requires.cells.places_room) in
-    let are = places_are _ _ _ _ hashes places f.ensures.1 in
-    put_sorted (ranked_place a.candidates.now a.far.now) _ _ (length a.candidates.now) f.result a.keys.now a.ids.now _ _ _ _
-    are (length-take-le f.result f.new.places places) f.ensures.0 c.rank_places.ensures c.sort_first.ensures
+    let ps = map (λ (cell : Cell). ranked_place a.candidates.now (place_in cell)) (take f.result f.new.cells) in
+    let are : ps ≡ map (ranked_place a.candidates.now) (nodes_in (cells_of a.point a.vectors a.planes.now a.candidates.now))
+    = sym (map-map (ranked_place a.candidates.now) place_in (take f.result f.new.cells)) ∙ ap (map (ranked_place a.candidates.now)) (places (goal.at.returns c).After-fill_cells-held) in
+    let long : length ps ≡ f.result
+    = length-map (take f.result f.new.cells) (λ (cell : Cell). ranked_place a.candidates.now (place_in cell))
+    ∙ length-take-le f.result f.new.cells (omega (arith, f.auto.cells, f.ensures.0, c.requires.few)) in
+    subst (λ qs. Selected (sort_by key_in qs) (length a.candidates.now) f.result a.pairs.now (c.sort_pairs.new.pairs ++ drop f.result c.rank_places.new.pairs)) are
+    (put_sorted ps (length a.candidates.now) f.result _ a.pairs.now c.rank_places.new.pairs c.sort_pairs.new.pairs long f.ensures.0 c.rank_places.ensures
+    (omega (arith, length-take f.result c.rank_places.new.pairs, c.rank_places.auto.pairs, c.requires.room, c.requires.spare_room, f.ensures.0)) c.sort_pairs.ensures)

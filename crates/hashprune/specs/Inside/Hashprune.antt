@@ -4,9 +4,11 @@ use Rattle.std.specs.Float.{binary32}
 use Rattle.basics.specs.Nodes.{Below}
 use Rattle.random.specs.Hyperplanes.{plane_numbers}
 use Rattle.distance.specs.Vectors.{vectors_in, between}
+use Rattle.distance.specs.declared.vectors.Vectors.{Vectors}
 use Rattle.simhash.specs.Inside.Blocks.{plane_blocks}
 use Rattle.def_graph.specs.Leaf.{selected, merged}
 use Rattle.store.specs.View.{row_block}
+use Rattle.hashprune.specs.declared.Candidate.{Candidate}
 use Rattle.hashprune.specs.declared.Point.{Point}
 
 -- `planes` are the blocks that `simhash::plane_blocks_into` makes of a table of the stream's first numbers, whatever follows them, with room for
@@ -33,11 +35,18 @@ pub record Turn (vectors : List Float) (dimension bits : ℕ) (planes : List Flo
   pub old_most : length old ≤ length row - 1
   pub row_is : row ≡ row_block (length row - 1) old
 
+abbrev pub node_of : Candidate → ℕ
+node_of c = c.node.0
+
+abbrev pub far_of : Candidate → Float
+far_of c = c.far
+
 -- the row afterwards, where all of that is so
-abbrev pub Inserted : Point → List Float → List Float → List ℕ → List Float → List ℕ → List ℕ → Type 0
-Inserted p vectors planes candidates far row row' =
-    let d : ℕ = p.dimension in
+abbrev pub Inserted : Point → Vectors → List Float → List Candidate → List ℕ → List ℕ → Type 0
+Inserted p v planes candidates row row' =
+    let d : ℕ = v.dimension in
     let D : ℕ = length row - 1 in
-    let vs : List (List Float) = vectors_in d vectors in
-    (old : List ℕ) → Turn vectors d p.bits planes p.node.0 candidates far row old
-    → row' ≡ row_block D (merged D vs p.node.0 old (selected D p.bits d vs p.node.0 candidates))
+    let vs : List (List Float) = vectors_in d v.components.now in
+    let nodes : List ℕ = map node_of candidates in
+    (old : List ℕ) → Turn v.components.now d p.bits planes p.node.0 nodes (map far_of candidates) row old
+    → row' ≡ row_block D (merged D vs p.node.0 old (selected D p.bits d vs p.node.0 nodes))
