@@ -90,6 +90,7 @@ fn nearest_row(vectors: &[f32], n: u32, centroid: &[f32]) -> Node
 }
 
 // The rows added to the sums, one after the other.
+// kept: rows by their places, here and in `nearest_row`: a row is as long as a slice of any length, which a `Vectors` does not count.
 fn sum_rows(vectors: &[f32], n: usize, sums: &mut [f32])
     requires { n * length sums.old ≤ length vectors.now }
     ensures { sums.new ≡ row_sums_from binary32 sums.old (pieces (length sums.old) n vectors.now) }
