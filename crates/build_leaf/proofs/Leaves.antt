@@ -14,7 +14,8 @@ use Rattle.basics.proofs.Members.{in_get_d, in_take, in_drop}
 use Rattle.random.specs.Hyperplanes.{plane_numbers}
 use Rattle.simhash.specs.Inside.Blocks.{plane_blocks}
 use Rattle.simhash.proofs.Blocks.{length_blocks}
-use Rattle.distance.specs.Vectors.{vectors_in}
+use Rattle.distance.specs.Vectors.{vectors_of}
+use Rattle.distance.specs.declared.vectors.Vectors.{Vectors}
 use Rattle.def_graph.specs.Leaf.{build_leaf, build_leaves}
 use Rattle.def_graph.proofs.leaf.Laws.{build_append}
 use Rattle.lists.specs.Inside.Words.{Blocks}
@@ -54,14 +55,14 @@ flatten_more leaves k h =
 
 -- ---- the first k leaves
 
-pub record After (p : LeafParams) (vectors : List Float) (rs leaves : List (List ℕ)) (k at : ℕ) (rows : List ℕ) : Type 0 where
+pub record After (p : LeafParams) (v : Vectors) (rs leaves : List (List ℕ)) (k at : ℕ) (rows : List ℕ) : Type 0 where
   pub at_is : at ≡ length (flatten (take k leaves))
-  pub rows_are : Blocks p.degree (build_leaves p.degree p.bits p.dimension (vectors_in p.dimension vectors) (take k leaves) rs) rows
+  pub rows_are : Blocks p.degree (build_leaves p.degree p.bits v.dimension (vectors_of v) (take k leaves) rs) rows
 
-abbrev pub LeavesTo : LeafParams → List Float → List Float → List ℕ → List ℕ → ℕ → ℕ → ℕ → List ℕ → List ℕ → Type 0
-LeavesTo p vectors planes nodes sizes room k at rows rows' =
-    (n : ℕ) (rs leaves : List (List ℕ)) → Setting n p vectors planes → length rs ≡ n → LeavesIn n leaves nodes sizes room
-    → Blocks p.degree rs rows → After p vectors rs leaves k at rows'
+abbrev pub LeavesTo : LeafParams → Vectors → List Float → List ℕ → List ℕ → ℕ → ℕ → ℕ → List ℕ → List ℕ → Type 0
+LeavesTo p v planes nodes sizes room k at rows rows' =
+    (n : ℕ) (rs leaves : List (List ℕ)) → Setting n p v planes → length rs ≡ n → LeavesIn n leaves nodes sizes room
+    → Blocks p.degree rs rows → After p v rs leaves k at rows'
 
 leaf_length : (D bits d : ℕ) (vs : List (List Float)) (leaf : List ℕ) (rs : List (List ℕ)) → length (build_leaf D bits d vs leaf rs) ≡ length rs
 unfolding build_leaf
@@ -80,8 +81,8 @@ one_more D bits d vs leaves k rs h =
     sym (build_append D bits d vs (take k leaves) (get_or leaves k [] ∷ []) rs)
     ∙ ap (λ (l : List (List ℕ)). build_leaves D bits d vs l rs) (sym (take-suc leaves k [] h))
 
-module _ (p : LeafParams) (vectors planes : List Float) (nodes sizes : List ℕ) (room : ℕ) (rows : List ℕ) where
-  pub leaves_none : LeavesTo p vectors planes nodes sizes room 0 0 rows rows
+module _ (p : LeafParams) (v : Vectors) (planes : List Float) (nodes sizes : List ℕ) (room : ℕ) (rows : List ℕ) where
+  pub leaves_none : LeavesTo p v planes nodes sizes room 0 0 rows rows
   unfolding build_leaves flatten
   leaves_none n rs leaves s many held b = record { at_is = refl; rows_are = b }
 
@@ -118,35 +119,35 @@ module _ (p : LeafParams) (vectors planes : List Float) (nodes sizes : List ℕ)
     }
 
   pub leaves_more : (k at end m : ℕ) (now next : List ℕ) → k < length sizes → end ≡ at + get_or sizes k 0 → m ≡ get_or sizes k 0
-      → LeavesTo p vectors planes nodes sizes room k at rows now
-      → LeafBuilt p vectors planes (take m (drop at nodes)) room now next
-      → LeavesTo p vectors planes nodes sizes room (k + 1) end rows next
+      → LeavesTo p v planes nodes sizes room k at rows now
+      → LeafBuilt p v planes (take m (drop at nodes)) room now next
+      → LeavesTo p v planes nodes sizes room (k + 1) end rows next
   leaves_more k at end m now next h e q to built n rs leaves s many held b =
-      let vs : List (List Float) = vectors_in p.dimension vectors in
-      let after : After p vectors rs leaves k at now = to n rs leaves s many held b in
+      let vs : List (List Float) = vectors_of v in
+      let after : After p v rs leaves k at now = to n rs leaves s many held b in
       let inside : k < length leaves = here n k at end leaves held h after.at_is e in
       let leaf : List ℕ = get_or leaves k [] in
       let is : take m (drop at nodes) ≡ leaf = leaf_is n k at end leaves held h after.at_is e m q in
-      let before : List (List ℕ) = build_leaves p.degree p.bits p.dimension vs (take k leaves) rs in
-      let done : Blocks p.degree (build_leaf p.degree p.bits p.dimension vs leaf before) next =
-      subst (λ (l : List ℕ). LeafBuilt p vectors planes l room now next) is built n before s (leaves_length p.degree p.bits p.dimension vs (take k leaves) rs ∙ many)
+      let before : List (List ℕ) = build_leaves p.degree p.bits v.dimension vs (take k leaves) rs in
+      let done : Blocks p.degree (build_leaf p.degree p.bits v.dimension vs leaf before) next =
+      subst (λ (l : List ℕ). LeafBuilt p v planes l room now next) is built n before s (leaves_length p.degree p.bits v.dimension vs (take k leaves) rs ∙ many)
       (leaf_held n k at end leaves held h after.at_is e) after.rows_are in
       record {
         at_is = omega (arith, after.at_is, size_is n k at end leaves held h after.at_is e, flatten_more leaves k inside, ap (λ (i : ℕ). length (flatten (take i leaves))) (add-one k));
-        rows_are = subst (λ (l : List (List ℕ)). Blocks p.degree l next) (one_more p.degree p.bits p.dimension vs leaves k rs inside ∙ ap (λ (i : ℕ). build_leaves p.degree p.bits p.dimension vs (take i leaves) rs) (sym (add-one k))) done;
+        rows_are = subst (λ (l : List (List ℕ)). Blocks p.degree l next) (one_more p.degree p.bits v.dimension vs leaves k rs inside ∙ ap (λ (i : ℕ). build_leaves p.degree p.bits v.dimension vs (take i leaves) rs) (sym (add-one k))) done;
       }
 
   -- sizes that run past the nodes are not those of leaves
   pub leaves_cut : (k at end : ℕ) (now : List ℕ) → k < length sizes → end ≡ at + get_or sizes k 0 → length nodes < end
-      → LeavesTo p vectors planes nodes sizes room k at rows now → LeavesBuilt p vectors planes nodes sizes room rows now
+      → LeavesTo p v planes nodes sizes room k at rows now → LeavesBuilt p v planes nodes sizes room rows now
   leaves_cut k at end now h e past to n rs leaves s many held b =
       absurd (omega (arith, leaf_there n k at end leaves held h (to n rs leaves s many held b).at_is e))
 
-  pub leaves_last : (k at : ℕ) (now : List ℕ) → length sizes ≤ k → LeavesTo p vectors planes nodes sizes room k at rows now
-      → LeavesBuilt p vectors planes nodes sizes room rows now
+  pub leaves_last : (k at : ℕ) (now : List ℕ) → length sizes ≤ k → LeavesTo p v planes nodes sizes room k at rows now
+      → LeavesBuilt p v planes nodes sizes room rows now
   leaves_last k at now h to n rs leaves s many held b =
       let all : take k leaves ≡ leaves = take_all k leaves (omega (arith, ap length held.sizes_are, length-map leaves length)) in
-      subst (λ (l : List (List ℕ)). Blocks p.degree (build_leaves p.degree p.bits p.dimension (vectors_in p.dimension vectors) l rs) now) all (to n rs leaves s many held b).rows_are
+      subst (λ (l : List (List ℕ)). Blocks p.degree (build_leaves p.degree p.bits v.dimension (vectors_of v) l rs) now) all (to n rs leaves s many held b).rows_are
 
 -- ---- the hyperplanes
 

@@ -13,14 +13,16 @@ use borrow.Rule.Slice.PartMut.{put_mid}
 use Rattle.basics.specs.Choice.{pick_true, pick_false}
 use Rattle.basics.specs.Nodes.{Below}
 use Rattle.basics.proofs.Members.{in_get_d}
-use Rattle.distance.specs.Vectors.{vectors_in, between}
+use Rattle.distance.specs.Vectors.{vectors_of, between}
+use Rattle.distance.specs.declared.vectors.Vectors.{Vectors}
 use Rattle.def_graph.specs.Leaf.{selected, merged, hashprune_insert, candidates_at, places_to, build_leaf}
 use Rattle.def_graph.proofs.leaf.Laws.{merged_short, candidates_in, candidates_few}
 use Rattle.store.specs.Layout.{row_size}
 use Rattle.store.specs.View.{row_block}
 use Rattle.lists.specs.Inside.Words.{Blocks}
 use Rattle.lists.proofs.Blocks.{block_length, blocks_length, nth_block, put_block}
-use Rattle.hashprune.specs.Inside.Hashprune.{Inserted}
+use Rattle.hashprune.specs.Inside.Hashprune.{Inserted, node_of, far_of}
+use Rattle.hashprune.specs.declared.Candidate.{Candidate}
 use Rattle.build_leaf.specs.Inside.Lanes.{Distances}
 use Rattle.build_leaf.specs.Inside.Candidates.{LaneFits, LaneReady, CandidatesAre, Candidates}
 use Rattle.build_leaf.specs.declared.LeafParams.{LeafParams}
@@ -31,28 +33,34 @@ pub place_fits : (a b : ℕ) → a ≤ 4294967295 → b ≤ 65536 → a * b ≤ 
 place_fits a b h k = mul-le-mul h k
 
 -- there are as many vectors as nodes
-vectors_many : (n : ℕ) (p : LeafParams) (vectors : List Float) → Sizes n p vectors → length vectors / p.dimension ≡ n
-vectors_many n p vectors s = ap (λ (k : ℕ). k / p.dimension) s.vectors_are ∙ mul-div_cancel n s.dimension_some
+vectors_many : (n : ℕ) (p : LeafParams) (v : Vectors) → Sizes n p v → length v.components.now / v.dimension ≡ n
+vectors_many n p v s = ap (λ (k : ℕ). k / v.dimension) s.vectors_are ∙ mul-div_cancel n s.dimension_some
 
 -- ---- one row
 
-module _ (p : LeafParams) (vectors planes : List Float) (node : ℕ) (candidates : List ℕ) (far : List Float) (ws : List ℕ) where
+module _ (p : LeafParams) (v : Vectors) (planes : List Float) (node : ℕ) (cs : List Candidate) (ws : List ℕ) where
+  abbrev candidates : List ℕ
+  candidates = map node_of cs
+
+  abbrev far : List Float
+  far = map far_of cs
+
   -- a row that does not stand in the words
-  pub row_none : length ws < node * row_size p.degree + row_size p.degree → RowPut p vectors planes node candidates far ws ws
+  pub row_none : length ws < node * row_size p.degree + row_size p.degree → RowPut p v planes node candidates far ws ws
   row_none h n rs s many l below few is b =
       let long : suc node * row_size p.degree ≤ n * row_size p.degree = mul-le-mul_right (row_size p.degree) l in
       absurd (omega (arith, blocks_length p.degree rs ws b, ap (λ (k : ℕ). k * row_size p.degree) many, suc-mul node (row_size p.degree)))
 
   pub row_put : (at k : ℕ) (part : List ℕ) → at ≡ node * row_size p.degree → k ≡ row_size p.degree
-      → Inserted (record { node = record { 0 = node }; dimension = p.dimension; bits = p.bits }) vectors planes candidates far (take k (drop at ws)) part → RowPut p vectors planes node candidates far ws (put_mid at k ws part)
+      → Inserted (record { node = record { 0 = node }; bits = p.bits }) v planes cs (take k (drop at ws)) part → RowPut p v planes node candidates far ws (put_mid at k ws part)
   unfolding hashprune_insert
   row_put at k part e size inserted n rs s many l below few is b =
-      let vs : List (List Float) = vectors_in p.dimension vectors in
+      let vs : List (List Float) = vectors_of v in
       let old : List ℕ = get_or rs node [] in
-      let new : List ℕ = merged p.degree vs node old (selected p.degree p.bits p.dimension vs node candidates) in
+      let new : List ℕ = merged p.degree vs node old (selected p.degree p.bits v.dimension vs node candidates) in
       let row : List ℕ = take k (drop at ws) in
       let here : node < length rs = omega arith in
-      let vectors-n : length vectors / p.dimension ≡ n = vectors_many n p vectors s.sizes in
+      let vectors-n : length v.components.now / v.dimension ≡ n = vectors_many n p v s.sizes in
       let row_is : row ≡ row_block p.degree old = ap₂ (λ (m : ℕ) (a : ℕ). take m (drop a ws)) size e ∙ nth_block p.degree rs ws b node here in
       let long : length row ≡ 1 + p.degree = ap length row_is ∙ block_length p.degree old (b.short node) in
       let deg : length row - 1 ≡ p.degree = omega arith in
@@ -71,10 +79,10 @@ module _ (p : LeafParams) (vectors planes : List Float) (node : ℕ) (candidates
         old_most = omega (arith, b.short node);
         row_is = row_is ∙ ap (λ (m : ℕ). row_block m old) (sym deg);
       })
-      ∙ ap (λ (m : ℕ). row_block m (merged m vs node old (selected m p.bits p.dimension vs node candidates))) deg in
+      ∙ ap (λ (m : ℕ). row_block m (merged m vs node old (selected m p.bits v.dimension vs node candidates))) deg in
       let past : at + k ≡ suc node * row_size p.degree = omega (arith, suc-mul node (row_size p.degree)) in
       let put : Blocks p.degree (set rs node new) (take (node * row_size p.degree) ws ++ (row_block p.degree new ++ drop (suc node * row_size p.degree) ws)) =
-      put_block p.degree rs ws b node new here (merged_short p.degree vs node old (selected p.degree p.bits p.dimension vs node candidates)) in
+      put_block p.degree rs ws b node new here (merged_short p.degree vs node old (selected p.degree p.bits v.dimension vs node candidates)) in
       let words : take (node * row_size p.degree) ws ++ (row_block p.degree new ++ drop (suc node * row_size p.degree) ws) ≡ put_mid at k ws part =
       ap₂ (λ (a : ℕ) (z : ℕ). take a ws ++ (row_block p.degree new ++ drop z ws)) (sym e) (sym past)
       ∙ ap₂ (λ (x : List ℕ) (z : List ℕ). take at ws ++ (x ++ z)) (sym part-is) (sym (drop-drop k at ws)) in
@@ -82,15 +90,15 @@ module _ (p : LeafParams) (vectors planes : List Float) (node : ℕ) (candidates
 
 -- ---- one place
 
-pub place_put : (p : LeafParams) (vectors planes : List Float) (leaf : List ℕ) (i lane : ℕ) (floats : List Float) (rows rows' : List ℕ)
-    (r : ℕ) (candidates : List ℕ) (far : List Float) → i < length leaf → Candidates leaf floats lane i p.degree 64 64 r candidates far
-    → RowPut p vectors planes (get_or leaf i 0) (take r candidates) (take r far) rows rows' → PlacePut p vectors planes leaf i lane floats rows rows'
-place_put p vectors planes leaf i lane floats rows rows' r candidates far h c put n rs s many below ready b =
-    let vs : List (List Float) = vectors_in p.dimension vectors in
-    let are : CandidatesAre leaf i p.degree vs r candidates far = c.are vs ready in
+pub place_put : (p : LeafParams) (v : Vectors) (planes : List Float) (leaf : List ℕ) (i lane : ℕ) (floats : List Float) (rows rows' : List ℕ)
+    (r : ℕ) (candidates : List Candidate) → i < length leaf → Candidates leaf floats lane i p.degree r candidates
+    → RowPut p v planes (get_or leaf i 0) (map node_of (take r candidates)) (map far_of (take r candidates)) rows rows' → PlacePut p v planes leaf i lane floats rows rows'
+place_put p v planes leaf i lane floats rows rows' r candidates h c put n rs s many below ready b =
+    let vs : List (List Float) = vectors_of v in
+    let are : CandidatesAre leaf i p.degree vs r candidates = c.are vs ready in
     let found : List ℕ = candidates_at p.degree vs leaf i in
     let node : ℕ = get_or leaf i 0 in
-    subst (λ (l : List ℕ). Blocks p.degree (hashprune_insert p.degree p.bits p.dimension vs node l rs) rows') are.nodes
+    subst (λ (l : List ℕ). Blocks p.degree (hashprune_insert p.degree p.bits v.dimension vs node l rs) rows') are.nodes
     (put n rs s many (below node (in_get_d leaf i 0 h))
     (subst (Below n) (sym are.nodes) (λ x m. below x (candidates_in p.degree vs leaf i m)))
     (omega (arith, ap length are.nodes, candidates_few p.degree vs leaf i, s.sizes.degree_most))
@@ -109,62 +117,60 @@ next_place : (D bits d : ℕ) (vs : List (List Float)) (leaf : List ℕ) (rs : L
 unfolding places_to
 next_place D bits d vs leaf rs i = ap (places_to D bits d vs leaf rs) (sym (add-one i))
 
-module _ (p : LeafParams) (vectors planes : List Float) (leaf : List ℕ) (first : ℕ) (floats : List Float) (rows : List ℕ) where
-  pub places_none : PlacesPut p vectors planes leaf first first floats rows rows
+module _ (p : LeafParams) (v : Vectors) (planes : List Float) (leaf : List ℕ) (first : ℕ) (floats : List Float) (rows : List ℕ) where
+  pub places_none : PlacesPut p v planes leaf first first floats rows rows
   places_none n rs s many held lanes b = b
 
   pub places_more : (i lane : ℕ) (now next : List ℕ) → first ≤ i → i < first + 8 → i < length leaf → lane ≡ i - first
-      → PlacesPut p vectors planes leaf first i floats rows now → PlacePut p vectors planes leaf i lane floats now next
-      → PlacesPut p vectors planes leaf first (i + 1) floats rows next
+      → PlacesPut p v planes leaf first i floats rows now → PlacePut p v planes leaf i lane floats now next
+      → PlacesPut p v planes leaf first (i + 1) floats rows next
   places_more i lane now next a l h e placed put n rs s many held lanes b =
-      let vs : List (List Float) = vectors_in p.dimension vectors in
-      let before : List (List ℕ) = places_to p.degree p.bits p.dimension vs leaf rs i in
+      let vs : List (List Float) = vectors_of v in
+      let before : List (List ℕ) = places_to p.degree p.bits v.dimension vs leaf rs i in
       let place : min (first + lane) (length leaf - 1) ≡ i = omega arith in
-      let sizes : LaneFits leaf floats lane i p.degree 64 64 = record {
+      let sizes : LaneFits leaf floats lane i p.degree = record {
         place_is = h;
         lane_is = omega arith;
         degree_most = s.sizes.degree_most;
         size_most = omega (arith, held.few, s.sizes.nodes_most);
         floats_fit = held.fits;
-        room_is = omega arith;
-        room'_is = omega arith;
       } in
-      let ready : LaneReady leaf floats lane i p.degree 64 64 vs = record {
+      let ready : LaneReady leaf floats lane i p.degree vs = record {
         sizes = sizes;
         distances = lanes lane (omega arith) ∙ ap (λ (x : ℕ). map (between vs (get_or leaf x 0)) leaf) place;
       } in
-      subst (λ (rows : List (List ℕ)). Blocks p.degree rows next) (next_place p.degree p.bits p.dimension vs leaf rs i)
-      (put n before s (places_length p.degree p.bits p.dimension vs leaf rs i ∙ many) held.below ready (placed n rs s many held lanes b))
+      subst (λ (rows : List (List ℕ)). Blocks p.degree rows next) (next_place p.degree p.bits v.dimension vs leaf rs i)
+      (put n before s (places_length p.degree p.bits v.dimension vs leaf rs i ∙ many) held.below ready (placed n rs s many held lanes b))
 
 -- ---- a leaf
 
 -- the places before `first`
-abbrev pub LeafTo : LeafParams → List Float → List Float → List ℕ → ℕ → ℕ → List ℕ → List ℕ → Type 0
-LeafTo p vectors planes leaf room first rows rows' =
-    (n : ℕ) (rs : List (List ℕ)) → Setting n p vectors planes → length rs ≡ n → LeafHeld n leaf room
-    → Blocks p.degree rs rows → Blocks p.degree (places_to p.degree p.bits p.dimension (vectors_in p.dimension vectors) leaf rs first) rows'
+abbrev pub LeafTo : LeafParams → Vectors → List Float → List ℕ → ℕ → ℕ → List ℕ → List ℕ → Type 0
+LeafTo p v planes leaf room first rows rows' =
+    (n : ℕ) (rs : List (List ℕ)) → Setting n p v planes → length rs ≡ n → LeafHeld n leaf room
+    → Blocks p.degree rs rows → Blocks p.degree (places_to p.degree p.bits v.dimension (vectors_of v) leaf rs first) rows'
 
-module _ (p : LeafParams) (vectors planes : List Float) (leaf : List ℕ) (room : ℕ) (rows : List ℕ) where
-  pub leaf_single : length leaf ≤ 1 → LeafBuilt p vectors planes leaf room rows rows
+module _ (p : LeafParams) (v : Vectors) (planes : List Float) (leaf : List ℕ) (room : ℕ) (rows : List ℕ) where
+  pub leaf_single : length leaf ≤ 1 → LeafBuilt p v planes leaf room rows rows
   unfolding build_leaf
   leaf_single h n rs s many held b = subst (λ (l : List (List ℕ)). Blocks p.degree l rows) (sym (pick_true rs _ (le-leb (length leaf) 1 h))) b
 
-  pub leaf_first : LeafTo p vectors planes leaf room 0 rows rows
+  pub leaf_first : LeafTo p v planes leaf room 0 rows rows
   unfolding places_to
   leaf_first n rs s many held b = b
 
   pub leaf_more : (first end : ℕ) (floats : List Float) (now next : List ℕ) → first < length leaf → length floats ≡ room
-      → LeafTo p vectors planes leaf room first rows now → Distances vectors p.dimension leaf first room floats
-      → PlacesPut p vectors planes leaf first end floats now next → LeafTo p vectors planes leaf room end rows next
+      → LeafTo p v planes leaf room first rows now → Distances v leaf first room floats
+      → PlacesPut p v planes leaf first end floats now next → LeafTo p v planes leaf room end rows next
   leaf_more first end floats now next h e to far put n rs s many held b =
       put n rs s many (record { below = held.below; fits = omega (arith, held.fits); few = held.few })
-      (far s.sizes.dimension_most h held.fits (λ x m. omega (arith, held.below x m, vectors_many n p vectors s.sizes)))
+      (far s.sizes.dimension_most h held.fits (λ x m. omega (arith, held.below x m, vectors_many n p v s.sizes)))
       (to n rs s many held b)
 
-  pub leaf_last : (first : ℕ) (now : List ℕ) → 1 < length leaf → first ≡ length leaf → LeafTo p vectors planes leaf room first rows now
-      → LeafBuilt p vectors planes leaf room rows now
+  pub leaf_last : (first : ℕ) (now : List ℕ) → 1 < length leaf → first ≡ length leaf → LeafTo p v planes leaf room first rows now
+      → LeafBuilt p v planes leaf room rows now
   unfolding build_leaf
   leaf_last first now h e to n rs s many held b =
       subst (λ (l : List (List ℕ)). Blocks p.degree l now)
-      (ap (places_to p.degree p.bits p.dimension (vectors_in p.dimension vectors) leaf rs) e ∙ sym (pick_false rs _ (lt-leb (length leaf) 1 h)))
+      (ap (places_to p.degree p.bits v.dimension (vectors_of v) leaf rs) e ∙ sym (pick_false rs _ (lt-leb (length leaf) 1 h)))
       (to n rs s many held b)

@@ -7,26 +7,27 @@
 //
 // specs/Inside/Candidates  what is offered, and what the candidates are
 // proofs/Laws              positions in place of nodes: sorting orders both in the same way
-ghost use Rattle.std.specs.Prelude.{◌+◌, ◌-◌, ◌*◌, ◌≤◌, ◌<◌, length};
+ghost use Rattle.std.specs.Prelude.{◌+◌, ◌-◌, ◌*◌, ◌≤◌, ◌<◌, length, map};
 ghost use Rattle.basics.specs.Nodes.{Below};
+ghost use Rattle.sorting.specs.Inside.Pairs.{id_in};
 ghost use Rattle.build_leaf.specs.Inside.Candidates.{Offered, NearestPlaces, NodesAt, Candidates, LanesSized, LaneFits};
 
 use distance::order;
-use words::slices;
+use hashprune::Candidate;
+use sorting::Keyed;
+use words::ids::Node;
 
-// The candidates of place i, whose distances stand in a lane, and how far they are. Says how many: 64 at
-// most, and none where the sizes do not fit.
+// The candidates of place i, whose distances stand in a lane, at the front of an array. Says how many: none
+// where the sizes do not fit.
 pub fn candidates_at(
     leaf: &[u32],
     floats: &[f32],
     lane: usize,
     i: usize,
     degree: u16,
-    candidates: &mut [u32],
-    far: &mut [f32],
+    candidates: &mut [Candidate; 64],
 ) -> usize
-    ensures { Candidates leaf.now floats.now lane i degree
-        (length candidates.old) (length far.old) result candidates.new far.new }
+    ensures { Candidates leaf.now floats.now lane i degree result candidates.new }
 {
     if leaf.len() <= i {
         return 0;
@@ -43,13 +44,7 @@ pub fn candidates_at(
     if floats.len() / 8 < leaf.len() {
         return 0;
     }
-    if candidates.len() < 64 {
-        return 0;
-    }
-    if far.len() < 64 {
-        return 0;
-    }
-    candidates_within(leaf, floats, lane, i, degree, candidates, far)
+    candidates_within(leaf, floats, lane, i, degree, candidates)
 }
 
 fn candidates_within(
@@ -58,42 +53,25 @@ fn candidates_within(
     lane: usize,
     i: usize,
     degree: u16,
-    candidates: &mut [u32],
-    far: &mut [f32],
+    candidates: &mut [Candidate; 64],
 ) -> usize
-    requires { LaneFits leaf.now floats.now lane i degree (length candidates.old) (length far.old) }
-    ensures { Candidates leaf.now floats.now lane i degree
-        (length candidates.old) (length far.old) result candidates.new far.new }
+    requires { LaneFits leaf.now floats.now lane i degree }
+    ensures { Candidates leaf.now floats.now lane i degree result candidates.new }
 {
-    let mut keys = [0u32; 64];
-    let mut places = [0u32; 64];
-    let most = 2 * slices::lesser(degree as usize, leaf.len() - 1);
-    let held = nearest(
-        floats,
-        lane,
-        leaf.len(),
-        i,
-        &mut keys[..most],
-        &mut places[..most],
-    );
-    gather(leaf, floats, lane, &places[..held], candidates, far);
+    let mut pairs = [Keyed { key: 0, id: 0 }; 64];
+    let most = 2 * (degree as usize).min(leaf.len() - 1);
+    let held = nearest(floats, lane, leaf.len(), i, &mut pairs[..most]);
+    gather(leaf, floats, lane, &pairs[..held], candidates);
     held
 }
 
 // The first of the other places by the key of their distance.
-fn nearest(
-    floats: &[f32],
-    lane: usize,
-    size: usize,
-    i: usize,
-    keys: &mut [u32],
-    places: &mut [u32],
-) -> usize
+fn nearest(floats: &[f32], lane: usize, size: usize, i: usize, pairs: &mut [Keyed]) -> usize
     requires { LanesSized lane size floats.now × (i < size) }
-    ensures { NearestPlaces floats.now lane size i result keys.new places.new }
+    ensures { NearestPlaces floats.now lane size i result pairs.new }
 {
-    let held = offer(floats, lane, 0, i, keys, places, 0);
-    offer(floats, lane, i + 1, size, keys, places, held)
+    let held = offer(floats, lane, 0, i, pairs, 0);
+    offer(floats, lane, i + 1, size, pairs, held)
 }
 
 // The places from `from` on and before `to` are offered to the first so far.
@@ -102,20 +80,19 @@ fn offer(
     lane: usize,
     from: usize,
     to: usize,
-    keys: &mut [u32],
-    places: &mut [u32],
+    pairs: &mut [Keyed],
     held: usize,
 ) -> usize
     requires { LanesSized lane to floats.now × (from ≤ to) }
-    ensures { Offered floats.now lane from (to - from) keys.old places.old held
-        keys.new places.new result }
+    ensures { Offered floats.now lane from (to - from) pairs.old held pairs.new result }
 {
     let mut kept = held;
-    let mut j = from;
-    while j < to {
-        let key = order::key(floats[8 * j + lane]);
-        kept = sorting::keep_first(keys, places, kept, key, j as u32);
-        j += 1;
+    for j in from..to {
+        let pair = Keyed {
+            key: order::key(floats[8 * j + lane]),
+            id: j as u32,
+        };
+        kept = sorting::keep_first(pairs, kept, pair);
     }
     kept
 }
@@ -125,20 +102,17 @@ fn gather(
     leaf: &[u32],
     floats: &[f32],
     lane: usize,
-    places: &[u32],
-    candidates: &mut [u32],
-    far: &mut [f32],
+    pairs: &[Keyed],
+    candidates: &mut [Candidate; 64],
 )
-    requires { LanesSized lane (length leaf.now) floats.now × Below (length leaf.now) places.now
-        × (length places.now ≤ length candidates.old) × (length places.now ≤ length far.old) }
-    ensures { NodesAt leaf.now floats.now lane places.now
-        candidates.old far.old candidates.new far.new }
+    requires { LanesSized lane (length leaf.now) floats.now × Below (length leaf.now) (map id_in pairs.now) × (length pairs.now ≤ 64) }
+    ensures { NodesAt leaf.now floats.now lane pairs.now candidates.old candidates.new }
 {
-    let mut c: usize = 0;
-    while c < places.len() {
-        let place = places[c] as usize;
-        candidates[c] = leaf[place];
-        far[c] = floats[8 * place + lane];
-        c += 1;
+    for (c, pair) in pairs.iter().enumerate() {
+        let place = pair.id as usize;
+        candidates[c] = Candidate {
+            node: Node(leaf[place]),
+            far: floats[8 * place + lane],
+        };
     }
 }

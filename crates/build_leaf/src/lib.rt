@@ -14,18 +14,18 @@
 pub mod leaf_candidates;
 pub mod leaf_distances;
 
-ghost use Rattle.std.specs.Prelude.{◌+◌, ◌≤◌, ◌<◌, length};
+ghost use Rattle.std.specs.Prelude.{◌+◌, ◌≤◌, ◌<◌, length, map};
+ghost use Rattle.hashprune.specs.Inside.Hashprune.{node_of, far_of};
 ghost use Rattle.build_leaf.specs.Inside.Built.{RowPut, PlacePut, PlacesPut, LeafBuilt, LeavesBuilt, PlanesMade, Built};
 
-use hashprune::Point;
+use distance::vectors::Vectors;
+use hashprune::{Candidate, Point};
 use random::hyperplanes;
 use words::ids::Node;
-use words::slices;
 
-// What leaf lists take from an index and its parameters.
+// What leaf lists take from the parameters of an index.
 #[derive(Clone, Copy)]
 pub struct LeafParams {
-    pub dimension: u32,
     pub degree: u16,
     pub bits: u32,
 }
@@ -33,18 +33,18 @@ pub struct LeafParams {
 // All leaves: `nodes` are their nodes, leaf after leaf, `sizes` how many each has, `rows` the rows of
 // all nodes, `floats` scratch.
 pub fn build_leaves(
-    vectors: &[f32],
+    vectors: Vectors,
     p: LeafParams,
     nodes: &[u32],
     sizes: &[u32],
     rows: &mut [u32],
     floats: &mut [f32],
 )
-    ensures { Built p vectors.now nodes.now sizes.now (length floats.old)
+    ensures { Built p vectors.entry nodes.now sizes.now (length floats.old)
         rows.old rows.new }
 {
     let mut planes = [0.0f32; 1024];
-    planes_into(p.dimension, p.bits, &mut planes[..]);
+    planes_into(vectors.dimension, p.bits, &mut planes[..]);
     build_each(vectors, p, &planes[..], nodes, sizes, rows, floats);
 }
 
@@ -59,7 +59,7 @@ fn planes_into(dimension: u32, bits: u32, out: &mut [f32])
 
 // Leaf after leaf. A size that runs past the nodes ends it.
 fn build_each(
-    vectors: &[f32],
+    vectors: Vectors,
     p: LeafParams,
     planes: &[f32],
     nodes: &[u32],
@@ -67,49 +67,46 @@ fn build_each(
     rows: &mut [u32],
     floats: &mut [f32],
 )
-    ensures { LeavesBuilt p vectors.now planes.now nodes.now sizes.now
+    ensures { LeavesBuilt p vectors.entry planes.now nodes.now sizes.now
         (length floats.old) rows.old rows.new }
 {
     let mut at: usize = 0;
-    let mut k: usize = 0;
-    while k < sizes.len() {
-        let end = at + sizes[k] as usize;
+    for size in sizes {
+        let end = at + *size as usize;
         if nodes.len() < end {
             return;
         }
         build_leaf(vectors, p, planes, &nodes[at..end], rows, floats);
         at = end;
-        k += 1;
     }
 }
 
 // One leaf, eight places at a time. A leaf of one node or none changes nothing.
 fn build_leaf(
-    vectors: &[f32],
+    vectors: Vectors,
     p: LeafParams,
     planes: &[f32],
     leaf: &[u32],
     rows: &mut [u32],
     floats: &mut [f32],
 )
-    ensures { LeafBuilt p vectors.now planes.now leaf.now (length floats.old)
+    ensures { LeafBuilt p vectors.entry planes.now leaf.now (length floats.old)
         rows.old rows.new }
 {
     if leaf.len() <= 1 {
         return;
     }
-    let mut first: usize = 0;
-    while first < leaf.len() {
-        leaf_distances::distances_into(vectors, p.dimension, leaf, first, floats);
-        let end = slices::lesser(first + 8, leaf.len());
+    for k in 0..leaf.len().div_ceil(8) {
+        let first = 8 * k;
+        leaf_distances::distances_into(vectors, leaf, first, floats);
+        let end = (first + 8).min(leaf.len());
         each_place(vectors, p, planes, leaf, first, end, floats, rows);
-        first = end;
     }
 }
 
 // The places from `first` on and before `end`, whose distances stand in the lanes of the floats.
 fn each_place(
-    vectors: &[f32],
+    vectors: Vectors,
     p: LeafParams,
     planes: &[f32],
     leaf: &[u32],
@@ -119,19 +116,17 @@ fn each_place(
     rows: &mut [u32],
 )
     requires { (first ≤ end) × (end ≤ first + 8) × (end ≤ length leaf.now) }
-    ensures { PlacesPut p vectors.now planes.now leaf.now first end floats.now
+    ensures { PlacesPut p vectors.entry planes.now leaf.now first end floats.now
         rows.old rows.new }
 {
-    let mut i = first;
-    while i < end {
+    for i in first..end {
         one_place(vectors, p, planes, leaf, i, i - first, floats, rows);
-        i += 1;
     }
 }
 
 // One place: its candidates go to the row of its node.
 fn one_place(
-    vectors: &[f32],
+    vectors: Vectors,
     p: LeafParams,
     planes: &[f32],
     leaf: &[u32],
@@ -141,43 +136,28 @@ fn one_place(
     rows: &mut [u32],
 )
     requires { i < length leaf.now }
-    ensures { PlacePut p vectors.now planes.now leaf.now i lane floats.now
+    ensures { PlacePut p vectors.entry planes.now leaf.now i lane floats.now
         rows.old rows.new }
 {
-    let mut candidates = [0u32; 64];
-    let mut far = [0.0f32; 64];
-    let held = leaf_candidates::candidates_at(
-        leaf,
-        floats,
-        lane,
-        i,
-        p.degree,
-        &mut candidates[..],
-        &mut far[..],
-    );
-    let node = Node(leaf[i]);
-    put_row(
-        vectors,
-        p,
-        planes,
-        node,
-        &candidates[..held],
-        &far[..held],
-        rows,
-    );
+    let none = Candidate {
+        node: Node(0),
+        far: 0.0,
+    };
+    let mut candidates = [none; 64];
+    let held = leaf_candidates::candidates_at(leaf, floats, lane, i, p.degree, &mut candidates);
+    put_row(vectors, p, planes, Node(leaf[i]), &candidates[..held], rows);
 }
 
 // The candidates of a node go to its row, if that is there.
 fn put_row(
-    vectors: &[f32],
+    vectors: Vectors,
     p: LeafParams,
     planes: &[f32],
     node: Node,
-    candidates: &[u32],
-    far: &[f32],
+    candidates: &[Candidate],
     rows: &mut [u32],
 )
-    ensures { RowPut p vectors.now planes.now node.0 candidates.now far.now
+    ensures { RowPut p vectors.entry planes.now node.0 (map node_of candidates.now) (map far_of candidates.now)
         rows.old rows.new }
 {
     let size = 1 + p.degree as usize;
@@ -186,10 +166,6 @@ fn put_row(
     if rows.len() < end {
         return;
     }
-    let point = Point {
-        node,
-        dimension: p.dimension,
-        bits: p.bits,
-    };
-    hashprune::hashprune_insert(vectors, point, planes, candidates, far, &mut rows[at..end]);
+    let point = Point { node, bits: p.bits };
+    hashprune::hashprune_insert(vectors, point, planes, candidates, &mut rows[at..end]);
 }

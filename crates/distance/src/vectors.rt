@@ -6,7 +6,7 @@
 ghost use Rattle.std.specs.Prelude.{◌≡◌};
 ghost use Rattle.std.specs.Float.{binary32};
 ghost use Rattle.distance.specs.Distance.{distance_of};
-ghost use Rattle.distance.specs.Vectors.{vectors_in, vectors_of, vector_of, between};
+ghost use Rattle.distance.specs.Vectors.{vectors_of, vector_of, between};
 
 use words::ids::Node;
 
@@ -43,15 +43,4 @@ impl<'a> Vectors<'a> {
     {
         self.distance_from(self.get(a), b)
     }
-}
-
-// The vector of a node, where the vectors stand one after the other.
-pub fn get_vector(vectors: &[f32], dimension: u32, node: Node) -> &[f32]
-    ensures { result.now ≡ vector_of (vectors_in dimension vectors.now) node.0 }
-{
-    let all = Vectors {
-        components: vectors,
-        dimension,
-    };
-    all.get(node)
 }

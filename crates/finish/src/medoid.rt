@@ -15,7 +15,6 @@ ghost use Rattle.def_graph.specs.Centroid.{add_to, row_sums_from, centroid_of, r
 ghost use Rattle.def_graph.specs.Medoid.{nearest_to, compute_medoid};
 
 use words::ids::Node;
-use words::slices;
 
 // The centroid of the first n rows of `vectors`, or of as many as stand there whole, whose dimension is
 // the length of `out`.
@@ -26,7 +25,7 @@ pub fn centroid(vectors: &[f32], n: u16, out: &mut [f32])
     if dimension == 0 {
         return;
     }
-    let rows = slices::lesser(n as usize, vectors.len() / dimension);
+    let rows = (n as usize).min(vectors.len() / dimension);
     mean(vectors, rows, out);
 }
 
@@ -41,7 +40,7 @@ pub fn compute_medoid(vectors: &[f32], n: u16, centroid: &mut [f32]) -> Node
     if dimension == 0 {
         return Node(0);
     }
-    let rows = slices::lesser(n as usize, vectors.len() / dimension);
+    let rows = (n as usize).min(vectors.len() / dimension);
     nearest_row(vectors, rows as u32, centroid)
 }
 
@@ -50,7 +49,7 @@ fn mean(vectors: &[f32], n: usize, out: &mut [f32])
     requires { (n * length out.old ≤ length vectors.now) × (n ≤ 2 ^ 24) }
     ensures { out.new ≡ centroid_of binary32 (length out.old) (pieces (length out.old) n vectors.now) }
 {
-    slices::clear_floats(out);
+    out.fill(0.0);
     sum_rows(vectors, n, out);
     norm::divide(out, n as f32);
 }
@@ -79,33 +78,27 @@ fn nearest_row(vectors: &[f32], n: u32, centroid: &[f32]) -> Node
 {
     let mut best = Best {
         node: 0,
-        distance: f32::from_bits(0x7f80_0000),
+        distance: f32::INFINITY,
     };
-    let mut at: usize = 0;
-    let mut i: u32 = 0;
-    while i < n {
-        let end = at + centroid.len();
-        let d = distance::cosine_distance_normalized(centroid, &vectors[at..end]);
+    let dimension = centroid.len();
+    for i in 0..n {
+        let at = i as usize * dimension;
+        let d = distance::cosine_distance_normalized(centroid, &vectors[at..at + dimension]);
         best = nearer(best, i, d);
-        at = end;
-        i += 1;
     }
     Node(best.node)
 }
 
 // The rows added to the sums, one after the other.
+// kept: rows by their places, here and in `nearest_row`: a row is as long as a slice of any length, which a `Vectors` does not count.
 fn sum_rows(vectors: &[f32], n: usize, sums: &mut [f32])
     requires { n * length sums.old ≤ length vectors.now }
     ensures { sums.new ≡ row_sums_from binary32 sums.old (pieces (length sums.old) n vectors.now) }
 {
     let dimension = sums.len();
-    let mut at: usize = 0;
-    let mut i: usize = 0;
-    while i < n {
-        let end = at + dimension;
-        add_row(&vectors[at..end], sums);
-        at = end;
-        i += 1;
+    for i in 0..n {
+        let at = i * dimension;
+        add_row(&vectors[at..at + dimension], sums);
     }
 }
 
@@ -113,9 +106,7 @@ fn add_row(row: &[f32], sums: &mut [f32])
     requires { length row.now ≡ length sums.old }
     ensures { sums.new ≡ add_to binary32 sums.old row.now }
 {
-    let mut j: usize = 0;
-    while j < sums.len() {
-        sums[j] = sums[j] + row[j];
-        j += 1;
+    for (j, sum) in sums.iter_mut().enumerate() {
+        *sum = *sum + row[j];
     }
 }

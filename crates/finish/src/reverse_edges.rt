@@ -9,11 +9,9 @@
 // proofs/Entry           one row: whether it holds a node, its words with the node at the end
 // proofs/Laws            a node's own row in its turn; what the words are after each step
 ghost use Rattle.std.specs.Prelude.{◌≡◌, length, ◌≤◌};
-ghost use Rattle.basics.specs.Nodes.{has};
 ghost use Rattle.finish.specs.Inside.Reversed.{Reversed, Turned, BackAdded, EntryAdded};
 
 use words::ids::Node;
-use words::slices;
 
 // The rows of n nodes, each a count and `degree` entries, and at most 1,024 of them. Words that are no
 // such rows are left with some content.
@@ -21,11 +19,9 @@ pub fn add_reverse_edges(rows: &mut [u32], degree: u16)
     ensures { Reversed degree rows.old rows.new }
 {
     let size = 1 + degree as usize;
-    let n = slices::lesser(rows.len() / size, 1024) as u32;
-    let mut i: u32 = 0;
-    while i < n {
+    let n = (rows.len() / size).min(1024) as u32;
+    for i in 0..n {
         add_backs(rows, degree, Node(i));
-        i += 1;
     }
 }
 
@@ -34,11 +30,9 @@ fn add_backs(rows: &mut [u32], degree: u16, node: Node)
     ensures { Turned degree node.0 rows.old rows.new }
 {
     let count = lists::row_of(rows, degree, node).len();
-    let mut e: usize = 0;
-    while e < count {
+    for e in 0..count {
         let nb = lists::entry_of(rows, degree, node, e);
         add_back(rows, degree, node, nb);
-        e += 1;
     }
 }
 
@@ -60,31 +54,16 @@ fn add_entry(row: &mut [u32], node: u32)
     requires { length row.old ≤ 65536 }
     ensures { EntryAdded node row.old row.new }
 {
-    if row.len() == 0 {
+    let Some(&count) = row.first() else {
         return;
-    }
-    let count = row[0];
+    };
     let last = 1 + count as usize;
     if row.len() <= last {
         return;
     }
-    let first: usize = 1;
-    if has_node(&row[first..last], node) {
+    if row[1..last].contains(&node) {
         return;
     }
     row[last] = node;
     row[0] = last as u32;
-}
-
-fn has_node(row: &[u32], node: u32) -> bool
-    ensures { result ≡ has node row.now }
-{
-    let mut i: usize = 0;
-    while i < row.len() {
-        if row[i] == node {
-            return true;
-        }
-        i += 1;
-    }
-    false
 }

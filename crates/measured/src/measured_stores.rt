@@ -1,12 +1,11 @@
 // The check of a store, `new` and add behind C, for bench/ alone. Proved safe; the crates that they call
 // say what they compute.
 use params::PipnnParams;
-use store::Lent;
 use words::ids::DocId;
 
 // The checks with which every call but `new` begins.
 pub fn measured_opening(words: &[u32], floats: &[f32]) -> u32 {
-    store::opening_refusal(words, floats, Lent::Nothing)
+    error::number_or_zero(store::check_opening(words, floats, None))
 }
 
 // `new` with the Rust's default parameters.
@@ -21,9 +20,9 @@ pub fn measured_new(words: &mut [u32], floats: &mut [f32], dimension: u32, capac
         alpha: 1.2,
         ef_search: 100,
     };
-    pipnn::new(words, floats, dimension, p, capacity)
+    error::number_or_zero(pipnn::new(words, floats, dimension, p, capacity))
 }
 
 pub fn measured_add(words: &mut [u32], floats: &mut [f32], doc: u32, vector: &[f32]) -> u32 {
-    pipnn::add_slice(words, floats, DocId(doc), vector)
+    error::number_or_zero(pipnn::add_slice(words, floats, DocId(doc), vector))
 }

@@ -34,7 +34,7 @@ fn root_bits(b: u32) -> u32
     ensures { (of_bits binary32 result ≡ root_of binary32 (of_bits binary32 b)) × (result < 0x7f80_0000) }
 {
     let Scaled { q, k } = scale(b);
-    let n = q << (24 - k % 2);
+    let n = (q << 24) >> (k % 2);
     let m = (whole_root(4 * n) + 1) / 2;
     (((k + 1) / 2 + 51) * 0x80_0000 + m) as u32
 }

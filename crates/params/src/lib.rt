@@ -44,25 +44,23 @@ pub struct PipnnParams {
 pub fn dimension_within(dimension: u32) -> bool
     ensures { result ≡ dimension_within dimension }
 {
-    (1 <= dimension) & (dimension <= MOST_DIMENSION)
+    (1..=MOST_DIMENSION).contains(&dimension)
 }
 
 // Whether a capacity is.
 pub fn capacity_within(capacity: u32) -> bool
     ensures { result ≡ capacity_within capacity }
 {
-    (1 <= capacity) & (capacity <= MOST_CAPACITY)
+    (1..=MOST_CAPACITY).contains(&capacity)
 }
 
 // Whether each parameter is. A fraction of -0 is 0, and one that is no number is nowhere within.
 pub fn within_limits(p: PipnnParams) -> bool
     ensures { result ≡ within_limits p }
 {
-    (1 <= p.max_leaf_size)
-        & (p.max_leaf_size <= MOST_LEAF_SIZE)
+    (1..=MOST_LEAF_SIZE).contains(&p.max_leaf_size)
         & (p.min_leaf_size <= MOST_MIN_LEAF_SIZE)
-        & (0.0 <= p.leader_fraction)
-        & (p.leader_fraction <= 1.0)
+        & (0.0..=1.0).contains(&p.leader_fraction)
         & (p.max_degree <= MOST_DEGREE)
         & (p.num_hash_bits <= MOST_HASH_BITS)
         & finite::is_finite(p.alpha)

@@ -72,16 +72,14 @@ pub fn dot_block(q: &[f32], block: &[f32]) -> [f32; 8]
     ensures { result ≡ block_dots_of q.now block.now }
 {
     let mut sums = [0.0f32; 8];
-    let n = q.len().min(block.len() / 8);
-    for (i, x) in q[..n].iter().enumerate() {
-        add_column(&mut sums, *x, &block[8 * i..8 * i + 8]);
+    for (x, column) in q.iter().zip(block.as_chunks::<8>().0) {
+        add_column(&mut sums, *x, column);
     }
     sums
 }
 
-// The products of one component of the query with those of eight rows, added to eight sums.
-fn add_column(sums: &mut [f32; 8], x: f32, column: &[f32])
-    requires { length column.now ≡ 8 }
+// The products of one component with those of eight rows, added to eight sums.
+pub fn add_column(sums: &mut [f32; 8], x: f32, column: &[f32; 8])
     ensures { (j : ℕ) → j < 8 → get_or sums.new j nan ≡ add binary32 (get_or sums.old j nan) (mul binary32 x (get_or column.now j nan)) }
 {
     for (j, sum) in sums.iter_mut().enumerate() {

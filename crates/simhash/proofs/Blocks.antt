@@ -11,20 +11,11 @@ use lib.Dec.{ltb}
 use lib.ListN.{length, get_or, drop, set, length-append, get_or-append}
 use lib.Seq.{get_or_at}
 use lib.Ieee.{Float, nan}
-use Rattle.basics.specs.Choice.{pick_ind, pick_true, pick_false}
+use Rattle.std.proofs.lemmas.List.{get_or_default}
+use Rattle.basics.specs.Choice.{pick_true, pick_false}
 use Rattle.basics.specs.Sum.{+zero}
 use Rattle.basics.proofs.Loops.{front_set}
 use Rattle.simhash.specs.Inside.Blocks.{plane_at, component_at, block_number, plane_blocks}
-
-get_d_past : (l : List Float) (i : ℕ) (z : Float) → length l ≤ i → get_or l i z ≡ z
-get_d_past [] i z h = refl
-get_d_past (x ∷ l) zero z h = absurd (omega arith)
-get_d_past (x ∷ l) (suc i) z h = get_d_past l i z (omega arith)
-
-get_d_either : (l : List Float) (i : ℕ) (y z : Float) → i < length l → get_or l i y ≡ get_or l i z
-get_d_either [] i y z h = absurd (omega arith)
-get_d_either (x ∷ l) zero y z h = refl
-get_d_either (x ∷ l) (suc i) y z h = get_d_either l i y z (omega arith)
 
 second_false : (a b : Bool) → b ≡ false → (a && b) ≡ false
 second_false true b e = e
@@ -39,17 +30,13 @@ module _ (planes : List Float) (d bits k : ℕ) where
   unfolding block_number
   past_planes h = pick_false _ _ (second_false (ltb 0 d) (ltb (plane_at d k) bits) (le-ltb (plane_at d k) bits h))
 
-  pub past_numbers : length planes ≤ plane_at d k * d + component_at d k → block_number planes d bits k ≡ +zero
+  pub in_planes : 0 < d → plane_at d k < bits → block_number planes d bits k ≡ get_or planes (plane_at d k * d + component_at d k) +zero
   unfolding block_number
-  past_numbers h =
-      pick_ind (λ (x : Float). x ≡ +zero) (ltb 0 d && ltb (plane_at d k) bits) (λ _. get_d_past planes (plane_at d k * d + component_at d k) +zero h) (λ _. refl)
+  in_planes p h = pick_true _ _ (ap₂ (λ (s t : Bool). s && t) (lt-ltb 0 d p) (lt-ltb (plane_at d k) bits h))
 
   pub within_planes : 0 < d → plane_at d k < bits → plane_at d k * d + component_at d k < length planes
       → block_number planes d bits k ≡ get_or planes (plane_at d k * d + component_at d k) nan
-  unfolding block_number
-  within_planes p h l =
-      pick_true _ _ (ap₂ (λ (s t : Bool). s && t) (lt-ltb 0 d p) (lt-ltb (plane_at d k) bits h))
-      ∙ get_d_either planes (plane_at d k * d + component_at d k) +zero nan l
+  within_planes p h l = in_planes p h ∙ get_or_default planes (plane_at d k * d + component_at d k) +zero nan l
 
 module _ (planes : List Float) (d bits : ℕ) where
   pub length_blocks : (n : ℕ) → length (plane_blocks planes d bits n) ≡ n

@@ -1,4 +1,4 @@
--- The invariant: the places from `first` to i had their turns. The measure is how many are left. Assumes nothing.
+-- The places from `first` to i had their turns. Assumes nothing.
 use native.Mathlib.Omega.{arith}
 use mathlib.Core.Path.{◌≡◌, refl, subst, ◌∙◌}
 use Prim.Native.Nat.{ℕ, ◌-◌}
@@ -7,7 +7,7 @@ use Rattle.build_leaf.proofs.Rows.{places_none, places_more}
 use Rattle.build_leaf.proofs.each_place.Goals as goal
 
 pub loop-i-init : goal.loop-i-init
-loop-i-init c = let x = c.args in (omega arith, omega arith, refl, places_none x.p x.vectors.now x.planes.now x.leaf.now x.first x.floats.now x.rows.now)
+loop-i-init c = let x = c.args in (omega arith, omega arith, refl, places_none x.p x.vectors x.planes.now x.leaf.now x.first x.floats.now x.rows.now)
 
 pub loop-i-preserved : goal.loop-i-preserved
 loop-i-preserved c =
@@ -16,7 +16,7 @@ loop-i-preserved c =
       omega arith,
       omega arith,
       c.one_place.auto.rows ∙ l.invariant.2,
-      places_more x.p x.vectors.now x.planes.now x.leaf.now x.first x.floats.now x.rows.now l.i (l.i - x.first) l.rows _ l.invariant.0 (omega arith) (omega arith) refl l.invariant.3 c.one_place.ensures,
+      places_more x.p x.vectors x.planes.now x.leaf.now x.first x.floats.now x.rows.now l.i (l.i - x.first) l.rows _ l.invariant.0 (omega arith) (omega arith) refl l.invariant.3 c.one_place.ensures,
     )
 
 pub returns : goal.returns
@@ -24,7 +24,7 @@ returns c =
     let l = c.loop-i in
     let x = c.args in
     let e : l.i ≡ x.end = omega arith in
-    subst (λ (k : ℕ). PlacesPut x.p x.vectors.now x.planes.now x.leaf.now x.first k x.floats.now x.rows.now l.rows) e l.invariant.3
+    subst (λ (k : ℕ). PlacesPut x.p x.vectors x.planes.now x.leaf.now x.first k x.floats.now x.rows.now l.rows) e l.invariant.3
 
 pub shape_of-rows : goal.shape_of-rows
 shape_of-rows c = c.loop-i.invariant.2

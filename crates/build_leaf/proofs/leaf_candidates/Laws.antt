@@ -19,12 +19,14 @@ use Rattle.basics.specs.Nodes.{Below}
 use Rattle.simd.proofs.Lanes.{lane_at}
 use Rattle.distance.specs.Order.{key_of}
 use Rattle.sorting.specs.Sorting.{first_by}
-use Rattle.sorting.specs.Inside.Pairs.{key_in, id_in, both}
+use Rattle.sorting.specs.declared.Keyed.{Keyed}
+use Rattle.sorting.specs.Inside.Pairs.{key_in, id_in}
 use Rattle.sorting.proofs.Laws.{first_map, first_in}
-use Rattle.sorting.proofs.Pairs.{front_ids}
+use Rattle.hashprune.specs.declared.Candidate.{Candidate}
+use Rattle.hashprune.specs.Inside.Hashprune.{node_of, far_of}
 use Rattle.distance.specs.Vectors.{between, rank}
 use Rattle.def_graph.specs.Leaf.{candidates_at}
-use Rattle.build_leaf.specs.Inside.Candidates.{LaneFits, node_in, far_in_lane, places_from, offer, other_places, NearestPlaces, NodesAt, LaneReady, CandidatesAre, Candidates}
+use Rattle.build_leaf.specs.Inside.Candidates.{LaneFits, candidate_in, node_in, far_in_lane, places_from, offer, other_places, NearestPlaces, NodesAt, LaneReady, CandidatesAre, Candidates}
 
 map_same_in : {A : Type 0} (f g : ℕ → A) (l : List ℕ) → ((j : ℕ) → In j l → f j ≡ g j) → map f l ≡ map g l
 map_same_in f g [] h = refl
@@ -35,9 +37,9 @@ map_at f [] i d h = absurd (omega arith)
 map_at f (x ∷ l) zero d h = refl
 map_at f (x ∷ l) (suc i) d h = map_at f l i d (omega arith)
 
-map-map : {A B : Type 0} (f : ℕ → A) (g : A → B) (l : List ℕ) → map g (map f l) ≡ map (λ (j : ℕ). g (f j)) l
+map-map : {C A B : Type 0} (f : C → A) (g : A → B) (l : List C) → map g (map f l) ≡ map (λ (j : C). g (f j)) l
 map-map f g [] = refl
-map-map {A} {B} f g (x ∷ l) = ap (λ (m : List B). g (f x) ∷ m) (map-map f g l)
+map-map {C} {A} {B} f g (x ∷ l) = ap (λ (m : List B). g (f x) ∷ m) (map-map f g l)
 
 map-id : (l : List ℕ) → map (λ (j : ℕ). j) l ≡ l
 map-id [] = refl
@@ -79,20 +81,19 @@ others_nodes leaf i h =
 
 -- ---- the first places
 
-module _ (floats : List Float) (lane size i r : ℕ) (keys places : List ℕ) (h : i < size) (n : NearestPlaces floats lane size i r keys places) where
+module _ (floats : List Float) (lane size i r : ℕ) (pairs : List Keyed) (h : i < size) (n : NearestPlaces floats lane size i r pairs) where
   -- the places that are held
-  pub held_places : take r places ≡ first_by (λ (j : ℕ). key_of binary32 (far_in_lane floats lane j)) (both keys places) (other_places size i)
+  pub held_places : map id_in (take r pairs) ≡ first_by (λ (j : ℕ). key_of binary32 (far_in_lane floats lane j)) (length pairs) (other_places size i)
   held_places =
-      sym (front_ids r keys places n.few)
-      ∙ ap (map id_in) (n.first ∙ first_map key_in (offer floats lane) (both keys places) (other_places size i))
-      ∙ map-map (offer floats lane) id_in (first_by (λ (j : ℕ). key_of binary32 (far_in_lane floats lane j)) (both keys places) (other_places size i))
+      ap (map id_in) (n.first ∙ first_map key_in (offer floats lane) (length pairs) (other_places size i))
+      ∙ map-map (offer floats lane) id_in (first_by (λ (j : ℕ). key_of binary32 (far_in_lane floats lane j)) (length pairs) (other_places size i))
       ∙ map-id _
 
-  pub held_below : Below size (take r places)
+  pub held_below : Below size (map id_in (take r pairs))
   held_below j m =
-      in_others size i h (first_in (λ (k : ℕ). key_of binary32 (far_in_lane floats lane k)) (both keys places) (other_places size i) (subst (In j) held_places m))
+      in_others size i h (first_in (λ (k : ℕ). key_of binary32 (far_in_lane floats lane k)) (length pairs) (other_places size i) (subst (In j) held_places m))
 
-module _ (leaf : List ℕ) (floats : List Float) (lane i D room room' : ℕ) (vs : List (List Float)) (ready : LaneReady leaf floats lane i D room room' vs) where
+module _ (leaf : List ℕ) (floats : List Float) (lane i D : ℕ) (vs : List (List Float)) (ready : LaneReady leaf floats lane i D vs) where
   -- a place's distance
   far_is : (j : ℕ) → j < length leaf → far_in_lane floats lane j ≡ between vs (get_or leaf i 0) (node_in leaf j)
   far_is j h =
@@ -100,58 +101,57 @@ module _ (leaf : List ℕ) (floats : List Float) (lane i D room room' : ℕ) (vs
       ∙ ap (λ (l : List Float). get_or l j nan) ready.distances
       ∙ map_at (between vs (get_or leaf i 0)) leaf j nan h
 
-  pub candidates_are : (r : ℕ) (keys places candidates candidates' : List ℕ) (far far' : List Float)
-      → both keys places ≡ 2 * min D (length leaf - 1) → r ≤ length places
-      → NearestPlaces floats lane (length leaf) i r keys places → NodesAt leaf floats lane (take r places) candidates far candidates' far'
-      → CandidatesAre leaf i D vs r candidates' far'
+  pub candidates_are : (r : ℕ) (pairs : List Keyed) (candidates candidates' : List Candidate) → length pairs ≡ 2 * min D (length leaf - 1)
+      → NearestPlaces floats lane (length leaf) i r pairs → NodesAt leaf floats lane (take r pairs) candidates candidates'
+      → CandidatesAre leaf i D vs r candidates'
   unfolding candidates_at rank
-  candidates_are r keys places candidates candidates' far far' many few n g =
+  candidates_are r pairs candidates candidates' many n g =
       let size : ℕ = length leaf in
       let m : ℕ = 2 * min D (size - 1) in
       let node : ℕ = get_or leaf i 0 in
       let others : List ℕ = other_places size i in
       let ranked : ℕ → ℕ = λ j. rank vs node (node_in leaf j) in
-      let offered : map (offer floats lane) others ≡ map (λ (j : ℕ). (ranked j, j)) others =
-      map_same_in (offer floats lane) (λ (j : ℕ). (ranked j, j)) others
-      (λ j k. ap (λ (x : Float). (key_of binary32 x, j)) (far_is j (in_others size i ready.sizes.place_is k))) in
-      let held : take r places ≡ first_by ranked m others =
-      sym (front_ids r keys places n.few)
-      ∙ ap (map id_in) (n.first ∙ ap₂ (λ (a : ℕ) (l : List (ℕ × ℕ)). first_by key_in a l) many offered ∙ first_map key_in (λ (j : ℕ). (ranked j, j)) m others)
-      ∙ map-map (λ (j : ℕ). (ranked j, j)) id_in (first_by ranked m others)
+      let held : List ℕ = map id_in (take r pairs) in
+      let same : map (offer floats lane) others ≡ map (λ (j : ℕ). record { key = ranked j; id = j }) others =
+      map_same_in (offer floats lane) (λ (j : ℕ). record { key = ranked j; id = j }) others
+      (λ j k. ap (λ (x : Float). record { key = key_of binary32 x; id = j }) (far_is j (in_others size i ready.sizes.place_is k))) in
+      let held_are : held ≡ first_by ranked m others =
+      ap (map id_in) (n.first ∙ ap₂ (λ (a : ℕ) (l : List Keyed). first_by key_in a l) many same ∙ first_map key_in (λ (j : ℕ). record { key = ranked j; id = j }) m others)
+      ∙ map-map (λ (j : ℕ). record { key = ranked j; id = j }) id_in (first_by ranked m others)
       ∙ map-id (first_by ranked m others) in
-      let nodes : map (node_in leaf) (take r places) ≡ candidates_at D vs leaf i =
-      ap (map (node_in leaf)) held
+      let nodes : map (node_in leaf) held ≡ candidates_at D vs leaf i =
+      ap (map (node_in leaf)) held_are
       ∙ sym (first_map (rank vs node) (node_in leaf) m others)
       ∙ ap (first_by (rank vs node) m) (others_nodes leaf i ready.sizes.place_is) in
-      let long : length (take r places) ≡ r = length-take-le r places few in
+      let long : length (take r pairs) ≡ r = length-take-le r pairs n.few in
+      let front : take r candidates' ≡ map (candidate_in leaf floats lane) (take r pairs) =
+      ap (take r) g ∙ take_at (map (candidate_in leaf floats lane) (take r pairs)) _ r (length-map (take r pairs) (candidate_in leaf floats lane) ∙ long) in
       record {
-        nodes = ap (take r) g.nodes ∙ take_at (map (node_in leaf) (take r places)) _ r (length-map (take r places) (node_in leaf) ∙ long) ∙ nodes;
+        nodes = ap (map node_of) front ∙ map-map (candidate_in leaf floats lane) node_of (take r pairs) ∙ sym (map-map id_in (node_in leaf) (take r pairs)) ∙ nodes;
         fars =
-            ap (take r) g.fars
-            ∙ take_at (map (far_in_lane floats lane) (take r places)) _ r (length-map (take r places) (far_in_lane floats lane) ∙ long)
-            ∙ map_same_in (far_in_lane floats lane) (λ (j : ℕ). between vs node (node_in leaf j)) (take r places)
-            (λ j k. far_is j (held_below floats lane size i r keys places ready.sizes.place_is n j k))
-            ∙ sym (map-map (node_in leaf) (between vs node) (take r places))
+            ap (map far_of) front
+            ∙ map-map (candidate_in leaf floats lane) far_of (take r pairs)
+            ∙ sym (map-map id_in (far_in_lane floats lane) (take r pairs))
+            ∙ map_same_in (far_in_lane floats lane) (λ (j : ℕ). between vs node (node_in leaf j)) held
+            (λ j k. far_is j (held_below floats lane size i r pairs ready.sizes.place_is n j k))
+            ∙ sym (map-map (node_in leaf) (between vs node) held)
             ∙ ap (map (between vs node)) nodes;
       }
 
--- the same where the places are the front of a longer slice
-module _ (leaf : List ℕ) (floats : List Float) (lane i D r most : ℕ) (keys places rest : List ℕ) (h : i < length leaf)
-    (a : length keys ≡ most) (b : length places ≡ most) (n : NearestPlaces floats lane (length leaf) i r keys places) where
-  held_few : r ≤ most
-  held_few = omega (arith, n.few)
+-- the same where the pairs are the front of a longer slice
+module _ (leaf : List ℕ) (floats : List Float) (lane i D r most : ℕ) (pairs rest : List Keyed) (h : i < length leaf)
+    (a : length pairs ≡ most) (n : NearestPlaces floats lane (length leaf) i r pairs) where
+  front : take r (pairs ++ rest) ≡ take r pairs
+  front = take-append-le r pairs rest n.few
 
-  front : take r (places ++ rest) ≡ take r places
-  front = take-append-le r places rest (omega (arith, n.few))
+  pub front_below : Below (length leaf) (map id_in (take r (pairs ++ rest)))
+  front_below = subst (λ (l : List Keyed). Below (length leaf) (map id_in l)) (sym front) (held_below floats lane (length leaf) i r pairs h n)
 
-  pub front_below : Below (length leaf) (take r (places ++ rest))
-  front_below j m = held_below floats lane (length leaf) i r keys places h n j (subst (In j) front m)
-
-  pub gathered_are : (room room' : ℕ) (candidates candidates' : List ℕ) (far far' : List Float) → most ≡ 2 * min D (length leaf - 1) → most ≤ 64
-      → LaneFits leaf floats lane i D room room' → NodesAt leaf floats lane (take r (places ++ rest)) candidates far candidates' far' → Candidates leaf floats lane i D room room' r candidates' far'
-  gathered_are room room' candidates candidates' far far' e few fits g = record {
+  pub gathered_are : (candidates candidates' : List Candidate) → most ≡ 2 * min D (length leaf - 1) → most ≤ 64
+      → LaneFits leaf floats lane i D → NodesAt leaf floats lane (take r (pairs ++ rest)) candidates candidates' → Candidates leaf floats lane i D r candidates'
+  gathered_are candidates candidates' e few fits g = record {
     few = omega (arith, n.few);
     none = λ z. absurd (z fits);
-    are = λ vs ready. candidates_are leaf floats lane i D room room' vs ready r keys places candidates candidates' far far'
-        (omega arith) (omega (arith, n.few)) n (subst (λ (l : List ℕ). NodesAt leaf floats lane l candidates far candidates' far') front g);
+    are = λ vs ready. candidates_are leaf floats lane i D vs ready r pairs candidates candidates'
+        (a ∙ e) n (subst (λ (l : List Keyed). NodesAt leaf floats lane l candidates candidates') front g);
   }

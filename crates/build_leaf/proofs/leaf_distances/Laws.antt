@@ -1,23 +1,23 @@
 -- Lanes of a block: what a write leaves of each, a lane written from its first component to its last, and eight numbers written side by side.
 -- Assumes nothing.
 use mathlib.Core.Path.{◌≡◌, refl, sym, ap, ap₂, subst, ◌∙◌}
-use mathlib.Core.List.{List, [], ◌∷◌, ◌++◌, map, map-append, append_assoc}
+use mathlib.Core.List.{List, [], ◌∷◌, ◌++◌, map, map-append}
 use Prim.Native.Nat.{ℕ, zero, suc, ◌+◌, ◌-◌, ◌*◌, ◌/◌, ◌≤◌, ◌<◌, min}
 use native.Mathlib.Nat.{mul-div_cancel_left, div-mul-le_self, mul-le-mul_right, suc-mul}
 use native.Mathlib.Omega.{arith}
 use native.Mathlib.Decide.{dec_lt}
 use native.Mathlib.Numerals.{add-one}
 use lib.ListN.{length, get_or, take, drop, set, length-set, length-drop, get_or-append, get_or-eq_default}
-use lib.Seq.{sets-eq, take-suc, take_all, get_or-set_same, get_or-set_other, get_or-take, get_or-append-add, length-take-le}
+use lib.Seq.{take-suc, take_all, get_or-set_same, get_or-set_other, get_or-take, get_or-append-add, length-take-le}
 use lib.Ieee.{Float, binary32, nan}
 use Rattle.basics.proofs.Members.{in_get_d}
 use Rattle.basics.proofs.Pieces.{nth_piece, length_pieces}
 use Rattle.simd.specs.Inside.Eight.{lane_of, row_in}
-use Rattle.simd.specs.declared.Eight.{Eight}
 use Rattle.distance.specs.Distance.{distance_of, block_distances_of}
-use Rattle.distance.specs.Vectors.{vectors_in, vector_of, between}
+use Rattle.distance.specs.Vectors.{vectors_in, vectors_of, vector_of, between}
+use Rattle.distance.specs.declared.vectors.Vectors.{Vectors}
 use Rattle.distance.proofs.vectors.Laws.{between-sym}
-use Rattle.build_leaf.specs.Inside.Lanes.{eight_list, node_at, LanePut, BlockTurned, LanesFilled, Distances}
+use Rattle.build_leaf.specs.Inside.Lanes.{node_at, LanePut, BlockTurned, LanesFilled, Distances}
 
 -- ---- a write
 
@@ -92,23 +92,8 @@ turned_more vs leaf first g place before after v l e q turned put k h = go (dec_
 
 -- ---- eight numbers side by side
 
-pub eight_put : (f : List Float) (at : ℕ) (e : Eight) → at + 8 ≤ length f
-    → set (set (set (set (set (set (set (set f at e.a) (at + 1) e.b) (at + 2) e.c) (at + 3) e.d) (at + 4) e.e) (at + 5) e.f) (at + 6) e.g) (at + 7) e.h
-    ≡ take at f ++ (eight_list e ++ drop (at + 8) f)
-eight_put f at e h =
-    let p1 : at + 1 ≡ suc at = omega arith in
-    let p2 : at + 2 ≡ suc (suc at) = omega arith in
-    let p3 : at + 3 ≡ suc (suc (suc at)) = omega arith in
-    let p4 : at + 4 ≡ suc (suc (suc (suc at))) = omega arith in
-    let p5 : at + 5 ≡ suc (suc (suc (suc (suc at)))) = omega arith in
-    let p6 : at + 6 ≡ suc (suc (suc (suc (suc (suc at))))) = omega arith in
-    let p7 : at + 7 ≡ suc (suc (suc (suc (suc (suc (suc at)))))) = omega arith in
-    (λ i. set (set (set (set (set (set (set (set f at e.a) (p1 i) e.b) (p2 i) e.c) (p3 i) e.d) (p4 i) e.e) (p5 i) e.f) (p6 i) e.g) (p7 i) e.h)
-    ∙ sets-eq (eight_list e) f at h
-    ∙ append_assoc (take at f) (eight_list e) (drop (at + 8) f)
-
 -- which of the eight is the distance to row g
-eight_at : (q block : List Float) (g : ℕ) → g < 8 → get_or (eight_list (block_distances_of q block)) g nan ≡ distance_of binary32 q (row_in block g)
+eight_at : (q block : List Float) (g : ℕ) → g < 8 → get_or (block_distances_of q block) g nan ≡ distance_of binary32 q (row_in block g)
 eight_at q block zero h = refl
 eight_at q block (suc zero) h = refl
 eight_at q block (suc (suc zero)) h = refl
@@ -124,19 +109,19 @@ module _ (vs : List (List Float)) (leaf : List ℕ) (block : List Float) where
   unfolding lane_of
   filled_none floats g h = refl
 
-  pub filled_more : (j at : ℕ) (floats next : List Float) (e : Eight) → j < length leaf → at ≡ 8 * j → at + 8 ≤ length floats
-      → e ≡ block_distances_of (vector_of vs (get_or leaf j 0)) block → next ≡ take at floats ++ (eight_list e ++ drop (at + 8) floats)
+  pub filled_more : (j at : ℕ) (floats next e : List Float) → j < length leaf → at ≡ 8 * j → at + 8 ≤ length floats
+      → e ≡ block_distances_of (vector_of vs (get_or leaf j 0)) block → next ≡ take at floats ++ (e ++ drop (at + 8) floats)
       → LanesFilled vs leaf block j floats → LanesFilled vs leaf block (j + 1) next
   filled_more j at floats next e h a room q w filled g l =
       let to : ℕ → Float = λ u. distance_of binary32 (vector_of vs u) (row_in block g) in
-      let rest : List Float = eight_list e ++ drop (at + 8) floats in
+      let rest : List Float = e ++ drop (at + 8) floats in
       let long : length (take at floats) ≡ at = length-take-le at floats (omega arith) in
       let place : 8 * j + g ≡ length (take at floats) + g = omega arith in
       let here : get_or next (8 * j + g) nan ≡ to (get_or leaf j 0) =
       ap₂ (λ (f : List Float) (i : ℕ). get_or f i nan) w place
       ∙ get_or-append-add (take at floats) rest g nan
-      ∙ get_or-append (eight_list e) (drop (at + 8) floats) nan g (omega arith)
-      ∙ ap (λ (x : Eight). get_or (eight_list x) g nan) q
+      ∙ get_or-append e (drop (at + 8) floats) nan g (omega (arith, ap length q))
+      ∙ ap (λ (x : List Float). get_or x g nan) q
       ∙ eight_at (vector_of vs (get_or leaf j 0)) block g l in
       let before : lane_of next g j ≡ lane_of floats g j =
       lane_kept floats next g j
@@ -173,14 +158,17 @@ vector_short d xs u = go (dec_lt u (length xs / d))
     go (yes h) = omega (arith, vector_length d xs u h)
     go (no h) = omega (arith, ap length (get_or-eq_default (vectors_in d xs) [] {n = u} (omega (arith, length_pieces d (length xs / d) xs))))
 
-module _ (vectors : List Float) (d : ℕ) (leaf : List ℕ) (first : ℕ) (block : List Float) where
+module _ (v : Vectors) (leaf : List ℕ) (first : ℕ) (block : List Float) where
+  abbrev d : ℕ
+  d = v.dimension
+
   pub distances_are : (room : ℕ) (floats : List Float) → length block ≡ 8 * d
-      → BlockTurned (vectors_in d vectors) leaf first 8 block → LanesFilled (vectors_in d vectors) leaf block (length leaf) floats → Distances vectors d leaf first room floats
+      → BlockTurned (vectors_of v) leaf first 8 block → LanesFilled (vectors_of v) leaf block (length leaf) floats → Distances v leaf first room floats
   unfolding between
   distances_are room floats size turned filled few inside fits below g l =
-      let vs : List (List Float) = vectors_in d vectors in
+      let vs : List (List Float) = vectors_of v in
       let p : ℕ = node_at leaf (first + g) in
-      let long : length (vector_of vs p) ≡ d = vector_length d vectors p (below p (in_get_d leaf (min (first + g) (length leaf - 1)) 0 (omega arith))) in
+      let long : length (vector_of vs p) ≡ d = vector_length d v.components.now p (below p (in_get_d leaf (min (first + g) (length leaf - 1)) 0 (omega arith))) in
       let many : length block / 8 ≡ d = ap (λ (k : ℕ). k / 8) size ∙ mul-div_cancel_left d (omega arith) in
       let row : row_in block g ≡ vector_of vs p = ap (lane_of block g) (many ∙ sym long) ∙ turned g l in
       filled g l

@@ -12,11 +12,11 @@ pub overflow_add-end : goal.overflow_add-end
 overflow_add-end c = let x = c.args in omega (arith, place_fits x.node.0 (1 + x.p.degree) (omega arith) (omega arith))
 
 pub returns-then-rows-end : goal.returns-then-rows-end
-returns-then-rows-end c = let x = c.args in row_none x.p x.vectors.now x.planes.now x.node.0 x.candidates.now x.far.now x.rows.now c.if-rows-end.true
+returns-then-rows-end c = let x = c.args in row_none x.p x.vectors x.planes.now x.node.0 x.candidates.now x.rows.now c.if-rows-end.true
 
 pub returns : goal.returns
 returns c =
     let x = c.args in
     let at : ℕ = x.node.0 * (1 + x.p.degree) in
     let size : ℕ = (at + (1 + x.p.degree)) - at in
-    row_put x.p x.vectors.now x.planes.now x.node.0 x.candidates.now x.far.now x.rows.now at size _ refl (omega arith) c.hashprune_insert.ensures
+    row_put x.p x.vectors x.planes.now x.node.0 x.candidates.now x.rows.now at size _ refl (omega arith) c.hashprune_insert.ensures

@@ -4,7 +4,8 @@ use Rattle.std.specs.Prelude.{◌≡◌, ℕ, ◌+◌, ◌*◌, ◌≤◌, ◌<�
 use mathlib.Core.List.{List, ◌++◌, map, flatten, Memᴰ as In}
 use Rattle.basics.specs.Nodes.{Below}
 use Rattle.simd.specs.Inside.Eight.{lane_of}
-use Rattle.distance.specs.Vectors.{vectors_in, between}
+use Rattle.distance.specs.Vectors.{vectors_of, between}
+use Rattle.distance.specs.declared.vectors.Vectors.{Vectors}
 use Rattle.def_graph.specs.Leaf.{hashprune_insert, candidates_at, places_to, build_leaf, build_leaves}
 use Rattle.lists.specs.Inside.Words.{Blocks}
 use Rattle.hashprune.specs.Inside.Hashprune.{PlanesFor}
@@ -13,17 +14,17 @@ use Rattle.build_leaf.specs.Inside.Candidates.{LaneReady}
 use Rattle.build_leaf.specs.declared.LeafParams.{LeafParams}
 
 -- sizes that fit, for an index of n nodes
-pub record Sizes (n : ℕ) (p : LeafParams) (vectors : List Float) : Type 0 where
+pub record Sizes (n : ℕ) (p : LeafParams) (v : Vectors) : Type 0 where
   pub nodes_most : n ≤ 1024
   pub degree_most : p.degree ≤ 32
   pub bits_most : p.bits ≤ 16
-  pub dimension_some : 1 ≤ p.dimension
-  pub dimension_most : p.dimension ≤ 64
-  pub vectors_are : length vectors ≡ n * p.dimension
+  pub dimension_some : 1 ≤ v.dimension
+  pub dimension_most : v.dimension ≤ 64
+  pub vectors_are : length v.components.now ≡ n * v.dimension
 
-pub record Setting (n : ℕ) (p : LeafParams) (vectors planes : List Float) : Type 0 where
-  pub sizes : Sizes n p vectors
-  pub planes_are : PlanesFor p.dimension p.bits planes
+pub record Setting (n : ℕ) (p : LeafParams) (v : Vectors) (planes : List Float) : Type 0 where
+  pub sizes : Sizes n p v
+  pub planes_are : PlanesFor v.dimension p.bits planes
 
 -- the blocks of hyperplanes
 abbrev pub PlanesMade : ℕ → ℕ → ℕ → List Float → Type 0
@@ -44,9 +45,9 @@ pub record LeavesIn (n : ℕ) (leaves : List (List ℕ)) (nodes sizes : List ℕ
   pub leaf_most : (leaf : List ℕ) → In leaf leaves → length leaf ≤ 2 * n
   pub room_is : 16 * n ≤ room
 
--- ---- what the functions leave of the rows of an index, by its parameters and the slice of its vectors
+-- ---- what the functions leave of the rows of an index, by its parameters and its vectors
 
-module _ (p : LeafParams) (vectors : List Float) where
+module _ (p : LeafParams) (v : Vectors) where
   abbrev D : ℕ
   D = p.degree
 
@@ -54,44 +55,44 @@ module _ (p : LeafParams) (vectors : List Float) where
   bits = p.bits
 
   abbrev d : ℕ
-  d = p.dimension
+  d = v.dimension
 
   abbrev vs : List (List Float)
-  vs = vectors_in d vectors
+  vs = vectors_of v
 
   -- a node's candidates are in its row
   abbrev pub RowPut : List Float → ℕ → List ℕ → List Float → List ℕ → List ℕ → Type 0
   RowPut planes node candidates far rows rows' =
-      (n : ℕ) (rs : List (List ℕ)) → Setting n p vectors planes → length rs ≡ n → node < n → Below n candidates → length candidates ≤ 64
+      (n : ℕ) (rs : List (List ℕ)) → Setting n p v planes → length rs ≡ n → node < n → Below n candidates → length candidates ≤ 64
       → far ≡ map (between vs node) candidates
       → Blocks D rs rows → Blocks D (hashprune_insert D bits d vs node candidates rs) rows'
 
   -- one place of a leaf, whose distances stand in a lane
   abbrev pub PlacePut : List Float → List ℕ → ℕ → ℕ → List Float → List ℕ → List ℕ → Type 0
   PlacePut planes leaf i lane floats rows rows' =
-      (n : ℕ) (rs : List (List ℕ)) → Setting n p vectors planes → length rs ≡ n → Below n leaf → LaneReady leaf floats lane i D 64 64 vs
+      (n : ℕ) (rs : List (List ℕ)) → Setting n p v planes → length rs ≡ n → Below n leaf → LaneReady leaf floats lane i D vs
       → Blocks D rs rows → Blocks D (hashprune_insert D bits d vs (get_or leaf i 0) (candidates_at D vs leaf i) rs) rows'
 
   -- the places of a leaf from `first` on and before `end`, if those before `first` had their turns; the distances of place first + g stand in lane g
   abbrev pub PlacesPut : List Float → List ℕ → ℕ → ℕ → List Float → List ℕ → List ℕ → Type 0
   PlacesPut planes leaf first end floats rows rows' =
-      (n : ℕ) (rs : List (List ℕ)) → Setting n p vectors planes → length rs ≡ n → LeafHeld n leaf (length floats)
+      (n : ℕ) (rs : List (List ℕ)) → Setting n p v planes → length rs ≡ n → LeafHeld n leaf (length floats)
       → ((g : ℕ) → g < 8 → lane_of floats g (length leaf) ≡ map (between vs (node_at leaf (first + g))) leaf)
       → Blocks D (places_to D bits d vs leaf rs first) rows → Blocks D (places_to D bits d vs leaf rs end) rows'
 
   -- a leaf
   abbrev pub LeafBuilt : List Float → List ℕ → ℕ → List ℕ → List ℕ → Type 0
   LeafBuilt planes leaf room rows rows' =
-      (n : ℕ) (rs : List (List ℕ)) → Setting n p vectors planes → length rs ≡ n → LeafHeld n leaf room
+      (n : ℕ) (rs : List (List ℕ)) → Setting n p v planes → length rs ≡ n → LeafHeld n leaf room
       → Blocks D rs rows → Blocks D (build_leaf D bits d vs leaf rs) rows'
 
   abbrev pub LeavesBuilt : List Float → List ℕ → List ℕ → ℕ → List ℕ → List ℕ → Type 0
   LeavesBuilt planes nodes sizes room rows rows' =
-      (n : ℕ) (rs leaves : List (List ℕ)) → Setting n p vectors planes → length rs ≡ n → LeavesIn n leaves nodes sizes room
+      (n : ℕ) (rs leaves : List (List ℕ)) → Setting n p v planes → length rs ≡ n → LeavesIn n leaves nodes sizes room
       → Blocks D rs rows → Blocks D (build_leaves D bits d vs leaves rs) rows'
 
   -- all leaves, where the sizes fit
   abbrev pub Built : List ℕ → List ℕ → ℕ → List ℕ → List ℕ → Type 0
   Built nodes sizes room rows rows' =
-      (rs leaves : List (List ℕ)) → Sizes (length rs) p vectors → LeavesIn (length rs) leaves nodes sizes room
+      (rs leaves : List (List ℕ)) → Sizes (length rs) p v → LeavesIn (length rs) leaves nodes sizes room
       → Blocks D rs rows → Blocks D (build_leaves D bits d vs leaves rs) rows'

@@ -5,7 +5,10 @@ use Rattle.std.specs.Float.{binary32, nan}
 use Rattle.simd.specs.Inside.Eight.{lane_of}
 use Rattle.distance.specs.Order.{key_of}
 use Rattle.sorting.specs.Sorting.{first_by}
-use Rattle.sorting.specs.Inside.Pairs.{pairs, key_in, both}
+use Rattle.sorting.specs.Inside.Pairs.{key_in}
+use Rattle.sorting.specs.declared.Keyed.{Keyed}
+use Rattle.hashprune.specs.declared.Candidate.{Candidate}
+use Rattle.hashprune.specs.Inside.Hashprune.{node_of, far_of}
 use Rattle.distance.specs.Vectors.{between}
 use Rattle.def_graph.specs.Leaf.{candidates_at}
 
@@ -22,8 +25,8 @@ places_from a zero = []
 places_from a (suc k) = places_from a k ++ ((a + k) ∷ [])
 
 -- a place as it is offered
-abbrev pub offer : List Float → ℕ → ℕ → ℕ × ℕ
-offer floats lane j = (key_of binary32 (far_in_lane floats lane j), j)
+abbrev pub offer : List Float → ℕ → ℕ → Keyed
+offer floats lane j = record { key = key_of binary32 (far_in_lane floats lane j); id = j }
 
 -- all places but i
 abbrev pub other_places : ℕ → ℕ → List ℕ
@@ -36,43 +39,44 @@ pub record LanesSized (lane size : ℕ) (floats : List Float) : Type 0 where
   pub few : size ≤ 4294967295
 
 -- if the pairs held were the first of those offered before, those held now are the first of these and of k places more
-pub record Offered (floats : List Float) (lane from k : ℕ) (keys places : List ℕ) (held : ℕ) (keys' places' : List ℕ) (r : ℕ) : Type 0 where
-  pub few : held ≤ both keys places → r ≤ both keys places
-  pub first : (before : List (ℕ × ℕ)) → pairs (take held keys) (take held places) ≡ first_by key_in (both keys places) before
-      → pairs (take r keys') (take r places') ≡ first_by key_in (both keys places) (before ++ map (offer floats lane) (places_from from k))
+pub record Offered (floats : List Float) (lane from k : ℕ) (pairs : List Keyed) (held : ℕ) (pairs' : List Keyed) (r : ℕ) : Type 0 where
+  pub few : held ≤ length pairs → r ≤ length pairs
+  pub first : (before : List Keyed) → take held pairs ≡ first_by key_in (length pairs) before
+      → take r pairs' ≡ first_by key_in (length pairs) (before ++ map (offer floats lane) (places_from from k))
 
 -- the pairs held are the first of all other places
-pub record NearestPlaces (floats : List Float) (lane size i r : ℕ) (keys places : List ℕ) : Type 0 where
-  pub few : r ≤ both keys places
-  pub first : pairs (take r keys) (take r places) ≡ first_by key_in (both keys places) (map (offer floats lane) (other_places size i))
+pub record NearestPlaces (floats : List Float) (lane size i r : ℕ) (pairs : List Keyed) : Type 0 where
+  pub few : r ≤ length pairs
+  pub first : take r pairs ≡ first_by key_in (length pairs) (map (offer floats lane) (other_places size i))
 
--- the nodes of some places, and their distances, at the front of two slices
-pub record NodesAt (leaf : List ℕ) (floats : List Float) (lane : ℕ) (places candidates : List ℕ) (far : List Float) (candidates' : List ℕ) (far' : List Float) : Type 0 where
-  pub nodes : candidates' ≡ map (node_in leaf) places ++ drop (length places) candidates
-  pub fars : far' ≡ map (far_in_lane floats lane) places ++ drop (length places) far
+-- the candidate that is at a place
+abbrev pub candidate_in : List ℕ → List Float → ℕ → Keyed → Candidate
+candidate_in leaf floats lane p = record { node = record { 0 = node_in leaf p.id }; far = far_in_lane floats lane p.id }
 
--- sizes that fit: the place, the lane, and room for 64 candidates
-pub record LaneFits (leaf : List ℕ) (floats : List Float) (lane i D room room' : ℕ) : Type 0 where
+-- the nodes of some places, and their distances, at the front of a slice
+abbrev pub NodesAt : List ℕ → List Float → ℕ → List Keyed → List Candidate → List Candidate → Type 0
+NodesAt leaf floats lane pairs candidates candidates' = candidates' ≡ map (candidate_in leaf floats lane) pairs ++ drop (length pairs) candidates
+
+-- sizes that fit: the place and the lane
+pub record LaneFits (leaf : List ℕ) (floats : List Float) (lane i D : ℕ) : Type 0 where
   pub place_is : i < length leaf
   pub lane_is : lane < 8
   pub degree_most : D ≤ 32
   pub size_most : length leaf ≤ 4294967295
   pub floats_fit : 8 * length leaf ≤ length floats
-  pub room_is : 64 ≤ room
-  pub room'_is : 64 ≤ room'
 
 -- what has to be there: sizes that fit, and place i's distances in its lane
-pub record LaneReady (leaf : List ℕ) (floats : List Float) (lane i D room room' : ℕ) (vs : List (List Float)) : Type 0 where
-  pub sizes : LaneFits leaf floats lane i D room room'
+pub record LaneReady (leaf : List ℕ) (floats : List Float) (lane i D : ℕ) (vs : List (List Float)) : Type 0 where
+  pub sizes : LaneFits leaf floats lane i D
   pub distances : lane_of floats lane (length leaf) ≡ map (between vs (get_or leaf i 0)) leaf
 
--- the r candidates and their distances, at the front of two slices
-pub record CandidatesAre (leaf : List ℕ) (i D : ℕ) (vs : List (List Float)) (r : ℕ) (candidates : List ℕ) (far : List Float) : Type 0 where
-  pub nodes : take r candidates ≡ candidates_at D vs leaf i
-  pub fars : take r far ≡ map (between vs (get_or leaf i 0)) (candidates_at D vs leaf i)
+-- the r candidates and their distances, at the front of a slice
+pub record CandidatesAre (leaf : List ℕ) (i D : ℕ) (vs : List (List Float)) (r : ℕ) (candidates : List Candidate) : Type 0 where
+  pub nodes : map node_of (take r candidates) ≡ candidates_at D vs leaf i
+  pub fars : map far_of (take r candidates) ≡ map (between vs (get_or leaf i 0)) (candidates_at D vs leaf i)
 
-pub record Candidates (leaf : List ℕ) (floats : List Float) (lane i D room room' r : ℕ) (candidates : List ℕ) (far : List Float) : Type 0 where
+pub record Candidates (leaf : List ℕ) (floats : List Float) (lane i D r : ℕ) (candidates : List Candidate) : Type 0 where
   pub few : r ≤ 64
   -- none where the sizes do not fit
-  pub none : (LaneFits leaf floats lane i D room room' → ⊥) → r ≡ 0
-  pub are : (vs : List (List Float)) → LaneReady leaf floats lane i D room room' vs → CandidatesAre leaf i D vs r candidates far
+  pub none : (LaneFits leaf floats lane i D → ⊥) → r ≡ 0
+  pub are : (vs : List (List Float)) → LaneReady leaf floats lane i D vs → CandidatesAre leaf i D vs r candidates

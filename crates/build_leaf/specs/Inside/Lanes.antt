@@ -1,15 +1,12 @@
 -- Distances within a leaf (scope, part 5) by blocks of eight: component c of vector g, and the distance of position j to vector g, are in lane g of a
 -- block, at 8 · c + g and 8 · j + g (`lane_of` of Rattle.simd).
-use Rattle.std.specs.Prelude.{◌≡◌, List, [], ◌∷◌, map, ℕ, ◌+◌, ◌-◌, ◌*◌, ◌/◌, ◌≤◌, ◌<◌, min, length, get_or, take, Float}
+use Rattle.std.specs.Prelude.{◌≡◌, List, map, ℕ, ◌+◌, ◌-◌, ◌*◌, ◌/◌, ◌≤◌, ◌<◌, min, length, get_or, take, Float}
 use Rattle.std.specs.Float.{binary32}
 use Rattle.basics.specs.Nodes.{Below}
 use Rattle.simd.specs.Inside.Eight.{lane_of, row_in}
-use Rattle.simd.specs.declared.Eight.{Eight}
 use Rattle.distance.specs.Distance.{distance_of}
-use Rattle.distance.specs.Vectors.{vectors_in, vector_of, between}
-
-abbrev pub eight_list : Eight → List Float
-eight_list e = e.a ∷ e.b ∷ e.c ∷ e.d ∷ e.e ∷ e.f ∷ e.g ∷ e.h ∷ []
+use Rattle.distance.specs.Vectors.{vectors_of, vector_of, between}
+use Rattle.distance.specs.declared.vectors.Vectors.{Vectors}
 
 -- the node of the leaf's place i, or of its last place where there is no such place
 abbrev pub node_at : List ℕ → ℕ → ℕ
@@ -31,7 +28,7 @@ LanesFilled vs leaf block places floats =
     (g : ℕ) → g < 8 → lane_of floats g places ≡ map (λ (u : ℕ). distance_of binary32 (vector_of vs u) (row_in block g)) (take places leaf)
 
 -- lane g holds the distances of place first + g to every place
-abbrev pub Distances : List Float → ℕ → List ℕ → ℕ → ℕ → List Float → Type 0
-Distances vectors d leaf first room floats =
-    d ≤ 64 → first < length leaf → 8 * length leaf ≤ room → Below (length vectors / d) leaf
-    → (g : ℕ) → g < 8 → lane_of floats g (length leaf) ≡ map (between (vectors_in d vectors) (node_at leaf (first + g))) leaf
+abbrev pub Distances : Vectors → List ℕ → ℕ → ℕ → List Float → Type 0
+Distances v leaf first room floats =
+    v.dimension ≤ 64 → first < length leaf → 8 * length leaf ≤ room → Below (length v.components.now / v.dimension) leaf
+    → (g : ℕ) → g < 8 → lane_of floats g (length leaf) ≡ map (between (vectors_of v) (node_at leaf (first + g))) leaf

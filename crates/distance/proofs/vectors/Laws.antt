@@ -39,7 +39,7 @@ products-sym f [] (y ∷ ys) = refl
 products-sym f (x ∷ xs) [] = refl
 products-sym f (x ∷ xs) (y ∷ ys) = ap₂ (λ (p : Float) (ps : List Float). p ∷ ps) (mul-sym f x y) (products-sym f xs ys)
 
-eqb-sym : (m n : ℕ) → eqb m n ≡ eqb n m
+pub eqb-sym : (m n : ℕ) → eqb m n ≡ eqb n m
 eqb-sym zero zero = refl
 eqb-sym zero (suc n) = eqb-zero-suc n ∙ sym (eqb-suc-zero n)
 eqb-sym (suc m) zero = eqb-suc-zero m ∙ sym (eqb-zero-suc m)

@@ -1,14 +1,13 @@
 -- One row in words: whether it holds a node, and the words with the node at its end. Assumes nothing.
 use mathlib.Core.Path.{◌≡◌, refl, sym, ap, ap₂, ◌∙◌}
-use mathlib.Core.Bool.{Bool, true, false, not, ◌&&◌, ◌||◌}
+use mathlib.Core.Bool.{Bool, true, false, not, ◌&&◌}
 use mathlib.Core.List.{List, [], ◌∷◌, ◌++◌, append_assoc}
-use Prim.Native.Nat.{ℕ, zero, suc, ◌+◌, ◌-◌, ◌≤◌, ◌<◌}
+use Prim.Native.Nat.{ℕ, suc, ◌+◌, ◌-◌, ◌≤◌, ◌<◌}
 use native.Mathlib.Omega.{arith}
-use native.Mathlib.Numerals.{add-one}
-use lib.Dec.{T, eqb, ltb, ltb→lt}
+use lib.Dec.{T, ltb, ltb→lt}
 use lib.ListN.{length, get_or, take, drop, set, replicate, length-append}
-use lib.Seq.{drop-cons, take_at, set_at}
-use borrow.Author.Tests.{eq-eqb, ne_eqb, lt-ltb, le-ltb}
+use lib.Seq.{take_at, set_at}
+use borrow.Author.Tests.{lt-ltb, le-ltb}
 use Rattle.basics.specs.Choice.{pick, pick_true, pick_false}
 use Rattle.basics.specs.Nodes.{has}
 use Rattle.basics.proofs.Members.{both_right}
@@ -16,28 +15,6 @@ use Rattle.store.specs.View.{row_block}
 use Rattle.lists.proofs.Blocks.{block_length}
 use Rattle.def_graph.specs.Refine.{takes}
 use Rattle.finish.specs.Inside.Reversed.{EntryAdded}
-
--- ---- the search for a node
-
-module _ (x : ℕ) (row : List ℕ) (i : ℕ) (h : i < length row) where
-  at_i : has x (drop i row) ≡ (eqb x (get_or row i 0) || has x (drop (suc i) row))
-  unfolding has
-  at_i = ap (has x) (drop-cons row i 0 h)
-
-  pub has_here : get_or row i 0 ≡ x → has x (drop i row) ≡ true
-  has_here e = at_i ∙ ap (λ (b : Bool). b || has x (drop (suc i) row)) (eq-eqb x (get_or row i 0) (sym e))
-
-  pub has_later : (get_or row i 0 ≡ x → ⊥) → has x (drop (i + 1) row) ≡ has x (drop i row)
-  has_later n =
-      ap (λ (k : ℕ). has x (drop k row)) (add-one i)
-      ∙ sym (at_i ∙ ap (λ (b : Bool). b || has x (drop (suc i) row)) (ne_eqb x (get_or row i 0) (λ e. n (sym e))))
-
-pub has_none : (x : ℕ) (row : List ℕ) (i : ℕ) → length row ≤ i → has x (drop i row) ≡ false
-unfolding has
-has_none x [] zero h = refl
-has_none x [] (suc i) h = refl
-has_none x (y ∷ row) zero h = absurd (omega arith)
-has_none x (y ∷ row) (suc i) h = has_none x row i (omega arith)
 
 -- ---- what a row takes
 

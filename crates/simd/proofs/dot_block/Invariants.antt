@@ -7,5 +7,5 @@ use Rattle.simd.specs.Inside.Eight.{row_in}
 use Rattle.simd.proofs.Left.{Left}
 use Rattle.simd.proofs.dot_block.Given as goal
 
-abbrev pub invariant-loop-i : goal.invariant-loop-i
-invariant-loop-i l = (length l.sums ≡ 8) × ((j : ℕ) → j < 8 → Left l.q (row_in l.block j) (get_or l.sums j nan) l.i)
+abbrev pub invariant-loop-x : goal.invariant-loop-x
+invariant-loop-x l = (length l.sums ≡ 8) × ((j : ℕ) → j < 8 → Left l.q (row_in l.block j) (get_or l.sums j nan) (length l.yielded))

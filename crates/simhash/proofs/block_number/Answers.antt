@@ -1,12 +1,15 @@
 -- Each return is a case of the definition. A plane below `bits` times a dimension, both of 32 bits, does not wrap, nor with a component added.
 -- Assumes nothing.
-use mathlib.Core.Path.{sym}
-use Prim.Native.Nat.{ℕ, ◌*◌, ◌/◌, ◌^◌, ◌≤◌, ◌<◌}
+use mathlib.Core.Path.{◌≡◌, sym, ◌∙◌}
+use Prim.Native.Nat.{ℕ, ◌+◌, ◌*◌, ◌/◌, ◌%◌, ◌^◌, ◌≤◌, ◌<◌}
 use native.Mathlib.Nat.{div-le_self, mod-lt, mul-le-mul}
 use native.Mathlib.Omega.{arith}
+use lib.ListN.{get_or}
 use lib.Ieee.{of_bits}
+use Rattle.std.proofs.Common.{rules}
+use Rattle.basics.specs.Sum.{+zero}
 use Rattle.simhash.specs.Inside.Blocks.{plane_at}
-use Rattle.simhash.proofs.Blocks.{no_dimension, past_planes, past_numbers, within_planes}
+use Rattle.simhash.proofs.Blocks.{no_dimension, past_planes, in_planes}
 use Rattle.simhash.proofs.block_number.Goals as goal
 
 -- a place of the planes fits a word
@@ -35,17 +38,12 @@ overflow_add-at c =
     omega
     (arith, place (plane_at a.dimension a.k) a.dimension a.bits c.if-plane-bits.false (omega arith) (omega arith), mod-lt (a.k / 8) {m = a.dimension} (omega arith))
 
-pub returns-then-at-planes : goal.returns-then-at-planes
-unfolding of_bits
-returns-then-at-planes c =
-    let a = c.args in
-    sym (past_numbers a.planes.now a.dimension a.bits a.k c.if-at-planes.true)
-
 pub returns : goal.returns
+unfolding of_bits
 returns c =
     let a = c.args in
-    let d : 0 < a.dimension = omega arith in
-    sym (within_planes a.planes.now a.dimension a.bits a.k d c.if-plane-bits.false c.if-at-planes.false)
+    let read : c.unwrap_or.result ≡ get_or a.planes.now (plane_at a.dimension a.k * a.dimension + a.k / 8 % a.dimension) +zero = search rules in
+    read ∙ sym (in_planes a.planes.now a.dimension a.bits a.k (omega arith) c.if-plane-bits.false)
 
 pub overflow_mul-plane : goal.overflow_mul-plane
 overflow_mul-plane c = let a = c.args in omega (arith, div-le_self (a.k / 8) a.dimension)

@@ -1,4 +1,4 @@
--- The invariant: the first k numbers of the blocks stand at the front, what was there follows. The measure is what is left of `out`. Assumes nothing.
+-- The first k numbers of the blocks stand at the front, what was there follows. Assumes nothing.
 use native.Mathlib.Omega.{arith}
 use mathlib.Core.Path.{◌≡◌, refl, ◌∙◌}
 use mathlib.Core.List.{append-nil}
@@ -10,16 +10,15 @@ use Rattle.simhash.proofs.plane_blocks_into.Goals as goal
 
 pub loop-k-init : goal.loop-k-init
 unfolding plane_blocks
-loop-k-init c = (omega arith, refl, refl)
+loop-k-init c = (refl, refl)
 
 pub loop-k-preserved : goal.loop-k-preserved
 loop-k-preserved c =
     let l = c.loop-k in
     let a = c.args in
     let v = c.block_number.result in (
-      omega arith,
-      length-set l.out l.k v ∙ l.invariant.1,
-      blocks_set a.planes.now a.dimension a.bits a.out.now l.out l.k v l.invariant.2 (omega arith) c.block_number.ensures,
+      length-set l.out l.k v ∙ l.invariant.0,
+      blocks_set a.planes.now a.dimension a.bits a.out.now l.out l.k v l.invariant.1 (omega arith) c.block_number.ensures,
     )
 
 pub returns : goal.returns
@@ -27,7 +26,4 @@ returns c =
     let l = c.loop-k in
     let a = c.args in
     let whole : l.k ≡ length a.out.now = omega arith in
-    l.invariant.2 ∙ rw (whole, drop-length a.out.now) (append-nil (plane_blocks a.planes.now a.dimension a.bits (length a.out.now)))
-
-pub shape_of-out : goal.shape_of-out
-shape_of-out c = c.loop-k.invariant.1
+    l.invariant.1 ∙ rw (whole, drop-length a.out.now) (append-nil (plane_blocks a.planes.now a.dimension a.bits (length a.out.now)))

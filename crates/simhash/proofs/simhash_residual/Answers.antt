@@ -29,7 +29,7 @@ returns c =
     let l = a.blocks.now in
     c.low_bits-2.ensures
     ∙ ap (λ (h : ℕ). h % 2 ^ min a.bits 16)
-    (two_bytes r l _ _ _ c.hash_block-low.ensures c.second_block-from.ensures c.hash_block.ensures)
+    (two_bytes r l _ _ _ c.hash_block-low.ensures c.min-from.ensures c.hash_block.ensures)
     ∙ bits_cut (bit_in r l) (min a.bits 16) 16 (omega arith)
 
 pub overflow_mul-hash_block : goal.overflow_mul-hash_block

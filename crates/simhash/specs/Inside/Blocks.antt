@@ -10,19 +10,19 @@ use Rattle.simd.specs.Inside.Eight.{row_in}
 abbrev pub put_front : List Float → List Float → List Float
 put_front xs out = take (length out) xs ++ drop (length xs) out
 
--- the bit of a sum, at its weight: set where the sum is 0, −0 or above, and not where it is a NaN
-abbrev pub bit_by : Float → ℕ → ℕ
-bit_by sum weight = pick (le +zero sum) weight 0
-
 -- bits 0 to n − 1, each at its weight
 unfoldable pub bits_of : (ℕ → Bool) → ℕ → ℕ
 unfolding pick
 bits_of bit zero = 0
 bits_of bit (suc n) = bits_of bit n + pick (bit n) (2 ^ n) 0
 
--- bit j of a block is set where the sum with its plane j is 0, −0 or above, and not where it is a NaN
+-- the sum of a residual with plane j of a block
+abbrev pub sum_in : List Float → List Float → ℕ → Float
+sum_in r block j = sum_of binary32 (products binary32 r (row_in block j))
+
+-- bit j of a block is set where that sum is 0, −0 or above, and not where it is a NaN
 abbrev pub side_of : List Float → List Float → ℕ → Bool
-side_of r block j = le +zero (sum_of binary32 (products binary32 r (row_in block j)))
+side_of r block j = le +zero (sum_in r block j)
 
 abbrev pub block_hash : List Float → List Float → ℕ
 block_hash r block = bits_of (side_of r block) 8

@@ -7,5 +7,4 @@ returns c =
     let x = c.args in
     let a = c.offer-held in
     let b = c.offer in
-    nearest_of_lem x.floats.now x.lane x.size x.i a.result b.result x.keys.now x.places.now _ _ _ _
-    a.auto.keys a.auto.places b.auto.keys b.auto.places a.ensures b.ensures
+    nearest_of_lem x.floats.now x.lane x.size x.i a.result b.result x.pairs.now _ _ a.auto.pairs b.auto.pairs a.ensures b.ensures

@@ -1,34 +1,45 @@
--- The invariant: every lane holds the distances of the places passed; those of place j go to `at`. The measure is how many places are left.
--- Assumes nothing.
+-- Every lane holds the distances of the places passed. Assumes nothing.
 use native.Mathlib.Omega.{arith}
-use mathlib.Core.Path.{refl, ap, ◌∙◌}
-use mathlib.Core.List.{List}
+use mathlib.Core.Path.{◌≡◌, refl, ap, ap₂, ◌∙◌}
+use mathlib.Core.List.{List, ◌++◌}
+use Prim.Native.Nat.{ℕ, ◌+◌, ◌-◌, ◌*◌, ◌≤◌}
+use borrow.Rule.Slice.PartMut.{put_mid}
+use lib.ListN.{length, take, drop, length-append, length-take, length-drop}
+use lib.Seq.{drop-drop}
+use Rattle.std.proofs.Common.{rules}
 use lib.Ieee.{Float}
 use Rattle.distance.specs.Distance.{block_distances_of}
-use Rattle.distance.specs.Vectors.{vectors_in}
+use Rattle.distance.specs.Vectors.{vectors_of}
 use Rattle.build_leaf.proofs.leaf_distances.Laws.{filled_none, filled_more, filled_all}
 use Rattle.build_leaf.proofs.leaf_distances.distance_rows.Goals as goal
 
 pub loop-j-init : goal.loop-j-init
-loop-j-init c = let x = c.args in (omega arith, omega arith, refl, filled_none (vectors_in x.dimension x.vectors.now) x.leaf.now x.block.now x.floats.now)
+loop-j-init c = let x = c.args in (refl, filled_none (vectors_of x.vectors) x.leaf.now x.block.now x.floats.now)
+
+-- eight numbers written side by side
+written : (f e part : List Float) (at k : ℕ) → at + k ≡ at + 8 → part ≡ e → put_mid at k f part ≡ take at f ++ (e ++ drop (at + 8) f)
+written f e part at k size is =
+    ap₂ (λ (p rest : List Float). take at f ++ (p ++ rest)) is (drop-drop k at f ∙ ap (λ (n : ℕ). drop n f) size)
+
+as_long : (f e next : List Float) (at : ℕ) → at + 8 ≤ length f → length e ≡ 8 → next ≡ take at f ++ (e ++ drop (at + 8) f) → length next ≡ length f
+as_long f e next at room eight w =
+    omega (arith, ap length w, length-append (take at f) (e ++ drop (at + 8) f), length-append e (drop (at + 8) f), length-take at f, length-drop (at + 8) f)
 
 pub loop-j-preserved : goal.loop-j-preserved
 loop-j-preserved c =
     let l = c.loop-j in
     let x = c.args in
-    let e = c.cosine_distance_normalized_block in (
-      omega arith,
-      omega arith,
-      c.put_eight.auto.floats ∙ l.invariant.2,
-      filled_more (vectors_in x.dimension x.vectors.now) x.leaf.now x.block.now l.j l.at l.floats _ e.result c.loop-j-test.true l.invariant.1 (omega arith)
-          (e.ensures ∙ ap (λ (q : List Float). block_distances_of q x.block.now) c.get_vector-v.ensures) c.put_eight.ensures l.invariant.3,
+    let e = c.cosine_distance_normalized_block-distances in
+    let at : ℕ = 8 * l.j in
+    let room : at + 8 ≤ length l.floats = omega (arith, l.invariant.0, c.requires) in
+    let next = written l.floats e.result c.copy_from_slice.new.self at (at + 8 - at) (omega arith) (search rules) in (
+      as_long l.floats e.result _ at room (ap length e.ensures) next ∙ l.invariant.0,
+      filled_more (vectors_of x.vectors) x.leaf.now x.block.now l.j at l.floats _ e.result (omega arith) refl room
+          (e.ensures ∙ ap (λ (q : List Float). block_distances_of q x.block.now) c.get.ensures) next l.invariant.1,
     )
 
 pub returns : goal.returns
 returns c =
     let l = c.loop-j in
     let x = c.args in
-    filled_all (vectors_in x.dimension x.vectors.now) x.leaf.now x.block.now l.j l.floats c.loop-j-test.false l.invariant.0 l.invariant.3
-
-pub shape_of-floats : goal.shape_of-floats
-shape_of-floats c = c.loop-j.invariant.2
+    filled_all (vectors_of x.vectors) x.leaf.now x.block.now l.j l.floats (omega arith) (omega arith) l.invariant.1

@@ -7,18 +7,19 @@ use Prim.Native.Nat.{ℕ, ◌*◌}
 use lib.ListN.{length, take, length-take, length-drop, length-append}
 use lib.Seq.{take_at}
 use lib.Ieee.{Float}
-use Rattle.distance.specs.Vectors.{vectors_in}
+use Rattle.distance.specs.Vectors.{vectors_of}
+use Rattle.distance.specs.declared.vectors.Vectors.{Vectors}
 use Rattle.build_leaf.specs.Inside.Lanes.{BlockTurned, LanesFilled, Distances}
 use Rattle.build_leaf.proofs.leaf_distances.Laws.{distances_are}
 use Rattle.build_leaf.proofs.leaf_distances.distances_into.Goals as goal
 
-joined : (vectors : List Float) (d : ℕ) (leaf : List ℕ) (first : ℕ) (turned rest : List Float) (room : ℕ) (floats : List Float) → length turned ≡ 8 * d
-    → BlockTurned (vectors_in d vectors) leaf first 8 turned
-    → LanesFilled (vectors_in d vectors) leaf (take (8 * d) (turned ++ rest)) (length leaf) floats
-    → Distances vectors d leaf first room floats
-joined vectors d leaf first turned rest room floats e t filled =
-    distances_are vectors d leaf first turned room floats e t
-    (subst (λ (block : List Float). LanesFilled (vectors_in d vectors) leaf block (length leaf) floats) (take_at turned rest (8 * d) e) filled)
+joined : (v : Vectors) (leaf : List ℕ) (first : ℕ) (turned rest : List Float) (room : ℕ) (floats : List Float) → length turned ≡ 8 * v.dimension
+    → BlockTurned (vectors_of v) leaf first 8 turned
+    → LanesFilled (vectors_of v) leaf (take (8 * v.dimension) (turned ++ rest)) (length leaf) floats
+    → Distances v leaf first room floats
+joined v leaf first turned rest room floats e t filled =
+    distances_are v leaf first turned room floats e t
+    (subst (λ (block : List Float). LanesFilled (vectors_of v) leaf block (length leaf) floats) (take_at turned rest (8 * v.dimension) e) filled)
 
 pub slice_bounds-block-end-2 : goal.slice_bounds-block-end-2
 slice_bounds-block-end-2 c =
@@ -35,10 +36,10 @@ returns c =
     let x = c.args in
     let t = c.turn_block in
     let k = simp length-take at t.auto.block in
-    joined x.vectors.now x.dimension x.leaf.now x.first t.new.block _ (length x.floats.now) _ (omega (arith, k)) t.ensures c.distance_rows.ensures
+    joined x.vectors x.leaf.now x.first t.new.block _ (length x.floats.now) _ (omega (arith, k)) t.ensures c.distance_rows.ensures
 
-pub returns-then-dimension-gt64 : goal.returns-then-dimension-gt64
-returns-then-dimension-gt64 c few inside fits below = absurd (omega arith)
+pub returns-then-vectors-gt64 : goal.returns-then-vectors-gt64
+returns-then-vectors-gt64 c few inside fits below = absurd (omega arith)
 
 pub returns-then-leaf-first : goal.returns-then-leaf-first
 returns-then-leaf-first c few inside fits below = absurd (omega arith)

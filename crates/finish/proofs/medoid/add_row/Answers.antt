@@ -1,4 +1,4 @@
--- The invariant: the first j sums have their component added. The measure is what is left. Assumes nothing.
+-- The first j sums have their component added. Assumes nothing.
 use native.Mathlib.Omega.{arith}
 use mathlib.Core.Path.{refl, ap, ◌∙◌}
 use mathlib.Core.List.{List}
@@ -11,7 +11,7 @@ use Rattle.finish.proofs.medoid.add_row.Goals as goal
 
 pub loop-j-init : goal.loop-j-init
 unfolding add_to
-loop-j-init c = (omega arith, refl, refl)
+loop-j-init c = (refl, refl)
 
 pub loop-j-preserved : goal.loop-j-preserved
 loop-j-preserved c =
@@ -20,9 +20,8 @@ loop-j-preserved c =
     let e = c.requires in
     let y : Float = get_or x.row.now l.j nan in
     let h : l.j < length x.sums.now = omega arith in (
-      omega arith,
-      length-set l.sums l.j (add binary32 (get_or l.sums l.j nan) y) ∙ l.invariant.1,
-      ap (λ (w : List Float). set w l.j (add binary32 (get_or w l.j nan) y)) l.invariant.2
+      length-set l.sums l.j (add binary32 (get_or l.sums l.j nan) y) ∙ l.invariant.0,
+      ap (λ (w : List Float). set w l.j (add binary32 (get_or w l.j nan) y)) l.invariant.1
           ∙ ap (λ (z : Float). set (added x.sums.now x.row.now l.j) l.j (add binary32 z y)) (added_get x.sums.now x.row.now e l.j h)
           ∙ added_set x.sums.now x.row.now e l.j h,
     )
@@ -30,7 +29,4 @@ loop-j-preserved c =
 pub returns : goal.returns
 returns c =
     let l = c.loop-j in
-    l.invariant.2 ∙ added_end c.args.sums.now c.args.row.now c.requires l.j (omega arith)
-
-pub shape_of-sums : goal.shape_of-sums
-shape_of-sums c = c.loop-j.invariant.1
+    l.invariant.1 ∙ added_end c.args.sums.now c.args.row.now c.requires l.j (omega arith)

@@ -25,14 +25,14 @@ nothing (x ∷ out) vs e = absurd (omega arith)
 pub mean-requires : goal.mean-requires
 mean-requires c =
     let x = c.args in
-    let rows = c.lesser-rows in
+    let rows = c.min-rows in
     (fit rows.result (length x.out.now) (length x.vectors.now) (omega (arith, rows.ensures)), omega (arith, rows.ensures))
 
 pub returns : goal.returns
 returns c =
     let x = c.args in
     c.mean.ensures
-    ∙ ap (λ (n : ℕ). centroid_of binary32 (length x.out.now) (pieces (length x.out.now) n x.vectors.now)) c.lesser-rows.ensures
+    ∙ ap (λ (n : ℕ). centroid_of binary32 (length x.out.now) (pieces (length x.out.now) n x.vectors.now)) c.min-rows.ensures
 
 pub returns-then-dimension-eq0 : goal.returns-then-dimension-eq0
 returns-then-dimension-eq0 c = nothing c.args.out.now _ c.if-dimension-eq0.true

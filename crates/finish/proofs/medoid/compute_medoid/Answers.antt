@@ -42,11 +42,11 @@ returns-then-dimension-eq0 c =
 
 pub nearest_row-requires : goal.nearest_row-requires
 nearest_row-requires c =
-    let rows = c.lesser-rows in
+    let rows = c.min-rows in
     fit rows.result _ _ (omega (arith, rows.ensures))
 
 pub returns : goal.returns
 returns c =
     let x = c.args in
     let mean = c.centroid in
-    joined x.vectors.now x.centroid.now _ x.n c.lesser-rows.result _ mean.ensures mean.auto.out c.lesser-rows.ensures c.nearest_row.ensures
+    joined x.vectors.now x.centroid.now _ x.n c.min-rows.result _ mean.ensures mean.auto.out c.min-rows.ensures c.nearest_row.ensures

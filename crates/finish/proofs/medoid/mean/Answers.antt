@@ -1,11 +1,13 @@
 -- Zeros, the rows added, the sums divided: each step is the definition's, on a slice whose length stays. Assumes nothing.
-use mathlib.Core.Path.{◌≡◌, sym, ap, subst, ◌∙◌}
+use mathlib.Core.Path.{◌≡◌, refl, sym, ap, subst, ◌∙◌}
 use mathlib.Core.List.{List, map}
-use Prim.Native.Nat.{ℕ, ◌*◌, ◌^◌, ◌≤◌}
+use Prim.Native.Nat.{ℕ, ◌*◌, ◌^◌, ◌≤◌, ◌<◌}
 use lib.Dec.{le→leb}
 use lib.IntN.{pos}
-use lib.ListN.{length, replicate, length-replicate}
-use lib.Ieee.{Float, binary32, div, of_int, in_float}
+use native.Mathlib.Omega.{arith}
+use lib.ListN.{length, get_or, replicate, length-replicate}
+use lib.Ieee.{Float, nan, of_bits, binary32, div, of_int, in_float}
+use Rattle.std.proofs.lemmas.List.{same_lists, get_or_default, get_or-replicate}
 use Rattle.basics.specs.Lists.{pieces}
 use Rattle.basics.specs.Sum.{+zero}
 use Rattle.def_graph.specs.Centroid.{row_sums_from, centroid_of}
@@ -14,8 +16,7 @@ use Rattle.finish.proofs.medoid.mean.Goals as goal
 
 pub sum_rows-requires : goal.sum_rows-requires
 sum_rows-requires c =
-    subst (λ (d : ℕ). c.args.n * d ≤ length c.args.vectors.now)
-    (sym (ap length c.clear_floats.ensures ∙ length-replicate (length c.args.out.now) +zero)) c.requires.0
+    subst (λ (d : ℕ). c.args.n * d ≤ length c.args.vectors.now) (sym c.fill.ensures.len) c.requires.0
 
 pub int_to_float-n : goal.int_to_float-n
 unfolding in_float
@@ -35,10 +36,15 @@ joined vectors out cleared summed divided n a b c =
     ∙ ap (λ (k : ℕ). map (λ (x : Float). div binary32 x (of_int binary32 (pos k))) (row_sums_from binary32 (replicate (length out) +zero) (pieces (length out) n vectors)))
     (sym (length_pieces (length out) n vectors))
 
+zeros : (out cleared : List Float) → length cleared ≡ length out → ((k : ℕ) → k < length out → get_or cleared k nan ≡ +zero) → cleared ≡ replicate (length out) +zero
+zeros out cleared e z = same_lists cleared (replicate (length out) +zero) (e ∙ sym (length-replicate (length out) +zero))
+    (λ k d h. get_or_default cleared k d nan h ∙ z k (omega (arith, e)) ∙ sym (get_or-replicate (length out) k +zero d (omega (arith, e))))
+
 pub returns : goal.returns
+unfolding of_bits
 returns c =
     let x = c.args in
     joined x.vectors.now x.out.now _ _ _ x.n
-    c.clear_floats.ensures
+    (zeros x.out.now c.fill.new.self c.fill.ensures.len (λ k h. c.fill.ensures.clones k nan h refl))
     c.sum_rows.ensures
     c.divide.ensures

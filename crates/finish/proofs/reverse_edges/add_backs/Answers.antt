@@ -1,5 +1,4 @@
--- The invariant: the node has gone to the rows of its entries before e, and its own row is as it was. The measure is what is left of the row.
--- Assumes nothing.
+-- The node has gone to the rows of its entries before e, and its own row is as it was. Assumes nothing.
 use native.Mathlib.Omega.{arith}
 use mathlib.Core.Path.{refl, ap, ◌∙◌}
 use lib.ListN.{length}

@@ -1,39 +1,45 @@
 -- Each answer is one of three: a row that is full, one that has the node, one that takes it (proofs/Entry). Assumes nothing.
 use native.Mathlib.Omega.{arith}
-use mathlib.Core.Path.{◌≡◌, sym, ap, ◌∙◌}
-use mathlib.Core.List.{List}
+use mathlib.Core.Path.{◌≡◌, refl, sym, ap, ap₂, subst, ◌∙◌}
+use mathlib.Core.Bool.{Bool, ◌||◌}
+use mathlib.Core.List.{List, [], ◌∷◌}
 use Prim.Native.Nat.{ℕ, ◌+◌, ◌-◌}
-use lib.ListN.{get_or, take, drop, length-set}
-use mathlib.Core.Bool.{Bool}
+use lib.Dec.{eqb}
+use lib.ListN.{get_or, take, drop, set}
+use Rattle.std.proofs.Common.{rules}
+use Rattle.std.specs.List.{list_any}
 use Rattle.basics.specs.Nodes.{has}
+use Rattle.distance.proofs.vectors.Laws.{eqb-sym}
+use Rattle.finish.specs.Inside.Reversed.{EntryAdded}
 use Rattle.finish.proofs.reverse_edges.Entry.{entry_full, entry_had, entry_new}
 use Rattle.finish.proofs.reverse_edges.add_entry.Goals as goal
 
--- what the search says of the counted entries
-found : (node : ℕ) (ws : List ℕ) (r : Bool) → r ≡ has node (take (1 + get_or ws 0 0 - 1) (drop 1 ws)) → r ≡ has node (take (get_or ws 0 0) (drop 1 ws))
-found node ws r e = let k : 1 + get_or ws 0 0 - 1 ≡ get_or ws 0 0 = omega arith in e ∙ ap (λ (m : ℕ). has node (take m (drop 1 ws))) k
+any_has : (node : ℕ) (xs : List ℕ) → list_any (λ (y : ℕ). eqb y node) xs ≡ has node xs
+unfolding has
+any_has node [] = refl
+any_has node (x ∷ xs) = ap₂ (λ (a b : Bool). a || b) (eqb-sym x node) (any_has node xs)
 
-pub returns-then-has_node : goal.returns-then-has_node
-returns-then-has_node c =
+-- what the search says of the counted entries
+found : (node : ℕ) (ws : List ℕ) (count : ℕ) (r : Bool) → count ≡ get_or ws 0 0 → r ≡ list_any (λ (y : ℕ). eqb y node) (take (1 + count - 1) (drop 1 ws)) → has node (take (get_or ws 0 0) (drop 1 ws)) ≡ r
+found node ws count r c e =
+    let k : 1 + count - 1 ≡ get_or ws 0 0 = omega (arith, c) in
+    sym (e ∙ any_has node (take (1 + count - 1) (drop 1 ws)) ∙ ap (λ (m : ℕ). has node (take m (drop 1 ws))) k)
+
+pub returns-then-row-last : goal.returns-then-row-last
+returns-then-row-last c =
     let x = c.args in
-    entry_had x.node x.row.now (sym (found x.node x.row.now c.has_node.result c.has_node.ensures) ∙ c.if-has_node.true)
+    let is : c.in-Some.field-0.now ≡ get_or x.row.now 0 0 = search rules in
+    entry_full x.node x.row.now (omega (arith, is))
+
+pub returns-then-contains : goal.returns-then-contains
+returns-then-contains c =
+    let x = c.args in
+    let is : c.in-Some.field-0.now ≡ get_or x.row.now 0 0 = search rules in
+    entry_had x.node x.row.now (found x.node x.row.now _ _ is c.if-contains.ensures.value)
 
 pub returns : goal.returns
 returns c =
     let x = c.args in
-    entry_new x.node x.row.now (omega arith) (sym (found x.node x.row.now c.has_node.result c.has_node.ensures) ∙ c.if-has_node.false)
-
-pub returns-then-row-eq0 : goal.returns-then-row-eq0
-returns-then-row-eq0 c = entry_full _ _ (omega arith)
-
-pub overflow_cast-last : goal.overflow_cast-last
-overflow_cast-last c = omega (arith, c.slice_known-2-1.given 0)
-
-pub overflow_add-last : goal.overflow_add-last
-overflow_add-last c = omega (arith, c.slice_known-2-1.given 0)
-
-pub returns-then-row-last : goal.returns-then-row-last
-returns-then-row-last c = entry_full _ _ c.if-row-last.true
-
-pub bounds-row-0-2 : goal.bounds-row-0-2
-bounds-row-0-2 c = simp length-set (omega arith)
+    let is : get_or x.row.now 0 0 ≡ c.in-Some.field-0.now = sym (search rules) in
+    subst (λ (k : ℕ). EntryAdded x.node x.row.now (set (set x.row.now (1 + k) x.node) 0 (1 + k))) is
+    (entry_new x.node x.row.now (omega (arith, is)) (found x.node x.row.now _ _ (sym is) c.if-contains.ensures.value))

@@ -2,6 +2,7 @@
 -- every step within 64 bits. Assumes nothing.
 use mathlib.Core.Path.{◌≡◌, sym, ap, subst, ◌∙◌}
 use Prim.Native.Nat.{ℕ, ◌+◌, ◌-◌, ◌*◌, ◌/◌, ◌%◌, ◌^◌, ◌≤◌, ◌<◌}
+use native.Mathlib.Decide.{ℕ_discrete}
 use native.Mathlib.Omega.{arith}
 use lib.Pow.{shl_exact}
 use lib.Ieee.{binary32, of_bits}
@@ -10,18 +11,24 @@ use Rattle.norm.proofs.root.Law.{N-bounds, m_bounds, root_law}
 use Rattle.norm.proofs.root.root_bits.Goals as goal
 use Rattle.norm.proofs.root.root_bits.Goals.{After-whole_root}
 
-shifted : (q k : ℕ) → q < 2 ^ 24 → q * 2 ^ (24 - k % 2) % 2 ^ 64 ≡ q * 2 ^ (24 - k % 2)
-shifted q k h = shl_exact {a = q} 24 (24 - k % 2) 64 h (omega arith)
+halved : (q e : ℕ) → e < 2 → q * 2 ^ 24 / 2 ^ e ≡ q * 2 ^ (24 - e)
+halved q e h = elim (ℕ_discrete e 0) [
+  | yes z ↦ rw z (omega arith)
+  | no z ↦ let one : e ≡ 1 = omega arith in rw one (omega arith)
+]
+
+shifted : (q k : ℕ) → q < 2 ^ 24 → q * 2 ^ 24 % 2 ^ 64 / 2 ^ (k % 2) ≡ q * 2 ^ (24 - k % 2)
+shifted q k h = ap (λ (n : ℕ). n / 2 ^ (k % 2)) (shl_exact {a = q} 24 24 64 h (omega arith)) ∙ halved q (k % 2) (omega arith)
 
 -- four times the shifted number is below 2 ^ 50
-small : (q k : ℕ) → 2 ^ 23 ≤ q → q < 2 ^ 24 → 4 * (q * 2 ^ (24 - k % 2) % 2 ^ 64) < 2 ^ 50
+small : (q k : ℕ) → 2 ^ 23 ≤ q → q < 2 ^ 24 → 4 * (q * 2 ^ 24 % 2 ^ 64 / 2 ^ (k % 2)) < 2 ^ 50
 small q k l h = omega (arith, shifted q k h, (N-bounds q (k % 2) l h (omega arith)).1)
 
 -- what is known where the root of the whole number is
-root_is : (g q k : ℕ) → q < 2 ^ 24 → g ≡ isqrt (4 * (q * 2 ^ (24 - k % 2) % 2 ^ 64)) → (g + 1) / 2 ≡ nearest_root (q * 2 ^ (24 - k % 2))
+root_is : (g q k : ℕ) → q < 2 ^ 24 → g ≡ isqrt (4 * (q * 2 ^ 24 % 2 ^ 64 / 2 ^ (k % 2))) → (g + 1) / 2 ≡ nearest_root (q * 2 ^ (24 - k % 2))
 root_is g q k h e = ap (λ (n : ℕ). (n + 1) / 2) (e ∙ ap (λ (n : ℕ). isqrt (4 * n)) (shifted q k h))
 
-digits : (g q k : ℕ) → 2 ^ 23 ≤ q → q < 2 ^ 24 → g ≡ isqrt (4 * (q * 2 ^ (24 - k % 2) % 2 ^ 64)) → (g + 1) / 2 < 2 ^ 24
+digits : (g q k : ℕ) → 2 ^ 23 ≤ q → q < 2 ^ 24 → g ≡ isqrt (4 * (q * 2 ^ 24 % 2 ^ 64 / 2 ^ (k % 2))) → (g + 1) / 2 < 2 ^ 24
 digits g q k l h e =
     let n = N-bounds q (k % 2) l h (omega arith) in
     subst (λ (m : ℕ). m < 2 ^ 24) (sym (root_is g q k h e)) (m_bounds (q * 2 ^ (24 - k % 2)) n.0 n.1).1

@@ -1,10 +1,6 @@
--- `finite::add_to` meets its contract: the first k sums have their components. Assumes nothing.
-use Prim.Native.Nat.{◌-◌}
+-- The first k sums have their components.
 use Rattle.params.proofs.finite.Sums.{Adding}
 use Rattle.params.proofs.finite.add_to.Given as goal
 
 abbrev pub invariant-loop-k : goal.invariant-loop-k
-invariant-loop-k l = Adding l.initial.sums l.initial.components l.sums l.k
-
-abbrev pub decreases-loop-k : goal.decreases-loop-k
-decreases-loop-k l = 32 - l.k
+invariant-loop-k l = Adding l.initial.sums l.components l.sums l.k

@@ -1,40 +1,36 @@
--- `finite::sums_finite` meets its contract: after j turns, a sum that is finite is of finite components. Assumes nothing.
-use mathlib.Core.Path.{sym, ◌∙◌}
-use Prim.Native.Nat.{◌+◌, ◌-◌, ◌*◌, ◌/◌}
+-- `finite::sums_finite` meets its contract: finite sums, and a finite rest, are of finite components. Assumes nothing.
 use native.Mathlib.Omega.{arith}
-use lib.ListN.{length, drop, length-replicate, length-drop}
-use lib.Seq.{length-take-le}
+use mathlib.Core.Path.{◌≡◌, refl, sym, ap, subst, ◌∙◌}
+use mathlib.Core.Bool.{true}
+use mathlib.Core.List.{List}
 use lib.Ieee.{Float}
-use Rattle.basics.specs.Sum.{+zero}
+use Rattle.std.specs.Slice.Iter.{chunks_exact_rest, chunks_exact_size}
+use Rattle.std.specs.declared.slice.ChunksExact.{ChunksExact}
+use lib.Ieee.Scale.{finite}
+use Rattle.basics.specs.Lists.{every}
 use Rattle.basics.proofs.Tests.{both_true}
-use Rattle.params.proofs.finite.Sums.{summed_none, summed_more, summed_all}
+use Rattle.params.proofs.finite.Sums.{Gathered, gathered_none, gathered_more, gathered_all}
 use Rattle.params.proofs.finite.sums_finite.Goals as goal
 
-pub add_to-requires : goal.add_to-requires
-add_to-requires c =
-    let v = c.args.v.now in
-    let l = c.loop-j in
-    let t = c.loop-j-test.true in
-    (l.invariant.1.long, length-take-le (l.j * 32 + 32 - l.j * 32) (drop (l.j * 32) v) (omega (arith, length-drop (l.j * 32) v)) ∙ omega arith)
+pub loop-chunk-init : goal.loop-chunk-init
+loop-chunk-init c =
+    let e = c.into_iter-chunk-iterator.ensures.into_iter_gives in (
+      ap (λ (s : ChunksExact Float). chunks_exact_size s) e ∙ c.chunks_exact-chunks.ensures.size,
+      subst (λ (xs : List Float). Gathered c.args.v.now _ xs) (sym (ap (λ (s : ChunksExact Float). chunks_exact_rest s) e ∙ c.chunks_exact-chunks.ensures.rest)) (gathered_none c.args.v.now _ refl),
+    )
 
-pub loop-j-preserved : goal.loop-j-preserved
-loop-j-preserved c =
-    let v = c.args.v.now in
-    let l = c.loop-j in
-    let added = c.add_to in
-    (omega (arith, c.loop-j-test.true), summed_more v l.sums added.new.sums l.j (l.j * 32 + 32 - l.j * 32) (omega arith) l.invariant.1 added.auto.sums added.ensures)
+pub loop-chunk-preserved : goal.loop-chunk-preserved
+loop-chunk-preserved c =
+    let s = c.in-Some.ensures.steps in
+    let l = c.loop-chunk in
+    (s.0 ∙ l.invariant.0, gathered_more _ l.sums _ _ _ _ l.invariant.1 s.1.0 (s.1.1 ∙ l.invariant.0) c.add_to.array_long c.add_to.ensures)
 
 pub returns : goal.returns
 returns c =
-    let v = c.args.v.now in
-    let l = c.loop-j in
-    let sum = c.sum_of in
-    let of-sum = c.is_finite in
-    let of-rest = c.each_finite in
+    let s = c.in-None.ensures.steps in
+    let l = c.loop-chunk in
     λ t.
-    let both = both_true of-sum.result of-rest.result t in
-    summed_all v l.sums (length v / 32) l.j (length v - length v / 32 * 32) (omega (arith, c.loop-j-test.false)) (omega arith) l.invariant.1
-    (sum.ensures (sym of-sum.ensures ∙ both.0)) (sym of-rest.ensures ∙ both.1)
-
-pub loop-j-init : goal.loop-j-init
-loop-j-init c = (omega arith, summed_none c.args.v.now _ (length-replicate {A = Float} 32 +zero))
+    let both = both_true c.is_finite.result c.each_finite.result t in
+    let rest = c.remainder-rest.ensures ∙ c.chunks_exact-chunks.ensures.remainder in
+    gathered_all c.args.v.now l.sums _ l.invariant.1 (omega (arith, s.1.0, l.invariant.0)) (c.sum_of.ensures (sym c.is_finite.ensures ∙ both.0))
+    (subst (λ (xs : List Float). every finite xs ≡ true) rest (sym c.each_finite.ensures ∙ both.1))

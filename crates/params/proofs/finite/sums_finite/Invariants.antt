@@ -1,10 +1,8 @@
--- `finite::sums_finite` meets its contract: after j turns, a sum that is finite is of finite components. Assumes nothing.
-use Prim.Native.Nat.{◌-◌, ◌≤◌}
-use Rattle.params.proofs.finite.Sums.{Summed}
+-- Finite sums, and a finite rest, are of finite components.
+use mathlib.Core.Path.{◌≡◌}
+use Rattle.std.specs.Slice.Iter.{chunks_exact_rest, chunks_exact_size}
+use Rattle.params.proofs.finite.Sums.{Gathered}
 use Rattle.params.proofs.finite.sums_finite.Given as goal
 
-abbrev pub invariant-loop-j : goal.invariant-loop-j
-invariant-loop-j l = (l.j ≤ l.initial.turns) × Summed l.initial.v l.sums l.j
-
-abbrev pub decreases-loop-j : goal.decreases-loop-j
-decreases-loop-j l = l.initial.turns - l.j
+abbrev pub invariant-loop-chunk : goal.invariant-loop-chunk
+invariant-loop-chunk l = (chunks_exact_size l.chunk-iterator ≡ 32) × Gathered l.v l.sums (chunks_exact_rest l.chunk-iterator)
