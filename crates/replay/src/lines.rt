@@ -41,6 +41,11 @@ impl<'a> Line<'a> {
         Tokens::starting_at(self.tokens, at)
     }
 
+    // How many tokens the question has.
+    pub fn asked(&self) -> usize {
+        self.asked
+    }
+
     pub fn question(&self) -> Tokens<'a> {
         self.tokens_at(0)
     }

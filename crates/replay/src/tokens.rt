@@ -121,6 +121,11 @@ impl<'a> Tokens<'a> {
         xs.iter().all(|x| self.is(*x))
     }
 
+    // The tokens that are not read yet.
+    pub fn rest(&self) -> &'a [u64] {
+        self.all.get(self.at..).unwrap_or(&[])
+    }
+
     // Whether just the last token was read.
     pub fn is_at_end(&self) -> bool {
         self.at == self.all.len()
