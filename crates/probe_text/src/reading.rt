@@ -1,6 +1,4 @@
 // What a line is: a key, `=`, and what its key asks for, to the line's end.
-ghost use Rattle.std.specs.Prelude.{◌≤◌, length};
-
 use replay::tokens;
 use words::bits;
 use words::ids::DocId;
@@ -60,20 +58,7 @@ pub enum Read<'a> {
 
 // The decimal number that a text is, if it is one below 2^32.
 fn decimal(text: &[u8]) -> Option<u32> {
-    if text.is_empty() {
-        return None;
-    }
-    let mut value: u64 = 0;
-    for b in text {
-        if !b.is_ascii_digit() {
-            return None;
-        }
-        value = value * 10 + u64::from(*b - b'0');
-        if value > 0xffff_ffff {
-            return None;
-        }
-    }
-    Some(value as u32)
+    u32::try_from(replay::decimal(text)?).ok()
 }
 
 // The number of this many hexadecimal digits that a text is.

@@ -50,6 +50,21 @@ pub fn without_end(line: &[u8]) -> &[u8]
     line.strip_suffix(b"\n").unwrap_or(line)
 }
 
+// The decimal number that a text is, if it is one below 2^64.
+pub fn decimal(text: &[u8]) -> Option<u64> {
+    if text.is_empty() {
+        return None;
+    }
+    let mut value: u64 = 0;
+    for b in text {
+        if !b.is_ascii_digit() {
+            return None;
+        }
+        value = value.checked_mul(10)?.checked_add(u64::from(*b - b'0'))?;
+    }
+    Some(value)
+}
+
 // The first n, or all if there are fewer.
 pub fn front<T>(xs: &[T], n: usize) -> &[T]
     ensures { result.now ≡ take n xs.now }
