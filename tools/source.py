@@ -378,14 +378,14 @@ def read_rust(file):
             read_use(file, tokens(use[2]))
         else:
             read_rust_use(file, use[2])
-    impls = [(m.start(), block_end(text, text.index("{", m.end())), m[1]) for m in re.finditer(r"(?m)^impl\s+(\w+)", text)]
+    owners = [(m.start(), block_end(text, m.end() - 1), owner_of(m[1])) for m in re.finditer(r"(?m)^(?:pub\s+)?((?:impl|trait)\b[^{;]*)\{", text)]
     position = 0
     while True:
         found = OPENING.search(text, position)
         if not found:
             return
         kind, name, start = found[3], found[4], found.start(1)
-        owner = next((x for a, b, x in impls if a <= found.start() < b), None)
+        owner = next((x for a, b, x in owners if a <= found.start() < b), None)
         line = text.count("\n", 0, start) + 1
         declaration = Declaration(file, f"{owner}.{name}" if owner else name, kind, line, found[2].startswith("pub"))
         if kind == "fn":
@@ -415,9 +415,28 @@ CLAUSE = re.compile(r"\s*(requires|ensures|decreases|measure)\b[^{]*")
 RESULT = re.compile(r"\s*->\s*[^{;]*?(?=\s*(?:[{;]|\b(?:requires|ensures|decreases|measure)\b))")
 
 
+def past_generics(text, at):
+    """The index after the <..> that stands at `at`, if one does."""
+    depth = 0
+    for i in range(at, len(text)):
+        depth += (text[i] == "<") - (text[i] == ">" and text[i - 1] != "-")
+        if depth == 0:
+            return i + 1 if text[i] == ">" else i
+
+
+def owner_of(head):
+    """What the functions of an impl or a trait are called by: the type or the trait; of a trait's impl the type and the trait, as proofs name it."""
+    rest = re.sub(r"^(impl|trait)\s*", "", head)
+    rest = re.sub(r"'\w+|\bwhere\b.*", "", rest[past_generics(rest, 0):], flags=re.S)
+    of_trait, _, of_type = rest.rpartition(" for ")
+    first, *others = [re.findall(r"\w+(?:::\w+)*", text) for text in (of_type, of_trait)]
+    words = [path.split("::")[-1] for path in first[:1] + others[0]]
+    return "".join(word[0].upper() + word[1:] for word in words)
+
+
 def function_parts(text, at):
     """Where the contract of a function begins, whose name ends at `at`; where the body begins; and where that ends."""
-    at = block_end(text, text.index("(", at))
+    at = block_end(text, text.index("(", past_generics(text, at)))
     result = RESULT.match(text, at)
     at = contract = result.end() if result else at
     while clause := CLAUSE.match(text, at):

@@ -1,169 +1,144 @@
 // The recorded leaves of vectors (recorded/README.md): the lines that ask for them.
-//
-// Each function whose name ends in `_is_same` is for one kind of line, which is shown above it: it computes
-// the leaves by `carving` and says whether they are the recorded ones. The tokens are those of the line and no
-// more, so that an answer can be compared to its end. All are proved safe on lines of any content, and nothing
-// more.
-use words::bits;
+ghost use Rattle.std.specs.Prelude.{◌≤◌, length};
 
-// The leaves of vectors, as the question's first five tokens ask for them, in words of which 64 a node are
-// passed in. Answers how many leaves hold a node. Their nodes stand at the front, leaf after leaf, their
-// sizes at `sizes_at`.
-fn carve(tokens: &[u64], vectors: &[f32], words: &mut [u32]) -> usize {
-    let n = replay::word(tokens, 0, 4);
-    let w = replay::lesser(64 * (n as usize), words.len());
-    carving::partition(
-        vectors,
-        replay::word(tokens, 0, 0),
-        n,
-        replay::word(tokens, 0, 1),
-        replay::word(tokens, 0, 2),
-        bits::f64_from(replay::token(tokens, 0, 3)),
-        &mut words[..w],
-    ) as usize
-}
+use histories::vectors::Vectors;
+use replay::lines::Line;
+use replay::tokens::{Token, Tokens};
 
-fn sizes_at(tokens: &[u64]) -> usize {
-    2 * (replay::word(tokens, 0, 4) as usize)
-}
-
-// How far the recorded leaves were compared: the next token of the answer, the next node and the next leaf
-// that were found, and whether all were the same.
+// What a question's first five tokens, DIM LEAF MIN FRACTION N, say.
 #[derive(Clone, Copy)]
-struct Compared {
-    token: usize,
-    node: usize,
-    leaf: usize,
-    same: bool,
+struct Asked {
+    dimension: Token,
+    max_leaf_size: u32,
+    min_leaf_size: u32,
+    leader_fraction: f64,
+    count: Token,
 }
 
-// Compares a recorded leaf. One that holds no node is not among those found.
-fn compare_leaf(
-    tokens: &[u64],
-    asked: usize,
-    words: &[u32],
-    sizes: usize,
-    c: Compared,
-) -> Compared {
-    let size = replay::size(tokens, asked, c.token);
-    let first = std::num::wrapping_add_usize(c.token, 1);
-    if size == 0 {
-        return Compared {
-            token: first,
-            node: c.node,
-            leaf: c.leaf,
-            same: c.same,
+impl Asked {
+    fn read(question: &mut Tokens<'_>) -> Asked {
+        Asked {
+            dimension: question.token(),
+            max_leaf_size: question.read(),
+            min_leaf_size: question.read(),
+            leader_fraction: question.read(),
+            count: question.token(),
+        }
+    }
+}
+
+// The leaves that hold a node: their nodes, leaf after leaf, and their sizes.
+#[derive(Clone, Copy)]
+struct Leaves<'a> {
+    nodes: &'a [u32],
+    sizes: &'a [u32],
+}
+
+// The leaves of vectors, carved in words of which 64 a node are passed in.
+fn carve<'a>(asked: &Asked, vectors: &[f32], words: &'a mut [u32]) -> Leaves<'a> {
+    let n = u32::from(asked.count);
+    let lent = words.len().min(64 * (n as usize));
+    let found = carving::partition(
+        vectors,
+        u32::from(asked.dimension),
+        n,
+        asked.max_leaf_size,
+        asked.min_leaf_size,
+        asked.leader_fraction,
+        &mut words[..lent],
+    );
+    let sizes = words.get(carving::SIZES_AT * (n as usize)..).unwrap_or(&[]);
+    Leaves {
+        nodes: words,
+        sizes: replay::front(sizes, found as usize),
+    }
+}
+
+// Whether the leaves of an answer are those found. A recorded leaf that holds no node is not among them.
+fn leaves_are_same(mut answer: Tokens<'_>, found: Leaves<'_>) -> bool {
+    let mut nodes = found.nodes;
+    let mut sizes = found.sizes;
+    for _ in 0..answer.read::<u64>() {
+        if answer.rest().is_empty() {
+            return false;
+        }
+        let size: usize = answer.read();
+        if size == 0 {
+            continue;
+        }
+        let Some((found_size, more_sizes)) = sizes.split_first() else {
+            return false;
         };
+        let Some((leaf, more_nodes)) = nodes.split_at_checked(size) else {
+            return false;
+        };
+        if *found_size as usize != size || !answer.are(leaf) {
+            return false;
+        }
+        sizes = more_sizes;
+        nodes = more_nodes;
     }
-    let found = store::word_at(words, std::num::wrapping_add_usize(sizes, c.leaf)) as usize;
-    let from = std::num::wrapping_add_usize(asked, first);
-    let nodes = histories::part_is_same(tokens, from, words, c.node, size);
-    Compared {
-        token: std::num::wrapping_add_usize(first, size),
-        node: std::num::wrapping_add_usize(c.node, size),
-        leaf: std::num::wrapping_add_usize(c.leaf, 1),
-        same: c.same & (found == size) & nodes,
-    }
-}
-
-// Compares all leaves of an answer. Each has a token at least.
-fn leaves_are_same(tokens: &[u64], asked: usize, words: &[u32], found: usize) -> bool {
-    let sizes = sizes_at(tokens);
-    let count = replay::lesser(replay::size(tokens, asked, 0), tokens.len());
-    let mut c = Compared {
-        token: 1,
-        node: 0,
-        leaf: 0,
-        same: true,
-    };
-    let mut i: usize = 0;
-    while i < count {
-        c = compare_leaf(tokens, asked, words, sizes, c);
-        i += 1;
-    }
-    let end = std::num::wrapping_add_usize(asked, c.token);
-    c.same & (c.leaf == found) & (end == tokens.len())
-}
-
-// How many of a question's tokens come after the first five.
-fn after_five(asked: usize) -> usize {
-    if asked < 5 { 0 } else { asked - 5 }
+    sizes.is_empty() && answer.is_at_end()
 }
 
 // leaves DIM LEAF MIN FRACTION N v.. = COUNT (size node..)..
-pub fn leaves_is_same(tokens: &[u64], asked: usize, vector: &mut [f32]) -> bool {
-    let given = replay::floats(tokens, 5, after_five(asked), vector);
-    let mut words = histories::scratch_words();
-    let found = carve(tokens, replay::front(vector, given), &mut words);
-    leaves_are_same(tokens, asked, &words, found)
+pub fn leaves_is_same(line: Line<'_>, room: &mut [f32]) -> bool {
+    let mut question = line.question();
+    let asked = Asked::read(&mut question);
+    let vectors = question.read_into(line.asked().saturating_sub(5), room);
+    let mut words = histories::patterns::scattered::<u32, 65536>();
+    let found = carve(&asked, vectors, &mut words);
+    leaves_are_same(line.answer(), found)
 }
 
 // Generates this many vectors, as far as there is room, and answers how many floats they have.
-fn generate_all(vectors: &mut [f32], dimension: usize, count: u64, seed: u64, style: u64) -> usize {
-    let mut r = seed;
+fn generate_all(room: &mut [f32], dimension: usize, count: u64, mut vectors: Vectors) -> usize
+    ensures { result ≤ length room.new }
+{
     let mut at: usize = 0;
-    let mut i: u64 = 0;
-    while i < count {
-        if vectors.len() - at < dimension {
+    'all: for _ in 0..count {
+        if room.len() - at < dimension {
             return at;
         }
         let end = at + dimension;
-        r = histories::generate(&mut vectors[at..end], seed, style, i, r);
+        vectors.next_into(&mut room[at..end]);
         at = end;
-        i += 1;
     }
     at
 }
 
-// A checksum with n more words, from word `at` on.
-fn sum_part(before: u64, words: &[u32], at: usize, n: usize) -> u64 {
-    if words.len() < at {
-        return before;
-    }
-    let rest = &words[at..];
-    histories::sum_words(before, replay::front_words(rest, n))
-}
-
 // The checksum of leaves: each one's size, then its nodes.
-fn sum_leaves(words: &[u32], sizes: usize, count: usize) -> u64 {
+fn sum_leaves(leaves: Leaves<'_>) -> u64 {
     let mut sum: u64 = 0;
-    let mut node: usize = 0;
-    let mut leaf: usize = 0;
-    while leaf < count {
-        let size = store::word_at(words, std::num::wrapping_add_usize(sizes, leaf));
-        sum = sum_part(histories::sum_on(sum, size), words, node, size as usize);
-        node = std::num::wrapping_add_usize(node, size as usize);
-        leaf += 1;
+    let mut nodes = leaves.nodes;
+    for size in leaves.sizes {
+        let (leaf, more) = nodes.split_at(nodes.len().min(*size as usize));
+        sum = histories::sum_words(histories::sum_on(sum, *size), leaf);
+        nodes = more;
     }
     sum
 }
 
-// What came of a line of leaves that are recorded by their checksum.
-#[derive(Clone, Copy)]
-pub enum Outcome {
-    Same,
-    Differs,
-    NotCompared,
-}
-
 // leavesof DIM LEAF MIN FRACTION N SEED STYLE = COUNT checksum
 // The checksum takes leaves without a node too, wherever they stand. Where there are any, the answer counts
-// more leaves than are found, and cannot be compared.
-pub fn leavesof_is_same(tokens: &[u64], asked: usize, vector: &mut [f32]) -> Outcome {
-    let dimension = replay::size(tokens, 0, 0);
-    let count = replay::token(tokens, 0, 4);
-    let seed = replay::token(tokens, 0, 5);
-    let style = replay::token(tokens, 0, 6);
-    let given = generate_all(vector, dimension, count, seed, style);
-    let mut words = histories::scratch_words();
-    let found = carve(tokens, replay::front(vector, given), &mut words);
-    let recorded = replay::size(tokens, asked, 0);
-    if found < recorded {
-        return Outcome::NotCompared;
+// more leaves than are found, and cannot be compared: `None`.
+pub fn leavesof_is_same(line: Line<'_>, room: &mut [f32]) -> Option<bool> {
+    let mut question = line.question();
+    let asked = Asked::read(&mut question);
+    let vectors = Vectors::asked(&mut question);
+    let given = generate_all(
+        room,
+        usize::from(asked.dimension),
+        u64::from(asked.count),
+        vectors,
+    );
+    let mut words = histories::patterns::scattered::<u32, 65536>();
+    let found = carve(&asked, &room[..given], &mut words);
+    let mut answer = line.answer();
+    let recorded: usize = answer.read();
+    let count = found.sizes.len();
+    if count < recorded {
+        return None;
     }
-    let sum = sum_leaves(&words, sizes_at(tokens), found);
-    if (found == recorded) & (sum == replay::token(tokens, asked, 1)) {
-        return Outcome::Same;
-    }
-    Outcome::Differs
+    Some(count == recorded && answer.is(sum_leaves(found)))
 }

@@ -1,15 +1,16 @@
 -- What a turn of each loop does: a sighting is gathered or passed over, a number is counted or stands again further on, a number is looked for.
 -- Assumes nothing.
-use mathlib.Core.Path.{◌≡◌, sym, ap, ◌∙◌}
+use mathlib.Core.Path.{◌≡◌, refl, sym, ap, ◌∙◌}
 use mathlib.Core.Bool.{Bool, true, false, not, ◌||◌, or_assoc, or-false}
-use mathlib.Core.List.{List, ◌∷◌, ◌++◌, append-nil}
-use Prim.Native.Nat.{ℕ, suc, ◌+◌, ◌-◌, ◌≤◌, ◌<◌}
+use mathlib.Core.List.{List, [], ◌∷◌, ◌++◌, append-nil}
+use mathlib.Core.Logic.{◌⊎◌, inl, inr}
+use Prim.Native.Nat.{ℕ, ◌+◌, ◌≤◌, ◌<◌}
 use native.Mathlib.Nat.{add-zero}
 use native.Mathlib.Numerals.{add-one}
 use native.Mathlib.Omega.{arith}
 use lib.Dec.{eqb}
-use lib.ListN.{length, get_or, take, drop, set, length-drop, drop_of_length-le}
-use lib.Seq.{drop-cons, append_snoc, take_all, take-set-le, take-suc-set}
+use lib.ListN.{length, get_or, take, drop, set, drop_of_length-le}
+use lib.Seq.{drop-cons, append_snoc, take-set-le, take-suc-set}
 use mir.Val.{bool_byte}
 use Rattle.basics.specs.Choice.{pick}
 use Rattle.basics.specs.Nodes.{has}
@@ -20,55 +21,48 @@ pub at_most_one : (b : Bool) → bool_byte b ≤ 1
 at_most_one true = omega arith
 at_most_one false = omega arith
 
--- ---- gathering: what is gathered, then the doc ids of the sightings from i on, are those of all
+-- ---- gathering: what is gathered, then the doc ids of the sightings that are left, are those of all
 
-module _ (day : ℕ) (seconds docs : List ℕ) where
-  on_from : (i : ℕ) → i < length seconds → i < length docs
-      → docs_on day (drop i seconds) (drop i docs)
-      ≡ pick (eqb (day_of (get_or seconds i 0)) day) (get_or docs i 0 ∷ docs_on day (drop (i + 1) seconds) (drop (i + 1) docs)) (docs_on day (drop (i + 1) seconds) (drop (i + 1) docs))
-  unfolding docs_on
-  on_from i h k = rw (drop-cons seconds i 0, drop-cons docs i 0, add-one i)
+stored : (b : Bool) (today rest : List ℕ) (n doc : ℕ) → n < length today
+    → take (n + bool_byte b) (set today n doc) ++ rest ≡ take n today ++ pick b (doc ∷ rest) rest
+unfolding pick
+stored true today rest n doc h = ap (λ (k : ℕ). take k (set today n doc) ++ rest) (add-one n) ∙ ap (λ (l : List ℕ). l ++ rest) (take-suc-set today n doc h) ∙ append_snoc (take n today) doc rest
+stored false today rest n doc h = ap (λ (k : ℕ). take k (set today n doc) ++ rest) (add-zero n) ∙ ap (λ (l : List ℕ). l ++ rest) (take-set-le n today n doc (omega arith))
 
-  stored : (b : Bool) (today rest : List ℕ) (n doc : ℕ) → n < length today
-      → take (n + bool_byte b) (set today n doc) ++ rest ≡ take n today ++ pick b (doc ∷ rest) rest
-  unfolding pick
-  stored true today rest n doc h = ap (λ (k : ℕ). take k (set today n doc) ++ rest) (add-one n) ∙ ap (λ (l : List ℕ). l ++ rest) (take-suc-set today n doc h) ∙ append_snoc (take n today) doc rest
-  stored false today rest n doc h = ap (λ (k : ℕ). take k (set today n doc) ++ rest) (add-zero n) ∙ ap (λ (l : List ℕ). l ++ rest) (take-set-le n today n doc (omega arith))
+pub gather_step : (day second doc its more n : ℕ) (today ss ds seconds docs all : List ℕ) → n < length today → its ≡ day_of second → more ≡ bool_byte (eqb its day)
+    → ss ≡ second ∷ seconds → ds ≡ doc ∷ docs → take n today ++ docs_on day ss ds ≡ all → take (n + more) (set today n doc) ++ docs_on day seconds docs ≡ all
+unfolding docs_on
+gather_step day second doc its more n today ss ds seconds docs all h q m s d e =
+    let here : pick (eqb its day) (doc ∷ docs_on day seconds docs) (docs_on day seconds docs) ≡ docs_on day ss ds = rw (q, s, d) in
+    ap (λ (k : ℕ). take (n + k) (set today n doc) ++ docs_on day seconds docs) m
+    ∙ stored (eqb its day) today (docs_on day seconds docs) n doc h ∙ ap (λ (r : List ℕ). take n today ++ r) here ∙ e
 
-  pub gather_step : (today all : List ℕ) (n i its : ℕ) → n < length today → i < length seconds → i < length docs → its ≡ day_of (get_or seconds i 0)
-      → take n today ++ docs_on day (drop i seconds) (drop i docs) ≡ all
-      → take (n + bool_byte (eqb its day)) (set today n (get_or docs i 0)) ++ docs_on day (drop (i + 1) seconds) (drop (i + 1) docs) ≡ all
-  gather_step today all n i its h k l q e =
-      stored (eqb its day) today (docs_on day (drop (i + 1) seconds) (drop (i + 1) docs)) n (get_or docs i 0) h
-      ∙ ap (λ (r : List ℕ). take n today ++ r) (rw q (sym (on_from i k l))) ∙ e
+none_left : (day : ℕ) (seconds docs : List ℕ) → (length seconds ≡ 0) ⊎ (length docs ≡ 0) → docs_on day seconds docs ≡ []
+unfolding docs_on
+none_left day [] docs h = refl
+none_left day (s ∷ seconds) [] h = refl
+none_left day (s ∷ seconds) (d ∷ docs) (inl h) = absurd (omega (arith, h))
+none_left day (s ∷ seconds) (d ∷ docs) (inr h) = absurd (omega (arith, h))
 
-  pub gather_end : (front all : List ℕ) (i : ℕ) → length seconds ≤ i → front ++ docs_on day (drop i seconds) (drop i docs) ≡ all → front ≡ all
-  unfolding docs_on
-  gather_end front all i h e = sym (append-nil front) ∙ (rw (drop_of_length-le seconds h) at e)
+pub gather_end : (day : ℕ) (front seconds docs all : List ℕ) → (length seconds ≡ 0) ⊎ (length docs ≡ 0) → front ++ docs_on day seconds docs ≡ all → front ≡ all
+gather_end day front seconds docs all h e = sym (append-nil front) ∙ (rw (none_left day seconds docs h) at e)
 
--- ---- counting: the count, and what the numbers from i on add to it, are the whole
+-- ---- counting: what the first of the numbers that are left adds to the count
 
 counted : (b : Bool) (x : ℕ) (rest : List ℕ) → length (pick b rest (x ∷ rest)) ≡ bool_byte (not b) + length rest
 unfolding pick
 counted true x rest = omega arith
 counted false x rest = omega arith
 
-count_one : (xs : List ℕ) (i : ℕ) → i < length xs
-    → length (different (drop i xs)) ≡ bool_byte (not (has (get_or xs i 0) (drop (i + 1) xs))) + length (different (drop (i + 1) xs))
+pub count_one : (x : ℕ) (rest others : List ℕ) (again : Bool) → rest ≡ x ∷ others → again ≡ has x others
+    → length (different rest) ≡ bool_byte (not again) + length (different others)
 unfolding different
-count_one xs i h = rw (drop-cons xs i 0, add-one i) (counted (has (get_or xs i 0) (drop (suc i) xs)) (get_or xs i 0) (different (drop (suc i) xs)))
+count_one x rest others again s e = rw (s, e) (counted (has x others) x (different others))
 
--- what comes further on is the part that the code passes on
-pub count_step : (xs : List ℕ) (i : ℕ) (again : Bool) → i < length xs → again ≡ has (get_or xs i 0) (take (length xs - (i + 1)) (drop (i + 1) xs))
-    → length (different (drop i xs)) ≡ bool_byte (not again) + length (different (drop (i + 1) xs))
-count_step xs i again h e =
-    count_one xs i h
-    ∙ ap (λ (b : Bool). bool_byte (not b) + length (different (drop (i + 1) xs)))
-    (ap (has (get_or xs i 0)) (sym (take_all (length xs - (i + 1)) (drop (i + 1) xs) (omega (arith, length-drop (i + 1) xs)))) ∙ sym e)
-
-pub count_end : (xs : List ℕ) (i : ℕ) → length xs ≤ i → length (different (drop i xs)) ≡ 0
+pub none_different : (xs : List ℕ) → length xs ≡ 0 → length (different xs) ≡ 0
 unfolding different
-count_end xs i h = rw (drop_of_length-le xs h)
+none_different [] h = refl
+none_different (x ∷ xs) h = absurd (omega (arith, h))
 
 -- ---- looking for a number: found so far, or from i on
 

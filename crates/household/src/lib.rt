@@ -47,12 +47,10 @@ fn gather(day: u64, seconds: &[u64], docs: &[u32], today: &mut [u32]) -> usize
     ensures { (take result today.new ≡ docs_on day seconds.now docs.now)
         × (result ≤ length docs.now) × (length today.new ≡ length today.old) }
 {
-    let mut sighted: usize = 0;
-    let mut i: usize = 0;
-    while i < docs.len() {
-        today[sighted] = docs[i];
-        sighted += (day_of(seconds[i]) == day) as usize;
-        i += 1;
+    let mut sighted = 0;
+    for (second, doc) in seconds.iter().zip(docs) {
+        today[sighted] = *doc;
+        sighted += usize::from(day_of(*second) == day);
     }
     sighted
 }
@@ -61,12 +59,11 @@ fn gather(day: u64, seconds: &[u64], docs: &[u32], today: &mut [u32]) -> usize
 fn count_different(docs: &[u32]) -> usize
     ensures { result ≡ length (different docs.now) }
 {
-    let mut count: usize = 0;
-    let mut i: usize = 0;
-    while i < docs.len() {
-        let doc = docs[i];
-        i += 1;
-        count += (!occurs(doc, &docs[i..])) as usize;
+    let mut count = 0;
+    let mut rest = docs;
+    while let Some((doc, others)) = rest.split_first() {
+        count += usize::from(!occurs(*doc, others));
+        rest = others;
     }
     count
 }
@@ -76,10 +73,8 @@ fn occurs(doc: u32, docs: &[u32]) -> bool
     ensures { result ≡ has doc docs.now }
 {
     let mut found = false;
-    let mut i: usize = 0;
-    while i < docs.len() {
-        found = found | (doc == docs[i]);
-        i += 1;
+    for other in docs {
+        found = found | (doc == *other);
     }
     found
 }

@@ -1,130 +1,94 @@
 // The recorded cases of recognising (recorded/README.md): the call within a history, the score of a distance,
 // the answer at a distance, and the household count.
 //
-// Each function whose name ends in `_is_same` and that takes a line's tokens alone, or with the stores, is for
-// one kind of line, which is shown above it: it computes the answer by this project's calls and says whether
-// it is the recorded one, to its end. All are proved safe on lines and stores of any content, and nothing
-// more.
+// Each function whose name ends in `_is_same` and that takes a line, alone or with the stores, is for one kind
+// of line, which is shown above it: it computes the answer by this project's calls and says whether it is the
+// recorded one, to its end. A line's tokens are its own and no more. All are proved safe on lines and stores of
+// any content, and nothing more.
 #![tactic(auto)]
 
-use histories::History;
+use histories::Stores;
+use histories::patterns::Scratch;
 use household::Household;
 use recognise::score;
 use recognise::score::Recognised;
+use replay::lines::Line;
+use replay::tokens::Tokens;
 use words::ids::DocId;
 
-// Whether an answer of `count` tokens, from `from` on, ends the line.
-fn ends(tokens: &[u64], from: usize, count: usize) -> bool {
-    std::num::wrapping_add_usize(from, count) == tokens.len()
-}
-
 // score d = s
-pub fn score_is_same(tokens: &[u64], asked: usize) -> bool {
-    let sure = score::score(replay::float(tokens, 0, 0));
-    (sure == replay::word(tokens, asked, 0)) & ends(tokens, asked, 1)
+pub fn score_is_same(line: Line<'_>) -> bool {
+    let mut answer = line.answer();
+    answer.is(score::score(line.question().read())) && answer.is_at_end()
 }
 
 // Known is 1, the doc id, the score; New is 0, the score.
-fn decided_is_same(tokens: &[u64], from: usize, r: Recognised) -> bool {
-    match r {
-        Recognised::Known(doc, sure) => {
-            (replay::word(tokens, from, 0) == 1)
-                & (doc.0 == replay::word(tokens, from, 1))
-                & (sure == replay::word(tokens, from, 2))
-                & ends(tokens, from, 3)
-        }
-        Recognised::New(sure) => {
-            (replay::word(tokens, from, 0) == 0)
-                & (sure == replay::word(tokens, from, 1))
-                & ends(tokens, from, 2)
-        }
+fn decided_is_same(mut answer: Tokens<'_>, decided: Recognised) -> bool {
+    let same = match decided {
+        Recognised::Known(doc, sure) => answer.is(1u32) && answer.is(doc.0) && answer.is(sure),
+        Recognised::New(sure) => answer.is(0u32) && answer.is(sure),
         Recognised::Refused(_) => false,
-    }
+    };
+    same && answer.is_at_end()
 }
 
 // decide DOC d limit = known doc score
-pub fn decide_is_same(tokens: &[u64], asked: usize) -> bool {
-    let doc = DocId(replay::word(tokens, 0, 0));
-    let d = replay::float(tokens, 0, 1);
-    let limit = replay::float(tokens, 0, 2);
-    decided_is_same(tokens, asked, score::decide(doc, d, limit))
-}
-
-// Recognising with as much scratch as the line says.
-fn recognise_with_scratch(
-    tokens: &[u64],
-    words: &[u32],
-    floats: &[f32],
-    query: &[f32],
-) -> Recognised {
-    let w = replay::lesser(replay::size(tokens, 0, 0), histories::SCRATCH_WORDS);
-    let f = replay::lesser(replay::size(tokens, 0, 1), histories::SCRATCH_FLOATS);
-    let ef = replay::word(tokens, 0, 2);
-    let limit = replay::float(tokens, 0, 3);
-    let mut sw = histories::scratch_words();
-    let mut sf = histories::scratch_floats();
-    recognise::recognise(words, floats, query, ef, limit, &mut sw[..w], &mut sf[..f])
+pub fn decide_is_same(line: Line<'_>) -> bool {
+    let mut question = line.question();
+    let doc = DocId(question.read());
+    let d = question.read();
+    let limit = question.read();
+    decided_is_same(line.answer(), score::decide(doc, d, limit))
 }
 
 // A refusal is its number and nothing more.
-fn recognised_is_same(tokens: &[u64], asked: usize, r: Recognised) -> bool {
-    let number = replay::word(tokens, asked, 0);
-    match r {
-        Recognised::Refused(refusal) => (refusal == number) & ends(tokens, asked, 1),
-        _ => (number == 0) & decided_is_same(tokens, std::num::wrapping_add_usize(asked, 1), r),
+fn recognised_is_same(mut answer: Tokens<'_>, recognised: Recognised) -> bool {
+    match recognised {
+        Recognised::Refused(number) => answer.is(number) && answer.is_at_end(),
+        _ => answer.is(0u32) && decided_is_same(answer, recognised),
     }
 }
 
 // recognise SW SF EF limit N q.. = number known doc score
-pub fn recognise_is_same(
-    tokens: &[u64],
-    asked: usize,
-    words: &[u32],
-    floats: &[f32],
-    vector: &mut [f32],
-    h: History,
-) -> bool {
-    let n = replay::floats(tokens, 5, replay::size(tokens, 0, 4), vector);
-    let r = recognise_with_scratch(
-        tokens,
-        replay::front_words(words, h.lent_words),
-        replay::front(floats, h.lent_floats),
-        replay::front(vector, n),
+pub fn recognise_is_same(stores: &Stores, line: Line<'_>, room: &mut [f32]) -> bool {
+    let mut question = line.question();
+    let mut scratch = Scratch::asked(&mut question);
+    let ef = question.read();
+    let limit = question.read();
+    let query = question.read_counted(room);
+    let recognised = recognise::recognise(
+        stores.words.lent(),
+        stores.floats.lent(),
+        query,
+        ef,
+        limit,
+        scratch.words.lent_mut(),
+        scratch.floats.lent_mut(),
     );
-    recognised_is_same(tokens, asked, r)
+    recognised_is_same(line.answer(), recognised)
 }
 
-fn counted_is_same(tokens: &[u64], asked: usize, count: Household) -> bool {
-    let number = replay::word(tokens, asked, 0);
-    match count {
-        Household::Refused(refusal) => (refusal == number) & ends(tokens, asked, 1),
-        Household::Phones(phones) => {
-            (number == 0) & (phones == replay::word(tokens, asked, 1)) & ends(tokens, asked, 2)
-        }
-    }
+fn counted_is_same(mut answer: Tokens<'_>, counted: Household) -> bool {
+    let same = match counted {
+        Household::Refused(number) => answer.is(number),
+        Household::Phones(phones) => answer.is(0u32) && answer.is(phones),
+    };
+    same && answer.is_at_end()
 }
 
 // household DAY N seconds.. M docs.. = number phones
 // The seconds are the tokens themselves.
-pub fn household_is_same(tokens: &[u64], asked: usize) -> bool {
-    if tokens.len() < 2 {
-        return false;
-    }
-    let day = replay::token(tokens, 0, 0);
-    let sightings = replay::size(tokens, 0, 1);
-    let docs_at = std::num::wrapping_add_usize(sightings, 2);
-    let mut docs = [0u32; 1024];
-    let given = replay::words(
-        tokens,
-        std::num::wrapping_add_usize(docs_at, 1),
-        replay::size(tokens, docs_at, 0),
-        &mut docs,
-    );
-    let rest = &tokens[2..];
-    let count = household::household_count(
-        day,
-        replay::front_tokens(rest, sightings),
-        replay::front_words(&docs, given),
-    );
-    counted_is_same(tokens, asked, count)
+pub fn household_is_same(line: Line<'_>) -> bool {
+    let mut question = line.question();
+    let day = question.read();
+    let sightings: usize = question.read();
+    let seconds = replay::front(question.rest(), sightings);
+    let mut room = [0u32; 1024];
+    let docs = line
+        .tokens_at(sightings.wrapping_add(2))
+        .read_counted(&mut room);
+    counted_is_same(
+        line.answer(),
+        household::household_count(day, seconds, docs),
+    )
 }

@@ -1,155 +1,79 @@
 // Recorded runs of the program probe (recorded/README.md, "probe/"): the oracle's output on an input, compared
-// with what `probe_lines` prints for its lines.
+// with what `probe_lines` answers to its lines.
 //
 // `replay_runs` takes one text of all runs, each a heading, the bytes of its input and those of its output,
 // and counts them. Every run starts on stores that are zero. Everything here is proved safe on every text,
 // and nothing more.
-ghost use Rattle.std.specs.Prelude.{◌≡◌, ◌<◌, length};
+ghost use Rattle.std.specs.Prelude.{◌<◌, length};
 
-use probe_lines::{Printed, State};
+use probe_lines::Index;
+use replay::lines;
+use replay::tallies::Tally;
+use std::fmt;
+use std::fmt::Write;
 
-// What a line has come to: the state for the next, how much of the output is printed, whether the line ended
-// the reading, and whether it printed what comes next in the output.
-#[derive(Clone, Copy)]
-struct Taken {
-    state: State,
-    seen: usize,
-    ended: bool,
-    same: bool,
+// What is left of an output: what is printed must come next in it.
+#[derive(Drop)]
+struct Expected<'a> {
+    left: &'a [u8],
 }
 
-// Takes a line, after which the output goes on from `seen`.
-fn take_line(
-    line: &[u8],
-    output: &[u8],
-    seen: usize,
-    state: State,
-    words: &mut [u32],
-    floats: &mut [f32],
-    out: &mut [u8],
-) -> Taken {
-    let told = probe_lines::step(state, line, words, floats, out);
-    let next = told.state;
-    let printed = told.printed;
-    let Printed::Bytes(n) = printed else {
-        return Taken {
-            state: next,
-            seen,
-            ended: true,
-            same: true,
+impl<'a> fmt::Write for Expected<'a> {
+    fn write_str(&mut self, printed: &str) -> fmt::Result {
+        let Some(left) = self.left.strip_prefix(printed.as_bytes()) else {
+            return Err(fmt::Error);
         };
-    };
-    Taken {
-        state: next,
-        seen: std::num::wrapping_add_usize(seen, n),
-        ended: false,
-        same: replay::starts(output, seen, replay::front_bytes(out, n)),
+        self.left = left;
+        Ok(())
     }
 }
 
-// Whether the lines of an input print just this output. The last may lack its line feed.
-fn lines_are_same(
-    input: &[u8],
-    output: &[u8],
-    words: &mut [u32],
-    floats: &mut [f32],
-    out: &mut [u8],
-) -> bool {
-    let mut state = probe_lines::start();
-    let mut seen: usize = 0;
-    let mut at: usize = 0;
-    while at < input.len() {
-        let end = replay::line_end(input, at);
-        let taken = take_line(&input[at..end], output, seen, state, words, floats, out);
-        if !taken.same {
+// Whether a run of the probe on an input prints just this output. The last line may lack its line feed.
+fn run_is_same(input: &[u8], output: &[u8]) -> bool {
+    let mut index = Index::new();
+    let mut expected = Expected { left: output };
+    for line in input.split_inclusive(|b| *b == b'\n') {
+        let Some(answer) = index.step(replay::without_end(line)) else {
+            break;
+        };
+        if write!(expected, "{answer}").is_err() {
             return false;
         }
-        state = taken.state;
-        seen = taken.seen;
-        if taken.ended {
-            return seen == output.len();
-        }
-        if end == input.len() {
-            return seen == output.len();
-        }
-        at = end + 1;
     }
-    seen == output.len()
+    expected.left.is_empty()
 }
 
-fn word_store() -> [u32; probe_lines::WORDS_SIZE]
-    ensures { 2320 ≡ length result }
+// Replays the first run of a text, and answers whether it is as recorded, and what comes after it. Its heading
+// has the sizes of input and output. One that is not whole counts as one that differs, and is the last.
+fn replay_run<'a>(text: &'a [u8], tokens: &mut [u64]) -> (bool, &'a [u8])
+    requires { 0 < length text.now }
+    ensures { length result.1.now < length text.now }
 {
-    [0; probe_lines::WORDS_SIZE]
-}
-
-fn float_store() -> [f32; probe_lines::FLOATS_SIZE]
-    ensures { 4096 ≡ length result }
-{
-    [0.0; probe_lines::FLOATS_SIZE]
-}
-
-// Whether a run of the probe on an input prints just this output.
-pub fn run_is_same(input: &[u8], output: &[u8]) -> bool {
-    let mut words = word_store();
-    let mut floats = float_store();
-    let mut out = [0u8; probe_lines::OUT_SIZE];
-    lines_are_same(input, output, &mut words, &mut floats, &mut out)
-}
-
-// Where the next run starts, and whether this one is as recorded.
-#[derive(Clone, Copy)]
-struct Run {
-    next: usize,
-    same: bool,
-}
-
-// The run that starts at `at`: its heading has the sizes of input and output. One that is not whole counts as
-// one that differs, and is the last.
-fn run_at(text: &[u8], at: usize, tokens: &mut [u64]) -> Run
-    requires { at < length text.now }
-    ensures { at < result.next }
-{
-    let cut = Run {
-        next: text.len(),
-        same: false,
-    };
-    let heading = replay::read_line(text, at, tokens);
-    let start = heading.next;
-    let inputs = replay::size(tokens, 0, 0);
-    let outputs = replay::size(tokens, 0, 1);
-    if text.len() < start {
-        return cut;
+    let end = text.iter().position(|b| *b == b'\n');
+    let (heading, rest) = text.split_at(end.map_or(text.len(), |end| end + 1));
+    let mut sizes = lines::read_line(heading, tokens).question();
+    let inputs: usize = sizes.read();
+    let outputs: usize = sizes.read();
+    if rest.len() < inputs {
+        return (false, &[]);
     }
-    if text.len() - start < inputs {
-        return cut;
+    let (input, behind) = rest.split_at(inputs);
+    if behind.len() < outputs {
+        return (false, &[]);
     }
-    let middle = start + inputs;
-    if text.len() - middle < outputs {
-        return cut;
-    }
-    let next = middle + outputs;
-    let same = run_is_same(&text[start..middle], &text[middle..next]);
-    Run { next, same }
-}
-
-// How many runs there were, and how many differ.
-#[derive(Clone, Copy)]
-pub struct Tally {
-    pub runs: u64,
-    pub differ: u64,
+    let (output, next) = behind.split_at(outputs);
+    (run_is_same(input, output), next)
 }
 
 // Replays all runs of a text.
-pub fn replay_runs(text: &[u8], tokens: &mut [u64]) -> Tally {
-    let mut runs: u64 = 0;
-    let mut differ: u64 = 0;
-    let mut at: usize = 0;
-    while at < text.len() {
-        let run = run_at(text, at, tokens);
-        runs = std::num::wrapping_add_u64(runs, 1);
-        differ = std::num::wrapping_add_u64(differ, (!run.same) as u64);
-        at = run.next;
+pub fn replay_runs(text: &[u8]) -> Tally {
+    let mut tokens = [0u64; 2];
+    let mut tally = Tally::NONE;
+    let mut rest = text;
+    while !rest.is_empty() {
+        let (same, next) = replay_run(rest, &mut tokens);
+        tally.count(same);
+        rest = next;
     }
-    Tally { runs, differ }
+    tally
 }

@@ -1,12 +1,10 @@
--- The invariant: the count, and what the numbers from i on add to it, are the whole. The measure is what is left of the list. Assumes nothing.
-use mathlib.Core.Path.{◌≡◌}
-use Prim.Native.Nat.{◌+◌, ◌-◌, ◌≤◌}
-use lib.ListN.{length, drop}
+-- The invariant: the count, and what the numbers that are left add to it, are the whole. The measure is how many are left. Assumes nothing.
+use Rattle.std.proofs.Common.{◌≡◌, ◌+◌, ◌≤◌, length}
 use Rattle.household.specs.Household.{different}
 use Rattle.household.proofs.count_different.Given as goal
 
-abbrev pub invariant-loop-i : goal.invariant-loop-i
-invariant-loop-i l = (l.count + length (different (drop l.i l.initial.docs)) ≡ length (different l.initial.docs)) × (l.count ≤ l.i) × (l.i ≤ length l.initial.docs)
+abbrev pub invariant-loop-doc : goal.invariant-loop-doc
+invariant-loop-doc l = (l.count + length (different l.rest) ≡ length (different l.initial.docs)) × (l.count + length l.rest ≤ length l.initial.docs)
 
-abbrev pub decreases-loop-i : goal.decreases-loop-i
-decreases-loop-i l = length l.initial.docs - l.i
+abbrev pub decreases-loop-doc : goal.decreases-loop-doc
+decreases-loop-doc l = length l.rest

@@ -1,14 +1,10 @@
--- The invariant: found so far, or from i on, is found at all. The measure is what is left of the list. Assumes nothing.
-use native.Mathlib.Omega.{arith}
-use mathlib.Core.Path.{refl}
+-- The invariant: found so far, or from here on, is found in all. Assumes nothing.
+use Rattle.std.proofs.Common.{arith}
 use Rattle.household.proofs.Steps.{look_step, look_end}
 use Rattle.household.proofs.occurs.Goals as goal
 
-pub loop-i-init : goal.loop-i-init
-loop-i-init c = (refl, omega arith)
-
-pub loop-i-preserved : goal.loop-i-preserved
-loop-i-preserved c = let l = c.loop-i in (look_step _ _ l.i l.found _ (omega arith) l.invariant.0, omega arith)
+pub loop-other-preserved : goal.loop-other-preserved
+loop-other-preserved c = let l = c.loop-other in look_step _ _ l.other-index l.found _ (omega arith) l.invariant
 
 pub returns : goal.returns
-returns c = let l = c.loop-i in look_end _ _ l.i l.found _ (omega arith) l.invariant.0
+returns c = let l = c.loop-other in look_end _ _ l.other-index l.found _ (omega arith) l.invariant

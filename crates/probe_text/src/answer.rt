@@ -1,0 +1,52 @@
+// What is printed for a line.
+use std::fmt;
+use words::bits;
+use words::ids::Node;
+
+// No answer is longer than the largest capacity that the probe takes.
+pub const MOST_FOUND: usize = 64;
+
+// What a search found: how many nodes it scored, and its answers, the first `count` of the two lists.
+#[derive(Clone, Copy)]
+pub struct Found {
+    pub scored: u32,
+    pub count: u32,
+    pub docs: [u32; MOST_FOUND],
+    pub distances: [f32; MOST_FOUND],
+}
+
+// What came of a line that does not end the reading.
+#[derive(Clone, Copy)]
+pub enum Answer {
+    Silent,
+    Refused(u32),
+    Built { entry: Node, bridges: u32 },
+    Found(Found),
+}
+
+impl fmt::Display for Found {
+    fn fmt<W: fmt::Write>(&self, f: &mut fmt::Formatter<W>) -> fmt::Result {
+        let scored = self.scored;
+        writeln!(f, "scored={scored}")?;
+        let ranks = 1..=self.count;
+        for ((rank, doc), distance) in ranks.zip(&self.docs).zip(&self.distances) {
+            let dist = bits::bits_of(*distance);
+            writeln!(f, "rank={rank} doc={doc} dist={dist:08x}")?;
+        }
+        Ok(())
+    }
+}
+
+impl fmt::Display for Answer {
+    fn fmt<W: fmt::Write>(&self, f: &mut fmt::Formatter<W>) -> fmt::Result {
+        match self {
+            Answer::Silent => Ok(()),
+            Answer::Refused(number) => writeln!(f, "refused={number}"),
+            Answer::Built { entry, bridges } => {
+                let entry = entry.0;
+                writeln!(f, "entry={entry} bridges={bridges}")
+            }
+            Answer::Found(found) => write!(f, "{found}"),
+        }
+    }
+}

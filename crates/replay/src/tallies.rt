@@ -1,0 +1,65 @@
+// How many cases there were, and how many differ.
+use std::{fmt, io};
+
+// Of one kind.
+#[derive(Clone, Copy)]
+pub struct Tally {
+    cases: u64,
+    differ: u64,
+}
+
+impl Tally {
+    pub const NONE: Tally = Tally {
+        cases: 0,
+        differ: 0,
+    };
+
+    pub fn count(&mut self, same: bool) {
+        self.cases = self.cases.wrapping_add(1);
+        self.differ = self.differ.wrapping_add(u64::from(!same));
+    }
+}
+
+impl fmt::Display for Tally {
+    fn fmt<W: fmt::Write>(&self, f: &mut fmt::Formatter<W>) -> fmt::Result {
+        let cases = self.cases;
+        let differ = self.differ;
+        write!(f, "{cases} cases, {differ} differ")
+    }
+}
+
+// Of each of N kinds, in the order in which they are reported, and of lines of no kind.
+#[derive(Drop)]
+pub struct Tallies<const N: usize> {
+    of_kind: [Tally; N],
+    of_none: Tally,
+}
+
+impl<const N: usize> Tallies<N> {
+    pub fn new() -> Self {
+        Tallies {
+            of_kind: [Tally::NONE; N],
+            of_none: Tally::NONE,
+        }
+    }
+
+    // Counts a case of the kind with this number, or a line of no kind.
+    pub fn count(&mut self, kind: Option<usize>, same: bool) {
+        match kind {
+            Some(kind) => {
+                if let Some(tally) = self.of_kind.get_mut(kind) {
+                    tally.count(same);
+                }
+            }
+            None => self.of_none.count(same),
+        }
+    }
+
+    // Writes a line for each kind, and one for lines of no kind.
+    pub fn write<K>(&self, rt: &impl Print, names: &[(&str, K)]) -> io::Result<()> {
+        for ((name, _), tally) in names.iter().zip(&self.of_kind) {
+            println!(rt; "{name}: {tally}")?;
+        }
+        println!(rt; "of no kind: {}", self.of_none)
+    }
+}

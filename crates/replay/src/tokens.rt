@@ -1,0 +1,169 @@
+// The tokens of a line, and what each stands for.
+ghost use Rattle.std.specs.Prelude.{◌≡◌, ◌<◌, ◌≤◌, min, length, IfSome};
+
+use words::bits;
+
+// A number as it is recorded.
+#[derive(Clone, Copy)]
+pub struct Token(pub u64);
+
+impl From<Token> for u64 {
+    fn from(token: Token) -> u64 {
+        token.0
+    }
+}
+
+impl From<Token> for usize {
+    fn from(token: Token) -> usize {
+        token.0 as usize
+    }
+}
+
+impl From<Token> for u32 {
+    fn from(token: Token) -> u32 {
+        (token.0 % 0x1_0000_0000) as u32
+    }
+}
+
+impl From<Token> for f32 {
+    fn from(token: Token) -> f32 {
+        bits::f32_from(u32::from(token))
+    }
+}
+
+impl From<Token> for f64 {
+    fn from(token: Token) -> f64 {
+        bits::f64_from(token.0)
+    }
+}
+
+// What is compared with an answer's token; a float is compared bit for bit.
+pub trait Recorded: Copy {
+    fn is_recorded(self, token: Token) -> bool;
+}
+
+impl Recorded for u64 {
+    fn is_recorded(self, token: Token) -> bool {
+        self == token.0
+    }
+}
+
+impl Recorded for u32 {
+    fn is_recorded(self, token: Token) -> bool {
+        self == u32::from(token)
+    }
+}
+
+impl Recorded for f32 {
+    fn is_recorded(self, token: Token) -> bool {
+        bits::bits_of(self) == u32::from(token)
+    }
+}
+
+// A reader of tokens, one after the other.
+#[derive(Clone, Copy)]
+pub struct Tokens<'a> {
+    all: &'a [u64],
+    at: usize,
+}
+
+impl<'a> Tokens<'a> {
+    // From this place on.
+    pub fn starting_at(all: &'a [u64], at: usize) -> Tokens<'a> {
+        Tokens { all, at }
+    }
+
+    pub fn token(&mut self) -> Token {
+        let token = self.all.get(self.at).copied().unwrap_or(0);
+        self.skip(1);
+        Token(token)
+    }
+
+    // The next token, as what it stands for.
+    pub fn read<T: From<Token>>(&mut self) -> T {
+        T::from(self.token())
+    }
+
+    // The next n tokens, as far as `out` has room for them, at its front.
+    pub fn read_into<'b, T: From<Token> + Copy>(
+        &mut self,
+        n: usize,
+        out: &'b mut [T],
+    ) -> &'b mut [T]
+        ensures { length result.now ≡ min n (length out.old) }
+    {
+        let count = n.min(out.len());
+        let front = &mut out[..count];
+        for x in front.iter_mut() {
+            *x = self.read();
+        }
+        self.skip(n - count);
+        front
+    }
+
+    // The same, as many as the next token says.
+    pub fn read_counted<'b, T: From<Token> + Copy>(&mut self, out: &'b mut [T]) -> &'b mut [T] {
+        let n = self.read();
+        self.read_into(n, out)
+    }
+
+    pub fn skip(&mut self, n: usize) {
+        self.at = self.at.saturating_add(n);
+    }
+
+    // Whether the next token is this one.
+    pub fn is<T: Recorded>(&mut self, x: T) -> bool {
+        x.is_recorded(self.token())
+    }
+
+    // Whether the next tokens are these.
+    pub fn are<T: Recorded>(&mut self, xs: &[T]) -> bool {
+        xs.iter().all(|x| self.is(*x))
+    }
+
+    // The tokens that are not read yet.
+    pub fn rest(&self) -> &'a [u64] {
+        self.all.get(self.at..).unwrap_or(&[])
+    }
+
+    // Whether just the last token was read.
+    pub fn is_at_end(&self) -> bool {
+        self.at == self.all.len()
+    }
+}
+
+// The value of a hexadecimal digit in lower case.
+pub fn digit(b: u8) -> Option<u64>
+    ensures { IfSome result (λ d. d < 16) }
+{
+    match b {
+        b'0'..=b'9' => Some((b - b'0') as u64),
+        b'a'..=b'f' => Some((b - b'a' + 10) as u64),
+        _ => None,
+    }
+}
+
+// The number of some digits, modulo 2^64.
+fn number(digits: &[u8]) -> u64 {
+    digits
+        .iter()
+        .filter_map(|b| digit(*b))
+        .fold(0, |n, d| n << 4 | d)
+}
+
+// Puts the tokens of a text at the front of `tokens`, as far as there is room, and answers how many. A token is
+// some digits and the byte that ends them.
+pub(crate) fn put_tokens(text: &[u8], tokens: &mut [u64]) -> usize
+    ensures { result ≤ length tokens.new }
+{
+    let mut count = 0;
+    let mut rest = text;
+    while let Some(end) = rest.iter().position(|b| digit(*b).is_none()) {
+        if end > 0 && count < tokens.len() {
+            tokens[count] = number(&rest[..end]);
+            count += 1;
+        }
+        rest = &rest[end + 1..];
+    }
+    count
+}
