@@ -27,7 +27,7 @@ use Rattle.def_calls.specs.Graph.{settings_of, graph_of, graph_for}
 use Rattle.def_calls.specs.Build.{laid, built_header, built_words}
 use Rattle.def_calls.proofs.Laid.{laid_there}
 use Rattle.def_calls.proofs.Taken.{BuildTaken}
-use Rattle.build.specs.Inside.Fits.{RowsFit, shape_of, RepairFits, RepairPut, with_repair}
+use Rattle.build.specs.Inside.Fits.{RowsFit, RepairFits, RepairPut, with_repair}
 use Rattle.build.proofs.Laid.{put_laid, set-laid}
 
 module _ (ws fs : ℕ) (w : List ℕ) (f : List Float) (taken : BuildTaken ws fs w f) where
@@ -75,7 +75,7 @@ module _ (ws fs : ℕ) (w : List ℕ) (f : List Float) (taken : BuildTaken ws fs
 
   module _ (p : PipnnParams) (p_is : p ≡ params_of w) (part w₁ w₂ : List ℕ)
       (blocks : Blocks p.max_degree (rows_of (settings_of d p) (vectors_in d (vector_part w f taken.stores.room))) part) (put : w₁ ≡ laid (rows_at C) part w)
-      (repair : RepairPut (shape_of n D d) C (vectors_in d (vector_part w f taken.stores.room)) w₁ w₂) where
+      (repair : RepairPut n C D d (vectors_in d (vector_part w f taken.stores.room)) w₁ w₂) where
     vectors_are : vectors_in d (vector_part w f taken.stores.room) ≡ vs
     vectors_are = vectors_part w f taken.stores.room taken.stores.header.dimension.least
 
@@ -131,7 +131,7 @@ module _ (ws fs : ℕ) (w : List ℕ) (f : List Float) (taken : BuildTaken ws fs
   }
 
   pub repair_fits : (w₁ : List ℕ) (bridges ws₁ fs₁ : ℕ) → length w₁ ≡ length w → 2048 ≤ bridges → ws₁ ≡ ws → fs₁ ≡ fs
-      → RepairFits (shape_of (word w nodes_at) (word w degree_at) (word w dimension_at)) (word w capacity_at) w₁ (vector_part w f taken.stores.room) bridges ws₁ fs₁
+      → RepairFits (word w nodes_at) (word w capacity_at) (word w degree_at) (word w dimension_at) w₁ (vector_part w f taken.stores.room) bridges ws₁ fs₁
   unfolding params_of
   repair_fits w₁ bridges ws₁ fs₁ same room words floats = record {
     some = taken.some;
@@ -154,18 +154,18 @@ pub rows_fit_at : {n n' d d' : ℕ} {p p' : PipnnParams} {rows rows' : List ℕ}
 rows_fit_at a b c e g x = rw (a, b, c, e, g) x
 
 pub repair_fits_at : {n n' C C' D D' d d' : ℕ} {w : List ℕ} {vectors vectors' : List Float} {bridges ws fs : ℕ} → n' ≡ n → C' ≡ C → D' ≡ D → d' ≡ d
-    → vectors' ≡ vectors → RepairFits (shape_of n D d) C w vectors bridges ws fs → RepairFits (shape_of n' D' d') C' w vectors' bridges ws fs
+    → vectors' ≡ vectors → RepairFits n C D d w vectors bridges ws fs → RepairFits n' C' D' d' w vectors' bridges ws fs
 repair_fits_at a b c e g x = rw (a, b, c, e, g) x
 
 repair_put_at : {n n' C C' D D' d d' : ℕ} {vectors vectors' : List Float} (w₁ w₂ : List ℕ) → n' ≡ n → C' ≡ C → D' ≡ D → d' ≡ d → vectors' ≡ vectors
-    → RepairPut (shape_of n' D' d') C' (vectors_in d' vectors') w₁ w₂ → RepairPut (shape_of n D d) C (vectors_in d vectors) w₁ w₂
+    → RepairPut n' C' D' d' (vectors_in d' vectors') w₁ w₂ → RepairPut n C D d (vectors_in d vectors) w₁ w₂
 repair_put_at w₁ w₂ a b c e g x = rw (← a, ← b, ← c, ← e, ← g) x
 
 pub graph_built_at : {ws fs : ℕ} {w : List ℕ} {f : List Float} (taken : BuildTaken ws fs w f) {n' C' D' d' : ℕ} {p : PipnnParams} {vectors : List Float}
     {from k : ℕ} {part w₂ : List ℕ} → n' ≡ word w nodes_at → C' ≡ word w capacity_at → D' ≡ word w degree_at → d' ≡ word w dimension_at → p ≡ params_of w
     → vectors ≡ vector_part w f taken.stores.room → from ≡ rows_at (word w capacity_at) → k ≡ length part
     → Blocks p.max_degree (rows_of (settings_of d' p) (vectors_in d' vectors)) part
-    → RepairPut (shape_of n' D' d') C' (vectors_in d' vectors) (put_mid from k w part) w₂ → w₂ ≡ built_words (graph_for (view w f)) w
+    → RepairPut n' C' D' d' (vectors_in d' vectors) (put_mid from k w part) w₂ → w₂ ≡ built_words (graph_for (view w f)) w
 graph_built_at {ws} {fs} {w} {f} taken {p = p} {vectors = vectors} {from = from} {k = k} {part = part} {w₂ = w₂} n_is C-is D-is d_is p_is vectors_are from_is size blocks repair =
     graph_built ws fs w f taken p p_is part (put_mid from k w part) w₂ (rw (d_is, vectors_are) at blocks)
     (put_laid from k w part size ∙ ap (λ (at : ℕ). laid at part w) from_is) (repair_put_at _ w₂ n_is C-is D-is d_is vectors_are repair)

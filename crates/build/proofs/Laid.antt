@@ -3,22 +3,14 @@ use mathlib.Core.Path.{◌≡◌, sym, ap, ap₂, ◌∙◌}
 use mathlib.Core.List.{List, ◌++◌}
 use Prim.Native.Nat.{ℕ, ◌+◌, ◌≤◌, ◌<◌}
 use native.Mathlib.Omega.{arith}
-use lib.ListN.{length, take, drop, set, length-take, length-drop}
+use lib.ListN.{length, take, drop, set}
 use lib.Seq.{drop-drop, length-take-le, take-set-lt, drop-set-lt, set-append_left}
 use borrow.Rule.Slice.PartMut.{put_mid}
-use Rattle.words.proofs.slices.Laws.{copied_whole}
 use Rattle.def_calls.specs.Build.{laid}
 
 -- a part in place of which xs was put
 pub put_laid : (at k : ℕ) (w xs : List ℕ) → k ≡ length xs → put_mid at k w xs ≡ laid at xs w
 put_laid at k w xs e = ap (λ (l : List ℕ). take at w ++ (xs ++ l)) (drop-drop k at w ∙ ap (λ (j : ℕ). drop (at + j) w) e)
-
--- .. which was filled from xs
-pub filled_laid : (at k : ℕ) (w x xs : List ℕ) → k ≡ length xs → at + k ≤ length w
-    → x ≡ take (length (take k (drop at w))) xs ++ drop (length xs) (take k (drop at w)) → put_mid at k w x ≡ laid at xs w
-filled_laid at k w x xs e fits filled =
-    let whole : length (take k (drop at w)) ≡ length xs = simp (length-take, length-drop) (omega arith) in
-    ap (put_mid at k w) (filled ∙ copied_whole (take k (drop at w)) xs whole) ∙ put_laid at k w xs e
 
 -- a word before the place can be set first
 pub set-laid : (at i v : ℕ) (xs w : List ℕ) → i < at → at ≤ length w → set (laid at xs w) i v ≡ laid at xs (set w i v)

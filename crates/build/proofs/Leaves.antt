@@ -19,7 +19,8 @@ use Rattle.basics.specs.Choice.{pick_ind, pick_true, pick_false}
 use Rattle.basics.specs.Nodes.{Below}
 use Rattle.basics.specs.Inside.Rows.{Rows}
 use Rattle.params.specs.declared.PipnnParams.{PipnnParams}
-use Rattle.distance.specs.Vectors.{vectors_in}
+use Rattle.distance.specs.Vectors.{vectors_of}
+use Rattle.distance.specs.declared.vectors.Vectors.{Vectors}
 use Rattle.def_graph.specs.Partition.{leaves_of}
 use Rattle.def_graph.proofs.partition.Laws.{entries-length, entries_once, entries_twice, leaves_below}
 use Rattle.def_graph.specs.Leaf.{build_leaves}
@@ -91,7 +92,7 @@ leaves_in n maxLeaf count room leaves carved nodes sizes total laid below fits n
       room_is = fits;
     }
 
-pub built_from : (n maxLeaf : ℕ) (leaf : LeafParams) (count room : ℕ) (vectors : List Float) (carved nodes sizes rows rows' : List ℕ) → nodes ≡ take (leaf_entries n maxLeaf) carved
+pub built_from : (n maxLeaf : ℕ) (leaf : LeafParams) (count room : ℕ) (vectors : Vectors) (carved nodes sizes rows rows' : List ℕ) → nodes ≡ take (leaf_entries n maxLeaf) carved
     → sizes ≡ take count (drop (2 * n) carved) → Built leaf vectors nodes sizes room rows rows' → LeavesPut n maxLeaf leaf vectors carved count room rows rows'
 built_from n maxLeaf leaf count room vectors carved nodes sizes rows rows' nodes_are sizes_are built =
     λ leaves rs fit many total laid below fits blocks.
@@ -99,11 +100,14 @@ built_from n maxLeaf leaf count room vectors carved nodes sizes rows rows' nodes
 
 -- ---- the steps of the rows
 
-module _ (n d : ℕ) (p : PipnnParams) (vectors : List Float) (rows₀ : List ℕ) (words words' : List ℕ) (count room : ℕ)
-    (fit : RowsFit n d p rows₀ vectors (length words) room)
-    (carved : Partitioned p.max_leaf_size p.min_leaf_size p.leader_fraction (vectors_in d vectors) n words words' count) where
+module _ (n : ℕ) (v : Vectors) (p : PipnnParams) (rows₀ : List ℕ) (words words' : List ℕ) (count room : ℕ)
+    (fit : RowsFit n v.dimension p rows₀ v.components.now (length words) room)
+    (carved : Partitioned p.max_leaf_size p.min_leaf_size p.leader_fraction (vectors_of v) n words words' count) where
   abbrev vs : List (List Float)
-  vs = vectors_in d vectors
+  vs = vectors_of v
+
+  abbrev d : ℕ
+  d = v.dimension
 
   abbrev D : ℕ
   D = p.max_degree
@@ -115,7 +119,7 @@ module _ (n d : ℕ) (p : PipnnParams) (vectors : List Float) (rows₀ : List �
   full = non_empty (leaves_of p.max_leaf_size p.min_leaf_size p.leader_fraction vs)
 
   many : length vs ≡ n
-  many = vectors_many n d vectors fit.dimension_some fit.vectors_are
+  many = vectors_many n d v.components.now fit.dimension_some fit.vectors_are
 
   laid : Laid full count (2 * n) words'
   laid = carved.made many (record { most = fit.most; some = fit.leaf_some; room = fit.words_room })
@@ -126,10 +130,10 @@ module _ (n d : ℕ) (p : PipnnParams) (vectors : List Float) (rows₀ : List �
       omega (arith, laid.counted, few, many)
 
   leaf_lists : (rows₁ rows₂ : List ℕ) → rows₁ ≡ replicate (length rows₀) 0
-      → LeavesPut n p.max_leaf_size (leaf_of d p) vectors words' count room rows₁ rows₂ → Blocks D (leaf_rows s vs) rows₂
+      → LeavesPut n p.max_leaf_size (leaf_of p) v words' count room rows₁ rows₂ → Blocks D (leaf_rows s vs) rows₂
   unfolding leaf_rows
   leaf_lists rows₁ rows₂ cleared put =
-      let sizes : Sizes n (leaf_of d p) vectors = record {
+      let sizes : Sizes n (leaf_of p) v = record {
         nodes_most = fit.most;
         degree_most = fit.degree_most;
         bits_most = fit.bits_most;
@@ -148,7 +152,7 @@ module _ (n d : ℕ) (p : PipnnParams) (vectors : List Float) (rows₀ : List �
       built
 
   pub rows_made : (rows₁ rows₂ rows₃ : List ℕ) → rows₁ ≡ replicate (length rows₀) 0
-      → LeavesPut n p.max_leaf_size (leaf_of d p) vectors words' count room rows₁ rows₂ → Reversed D rows₂ rows₃ → Blocks D (rows_of s vs) rows₃
+      → LeavesPut n p.max_leaf_size (leaf_of p) v words' count room rows₁ rows₂ → Reversed D rows₂ rows₃ → Blocks D (rows_of s vs) rows₃
   unfolding reversed_rows
   rows_made rows₁ rows₂ rows₃ cleared put reversed =
       let bounds : Rows (length vs) D (leaf_rows s vs) = leaf_bounds s vs in

@@ -15,7 +15,8 @@
 
 ghost use Rattle.std.specs.Prelude.{◌≡◌, ◌+◌, ◌≤◌, length, set};
 ghost use Rattle.basics.specs.Refusals.{first_refusal};
-ghost use Rattle.distance.specs.Vectors.{vectors_in};
+ghost use Rattle.error.specs.Refused.{answer_of};
+ghost use Rattle.distance.specs.Vectors.{vectors_of};
 ghost use Rattle.def_graph.specs.Rows.{rows_of};
 ghost use Rattle.store.specs.Layout.{header_size, built_state, state_at, entry_at, bridge_count_at};
 ghost use Rattle.lists.specs.Inside.Words.{Blocks};
@@ -25,29 +26,24 @@ ghost use Rattle.def_calls.specs.Build.{build_checks, laid, built_words, build_s
 ghost use Rattle.build.specs.Inside.Fits.{leaf_entries, LeavesFit, LeavesPut, RowsFit, RepairFits, RepairPut};
 
 use build_leaf::LeafParams;
+use carving::CarveParams;
+use dealing::DealParams;
+use distance::vectors::Vectors;
+use error::Refusal;
 use finish::{medoid, reverse_edges};
-use lists::Shape;
 use params::PipnnParams;
-use store::Lent;
+use store::{Layout, Scratch};
 use words::ids::Node;
-use words::slices;
 
-// The number of the first of build's checks that fails, or 0. Scratch counts by its two lengths.
-fn build_refusal(words: &[u32], floats: &[f32], scratch_words: usize, scratch_floats: usize) -> u32
-    ensures { result ≡ first_refusal (build_checks scratch_words scratch_floats words.now floats.now) }
+// The first of build's checks that fails.
+fn check_build(words: &[u32], floats: &[f32], lent: Scratch) -> Result<(), Refusal>
+    ensures { answer_of result ≡ first_refusal (build_checks lent.words lent.floats words.now floats.now) }
 {
-    let lent = Lent::Scratch {
-        words: scratch_words,
-        floats: scratch_floats,
-    };
-    let refusal = store::opening_refusal(words, floats, lent);
-    if refusal != 0 {
-        return refusal;
-    }
+    store::check_opening(words, floats, Some(lent))?;
     if store::word_at(words, store::NODES) == 0 {
-        return error::EMPTY_INDEX;
+        return Err(Refusal::EmptyIndex);
     }
-    0
+    Ok(())
 }
 
 // Copies the bridges to their place, `at`.
@@ -56,7 +52,7 @@ fn put_bridges(words: &mut [u32], at: usize, bridges: &[u32])
     ensures { words.new ≡ laid at bridges.now words.old }
 {
     let end = at + bridges.len();
-    slices::copy_words(&mut words[at..end], bridges);
+    words[at..end].copy_from_slice(bridges);
 }
 
 // Writes words 0, 9 and 10: the store is built.
@@ -82,7 +78,7 @@ fn leaf_entries(n: u32, max_leaf_size: u32) -> usize
 // The lists of the leaves that stand in `carved`, as `partition` leaves them, go into the rows.
 fn put_leaves(
     rows: &mut [u32],
-    vectors: &[f32],
+    vectors: Vectors,
     n: u32,
     max_leaf_size: u32,
     leaf: LeafParams,
@@ -91,7 +87,7 @@ fn put_leaves(
     scratch_floats: &mut [f32],
 )
     requires { LeavesFit n count (length carved.now) }
-    ensures { LeavesPut n max_leaf_size leaf vectors.now carved.now count
+    ensures { LeavesPut n max_leaf_size leaf vectors.entry carved.now count
         (length scratch_floats.old) rows.old rows.new }
 {
     let nodes_end = leaf_entries(n, max_leaf_size);
@@ -112,32 +108,29 @@ fn put_leaves(
 // degree (`prune_changes_nothing` of Rattle.graph_rows).
 fn put_rows(
     rows: &mut [u32],
-    vectors: &[f32],
-    dimension: u32,
+    vectors: Vectors,
     n: u32,
     p: PipnnParams,
     scratch_words: &mut [u32],
     scratch_floats: &mut [f32],
 )
-    requires { RowsFit n dimension p rows.old vectors.now (length scratch_words.old) (length scratch_floats.old) }
-    ensures { Blocks p.max_degree (rows_of (settings_of dimension p) (vectors_in dimension vectors.now)) rows.new }
+    requires { RowsFit n vectors.dimension p rows.old vectors.components.now (length scratch_words.old) (length scratch_floats.old) }
+    ensures { Blocks p.max_degree (rows_of (settings_of vectors.entry.dimension p) (vectors_of vectors.entry)) rows.new }
 {
     let degree = p.max_degree as u16;
-    slices::clear_words(rows);
-    let count = carving::partition(
-        vectors,
-        dimension,
-        n,
-        p.max_leaf_size,
-        p.min_leaf_size,
-        p.leader_fraction,
-        scratch_words,
-    );
+    let carve = CarveParams {
+        max_leaf: p.max_leaf_size,
+        dealing: DealParams {
+            min_leaf: p.min_leaf_size,
+            leader_fraction: p.leader_fraction,
+        },
+    };
     let leaf = LeafParams {
-        dimension,
         degree,
         bits: p.num_hash_bits,
     };
+    rows.fill(0);
+    let count = carving::partition(vectors, carve, n, scratch_words);
     put_leaves(
         rows,
         vectors,
@@ -155,61 +148,62 @@ fn put_rows(
 // written. The bridges are built beside the store, since its rows are read meanwhile.
 fn repair(
     words: &mut [u32],
-    vectors: &[f32],
-    shape: Shape,
-    capacity: u32,
+    vectors: Vectors,
+    n: u32,
+    layout: Layout,
     bridges: &mut [u32],
     scratch_words: &mut [u32],
     scratch_floats: &mut [f32],
 )
-    requires { RepairFits shape capacity words.old vectors.now
+    requires { RepairFits n layout.capacity layout.degree vectors.dimension words.old vectors.components.now
         (length bridges.old) (length scratch_words.old) (length scratch_floats.old) }
-    ensures { RepairPut shape capacity (vectors_in shape.dimension vectors.now) words.old words.new }
+    ensures { RepairPut n layout.capacity layout.degree vectors.entry.dimension (vectors_of vectors.entry)
+        words.old words.new }
 {
-    let n = shape.n;
-    let degree = shape.degree;
-    let dimension = shape.dimension;
-    let components = dimension as usize;
-    let entry = medoid::compute_medoid(vectors, n as u16, &mut scratch_floats[..components]);
-    let from = store::rows_at(capacity);
-    let to = store::row_at(capacity, degree, Node(n));
+    let dimension = vectors.dimension as usize;
+    let entry = medoid::compute_medoid(
+        vectors.components,
+        n as u16,
+        &mut scratch_floats[..dimension],
+    );
+    let from = store::rows_at(layout.capacity);
+    let to = layout.row_at(Node(n));
     let built = graph_utils::ensure_connectivity(
         &words[from..to],
-        degree,
+        layout.degree,
         vectors,
-        dimension,
         entry,
         bridges,
         scratch_words,
     );
     // there are fewer than n, which only rows as a build makes them promise
-    let count = slices::lesser_u32(built, n);
+    let count = built.min(n);
     let end = 2 * count as usize;
-    let at = store::bridges_at(capacity, degree);
     put_header(words, entry, count);
-    put_bridges(words, at, &bridges[..end]);
+    put_bridges(words, layout.bridges_at(), &bridges[..end]);
 }
 
 // Repair, with room for the bridges. A function of its own, so that this room and that of carving, which ends before, can
 // be the same part of the stack.
 fn repair_rows(
     words: &mut [u32],
-    vectors: &[f32],
-    shape: Shape,
-    capacity: u32,
+    vectors: Vectors,
+    n: u32,
+    layout: Layout,
     scratch_words: &mut [u32],
     scratch_floats: &mut [f32],
 )
-    requires { RepairFits shape capacity words.old vectors.now
+    requires { RepairFits n layout.capacity layout.degree vectors.dimension words.old vectors.components.now
         2048 (length scratch_words.old) (length scratch_floats.old) }
-    ensures { RepairPut shape capacity (vectors_in shape.dimension vectors.now) words.old words.new }
+    ensures { RepairPut n layout.capacity layout.degree vectors.entry.dimension (vectors_of vectors.entry)
+        words.old words.new }
 {
     let mut bridges = [0u32; 2048];
     repair(
         words,
         vectors,
-        shape,
-        capacity,
+        n,
+        layout,
         &mut bridges[..],
         scratch_words,
         scratch_floats,
@@ -228,34 +222,27 @@ fn build_graph(
 {
     let n = store::word_at(words, store::NODES);
     let dimension = store::word_at(words, store::DIMENSION);
-    let capacity = store::word_at(words, store::CAPACITY);
     let p = store::params_of(words);
-    let degree = p.max_degree as u16;
+    let layout = Layout {
+        capacity: store::word_at(words, store::CAPACITY),
+        degree: p.max_degree as u16,
+    };
     let end = store::floats_size(n, dimension);
-    let from = store::rows_at(capacity);
-    let to = store::row_at(capacity, degree, Node(n));
+    let vectors = Vectors {
+        components: &floats[..end],
+        dimension,
+    };
+    let from = store::rows_at(layout.capacity);
+    let to = layout.row_at(Node(n));
     put_rows(
         &mut words[from..to],
-        &floats[..end],
-        dimension,
+        vectors,
         n,
         p,
         scratch_words,
         scratch_floats,
     );
-    let shape = Shape {
-        n,
-        degree,
-        dimension,
-    };
-    repair_rows(
-        words,
-        &floats[..end],
-        shape,
-        capacity,
-        scratch_words,
-        scratch_floats,
-    );
+    repair_rows(words, vectors, n, layout, scratch_words, scratch_floats);
 }
 
 // `PipnnIndex::build`: an open store that has nodes becomes a built one. On a built store it is success,
@@ -265,17 +252,18 @@ pub fn build(
     floats: &[f32],
     scratch_words: &mut [u32],
     scratch_floats: &mut [f32],
-) -> u32
-    ensures { (result, words.new, floats.now)
+) -> Result<(), Refusal>
+    ensures { (answer_of result, words.new, floats.now)
         ≡ build_spec (length scratch_words.old) (length scratch_floats.old) words.old floats.now }
 {
-    let refusal = build_refusal(words, floats, scratch_words.len(), scratch_floats.len());
-    if refusal != 0 {
-        return refusal;
-    }
+    let lent = Scratch {
+        words: scratch_words.len(),
+        floats: scratch_floats.len(),
+    };
+    check_build(words, floats, lent)?;
     if store::word_at(words, store::STATE) == store::BUILT {
-        return 0;
+        return Ok(());
     }
     build_graph(words, floats, scratch_words, scratch_floats);
-    0
+    Ok(())
 }

@@ -36,8 +36,8 @@ n_is c = c.word_at-n.ensures
 d_is : (c : After-row_at-to) → c.word_at-dimension.result ≡ word (w c) dimension_at
 d_is c = c.word_at-dimension.ensures
 
-C-is : (c : After-row_at-to) → c.word_at-capacity.result ≡ word (w c) capacity_at
-C-is c = c.word_at-capacity.ensures
+C-is : (c : After-row_at-to) → c.word_at.result ≡ word (w c) capacity_at
+C-is c = c.word_at.ensures
 
 p_is : (c : After-row_at-to) → c.params_of-p.result ≡ params_of (w c)
 p_is c = c.params_of-p.ensures
@@ -90,14 +90,15 @@ returns c =
     graph_built_at (taken (goal.at.returns c).Start) (n_is (goal.at.returns c).After-row_at-to) (C-is (goal.at.returns c).After-row_at-to) (D-is (goal.at.returns c).After-row_at-to) (d_is (goal.at.returns c).After-row_at-to) (p_is (goal.at.returns c).After-row_at-to) (vectors_are (goal.at.returns c).After-row_at-to) (from_is (goal.at.returns c).After-row_at-to) (sym full)
     put.ensures c.repair_rows.ensures
 
-pub overflow_cast-degree : goal.overflow_cast-degree
-overflow_cast-degree c = omega (arith, ap (λ (q : PipnnParams). q.max_degree) c.params_of-p.ensures, (taken (goal.at.overflow_cast-degree c).Start).stores.header.params.degree_most)
+pub overflow_cast-layout : goal.overflow_cast-layout
+overflow_cast-layout c = omega (arith, ap (λ (q : PipnnParams). q.max_degree) c.params_of-p.ensures, (taken (goal.at.overflow_cast-layout c).Start).stores.header.params.degree_most)
 
 pub slice_bounds-put_rows-end : goal.slice_bounds-put_rows-end
 slice_bounds-put_rows-end c = omega (arith, to_is (goal.at.slice_bounds-put_rows-end c).After-row_at-to, (taken (goal.at.slice_bounds-put_rows-end c).Start).stores.room.rows)
 
-pub slice_bounds-put_rows-end-2 : goal.slice_bounds-put_rows-end-2
-slice_bounds-put_rows-end-2 c = sym (length-take-le _ _ (vectors_within (goal.at.slice_bounds-put_rows-end-2 c).After-row_at-to))
-
-pub slice_bounds-repair_rows-end : goal.slice_bounds-repair_rows-end
-slice_bounds-repair_rows-end c = sym (length-take-le _ _ (vectors_within (goal.at.slice_bounds-repair_rows-end c).After-row_at-to))
+pub slice_bounds-vectors-end : goal.slice_bounds-vectors-end
+slice_bounds-vectors-end c =
+    let t = taken (goal.at.slice_bounds-vectors-end c).Start in
+    let end : c.floats_size-end.result ≡ word c.args.words.now nodes_at * word c.args.words.now dimension_at =
+    c.floats_size-end.ensures ∙ ap₂ (λ (x : ℕ) (y : ℕ). x * y) c.word_at-n.ensures c.word_at-dimension.ensures in
+    sym (length-take-le _ _ (omega (arith, end, t.stores.room.vectors)))

@@ -1,13 +1,11 @@
--- `build::put_bridges` meets its contract: the part holds the bridges. Assumes nothing.
+-- The part holds the bridges. Assumes nothing.
 use native.Mathlib.Omega.{arith}
-use mathlib.Core.Path.{◌≡◌}
-use Prim.Native.Nat.{◌+◌, ◌-◌}
-use lib.ListN.{length}
-use Rattle.build.proofs.Laid.{filled_laid}
+use mathlib.Core.Path.{ap, ◌∙◌}
+use borrow.Rule.Slice.PartMut.{put_mid}
+use Rattle.build.proofs.Laid.{put_laid}
 use Rattle.build.proofs.put_bridges.Goals as goal
 
 pub returns : goal.returns
 returns c =
     let a = c.args in
-    let many : a.at + length a.bridges.now - a.at ≡ length a.bridges.now = omega arith in
-    filled_laid a.at _ a.words.now _ a.bridges.now many (omega arith) c.copy_words.ensures
+    ap (put_mid a.at _ a.words.now) c.copy_from_slice.ensures.after ∙ put_laid a.at _ a.words.now a.bridges.now (omega arith)

@@ -18,7 +18,7 @@ returns c =
     let build = c.build_leaves in
     let end = c.leaf_entries-nodes_end in
     let size : 2 * a.n + a.count - 2 * a.n ≡ a.count = omega arith in
-    built_from a.n a.max_leaf_size a.leaf a.count _ a.vectors.now a.carved.now _ _ _ _
+    built_from a.n a.max_leaf_size a.leaf a.count _ a.vectors a.carved.now _ _ _ _
     (ap (λ (k : ℕ). take k a.carved.now) end.ensures) (ap (λ (k : ℕ). take k (drop (2 * a.n) a.carved.now)) size) build.ensures
 
 pub slice_bounds-build_leaves-end-2 : goal.slice_bounds-build_leaves-end-2
