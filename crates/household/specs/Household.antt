@@ -1,12 +1,12 @@
 -- The household count (scope, Recognising and refusal 14): of a day and two lists, the seconds and the doc ids of the sightings, how many different
 -- doc ids were sighted on that day.
-use Rattle.std.specs.Prelude.{Bool, ◌||◌, not, List, [], ◌∷◌, ℕ, eqb, ltb, length}
+use Rattle.std.specs.Prelude.{Bool, ◌||◌, not, List, [], ◌∷◌, ℕ, eqb, ltb, length, Result, Ok, Err}
 use Rattle.basics.specs.Choice.{pick}
 use Rattle.basics.specs.Nodes.{has}
 use Rattle.basics.specs.Refusals.{Values}
 use Rattle.error.specs.Numbers.{bad_sightings}
-use Rattle.household.specs.declared.Household.{Household}
-use Rattle.household.specs.declared.Household.TheVariants.{Refused, Phones}
+use Rattle.error.specs.declared.Refusal.{Refusal}
+use Rattle.error.specs.Refused.{number_of}
 use Rattle.household.specs.Day.{day_of}
 
 -- the doc ids of the sightings of a day, in their order
@@ -26,10 +26,10 @@ different (x ∷ xs) = pick (has x xs) (different xs) (x ∷ different xs)
 abbrev pub turned_back : List ℕ → List ℕ → Bool
 turned_back seconds docs = ltb 512 (length seconds) || not (eqb (length seconds) (length docs))
 
--- the scope's number and values for the cases of the code's enum: a refusal has nothing but its number, success how many phones
-unfoldable pub household_values : Household → Values
-household_values (Refused number) = (number, [])
-household_values (Phones phones) = (0, phones ∷ [])
+-- the scope's number and values for what the call returns: a refusal has nothing but its number, success how many phones
+unfoldable pub household_values : Result ℕ Refusal → Values
+household_values (Ok phones) = (0, phones ∷ [])
+household_values (Err refusal) = (number_of refusal, [])
 
 unfoldable pub household_of : ℕ → List ℕ → List ℕ → Values
 unfolding pick docs_on different

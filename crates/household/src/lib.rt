@@ -12,25 +12,21 @@ ghost use Rattle.basics.specs.Nodes.{has};
 ghost use Rattle.household.specs.Day.{day_of};
 ghost use Rattle.household.specs.Household.{docs_on, different, household_values, household_of};
 
+use error::Refusal;
+
 // How many sightings a call may have.
 pub const MOST_SIGHTINGS: usize = 512;
 
-// What the count answers: the number of a refusal, or how many phones.
-#[derive(Clone, Copy)]
-pub enum Household {
-    Refused(u32),
-    Phones(u32),
-}
-
-pub fn household_count(day: u64, seconds: &[u64], docs: &[u32]) -> Household
+// How many different phones were sighted on a day.
+pub fn household_count(day: u64, seconds: &[u64], docs: &[u32]) -> Result<u32, Refusal>
     ensures { household_values result ≡ household_of day seconds.now docs.now }
 {
     if (seconds.len() > MOST_SIGHTINGS) | (seconds.len() != docs.len()) {
-        return Household::Refused(error::BAD_SIGHTINGS);
+        return Err(Refusal::BadSightings);
     }
     let mut today = [0u32; MOST_SIGHTINGS];
     let sighted = gather(day, seconds, docs, &mut today);
-    Household::Phones(count_different(&today[..sighted]) as u32)
+    Ok(count_different(&today[..sighted]) as u32)
 }
 
 // The day that a second lies in.
