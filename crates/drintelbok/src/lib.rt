@@ -16,14 +16,17 @@ ghost use Rattle.pipnn.specs.Add.{add_spec};
 ghost use Rattle.def_calls.specs.Build.{build_spec};
 ghost use Rattle.def_calls.specs.Search.{search_with_ef_spec, search_spec};
 ghost use Rattle.recognise.specs.Recognise.{recognise_spec};
-ghost use Rattle.household.specs.Household.{household_of};
 ghost use Rattle.drintelbok.specs.New.{params_from, new_from};
-ghost use Rattle.drintelbok.specs.Given.{found_with, recognised_with, counted_as};
+ghost use Rattle.recognise.specs.Recognised.{answer_values};
+ghost use Rattle.household.specs.Household.{household_values, household_of};
+ghost use Rattle.drintelbok.specs.Given.{found_of, found_with, recognised_with, counted_as};
 ghost use Rattle.drintelbok.specs.Sizes.{words_needed, floats_needed, scratch_words_needed, scratch_floats_needed};
 
-use household::Household;
+use beam_search::Walked;
+use error::Refusal;
 use params::PipnnParams;
 use recognise::score::Recognised;
+use store::Layout;
 use words::ids::DocId;
 
 // What a search returns besides its two outputs: 0 or the number of a refusal, how many nodes are in the
@@ -34,6 +37,25 @@ pub struct PipnnFound {
     pub number: u32,
     pub count: u32,
     pub scored: u32,
+}
+
+impl From<Result<Walked, Refusal>> for PipnnFound {
+    ghost from_gives = { λ answer found. found ≡ found_of answer };
+
+    fn from(answer: Result<Walked, Refusal>) -> PipnnFound {
+        match answer {
+            Ok(walked) => PipnnFound {
+                number: 0,
+                count: walked.count,
+                scored: walked.scored,
+            },
+            Err(refusal) => PipnnFound {
+                number: refusal.number(),
+                count: 0,
+                scored: 0,
+            },
+        }
+    }
 }
 
 // What recognising returns: 0 or the number of a refusal; 1 for Known and 0 for New; the doc id, 0 for New;
@@ -47,6 +69,35 @@ pub struct PipnnRecognised {
     pub score: u32,
 }
 
+impl From<Result<Recognised, Refusal>> for PipnnRecognised {
+    ghost from_gives = { λ answer recognised. recognised ≡ recognised_with (answer_values answer) };
+
+    fn from(answer: Result<Recognised, Refusal>) -> PipnnRecognised {
+        match answer {
+            Ok(recognised) => match recognised {
+                Recognised::Known(doc, score) => PipnnRecognised {
+                    number: 0,
+                    known: 1,
+                    doc: doc.0,
+                    score,
+                },
+                Recognised::New(score) => PipnnRecognised {
+                    number: 0,
+                    known: 0,
+                    doc: 0,
+                    score,
+                },
+            },
+            Err(refusal) => PipnnRecognised {
+                number: refusal.number(),
+                known: 0,
+                doc: 0,
+                score: 0,
+            },
+        }
+    }
+}
+
 // What the household count returns: 0 or the number of a refusal, how many different phones.
 #[repr(C)]
 #[derive(Clone, Copy)]
@@ -55,12 +106,27 @@ pub struct PipnnHousehold {
     pub phones: u32,
 }
 
+impl From<Result<u32, Refusal>> for PipnnHousehold {
+    ghost from_gives = { λ answer counted. counted ≡ counted_as (household_values answer) };
+
+    fn from(answer: Result<u32, Refusal>) -> PipnnHousehold {
+        match answer {
+            Ok(phones) => PipnnHousehold { number: 0, phones },
+            Err(refusal) => {
+                let number = refusal.number();
+                PipnnHousehold { number, phones: 0 }
+            }
+        }
+    }
+}
+
 // How many words the word store has to have; 0 where a number is beyond its limits. So for the next three.
 pub fn pipnn_words_size(capacity: u32, max_degree: u32) -> usize
     ensures { result ≡ words_needed capacity max_degree }
 {
     if params::capacity_within(capacity) & (max_degree <= params::MOST_DEGREE) {
-        return store::words_size(capacity, max_degree as u16);
+        let degree = max_degree as u16;
+        return Layout { capacity, degree }.words_size();
     }
     0
 }
@@ -113,7 +179,7 @@ pub fn pipnn_new(
         capacity words.old floats.old }
 {
     if params::dimension_within(dimension) & (1 < final_prune) {
-        return error::PARAMETER_OUT_OF_RANGE;
+        return Refusal::ParameterOutOfRange.number();
     }
     let p = PipnnParams {
         max_leaf_size,
@@ -125,13 +191,13 @@ pub fn pipnn_new(
         alpha,
         ef_search,
     };
-    pipnn::new(words, floats, dimension, p, capacity)
+    error::number_or_zero(pipnn::new(words, floats, dimension, p, capacity))
 }
 
 pub fn pipnn_add(words: &mut [u32], floats: &mut [f32], doc: u32, vector: &[f32]) -> u32
     ensures { (result, words.new, floats.new) ≡ add_spec words.old floats.old doc vector.now }
 {
-    pipnn::add_slice(words, floats, DocId(doc), vector)
+    error::number_or_zero(pipnn::add_slice(words, floats, DocId(doc), vector))
 }
 
 pub fn pipnn_build(
@@ -144,7 +210,7 @@ pub fn pipnn_build(
         ≡ build_spec (length scratch_words.old) (length scratch_floats.old)
         words.old floats.now }
 {
-    build::build(words, floats, scratch_words, scratch_floats)
+    error::number_or_zero(build::build(words, floats, scratch_words, scratch_floats))
 }
 
 pub fn pipnn_search_with_ef(
@@ -162,7 +228,7 @@ pub fn pipnn_search_with_ef(
         ≡ search_with_ef_spec (length scratch_words.old) (length scratch_floats.old)
         words.now floats.now query.now k ef docs.old distances.old }
 {
-    let found = search::search_with_ef(
+    PipnnFound::from(search::search_with_ef(
         words,
         floats,
         query,
@@ -172,12 +238,7 @@ pub fn pipnn_search_with_ef(
         distances,
         scratch_words,
         scratch_floats,
-    );
-    PipnnFound {
-        number: found.number,
-        count: found.count,
-        scored: found.scored,
-    }
+    ))
 }
 
 // With the store's ef_search.
@@ -195,7 +256,7 @@ pub fn pipnn_search(
         ≡ search_spec (length scratch_words.old) (length scratch_floats.old)
         words.now floats.now query.now k docs.old distances.old }
 {
-    let found = search::search(
+    PipnnFound::from(search::search(
         words,
         floats,
         query,
@@ -204,12 +265,7 @@ pub fn pipnn_search(
         distances,
         scratch_words,
         scratch_floats,
-    );
-    PipnnFound {
-        number: found.number,
-        count: found.count,
-        scored: found.scored,
-    }
+    ))
 }
 
 pub fn pipnn_recognise(
@@ -225,7 +281,7 @@ pub fn pipnn_recognise(
         ≡ recognised_with (recognise_spec (length scratch_words.old) (length scratch_floats.old)
         words.now floats.now query.now ef limit) }
 {
-    let answer = recognise::recognise(
+    PipnnRecognised::from(recognise::recognise(
         words,
         floats,
         query,
@@ -233,35 +289,11 @@ pub fn pipnn_recognise(
         limit,
         scratch_words,
         scratch_floats,
-    );
-    match answer {
-        Recognised::Known(doc, score) => PipnnRecognised {
-            number: 0,
-            known: 1,
-            doc: doc.0,
-            score,
-        },
-        Recognised::New(score) => PipnnRecognised {
-            number: 0,
-            known: 0,
-            doc: 0,
-            score,
-        },
-        Recognised::Refused(number) => PipnnRecognised {
-            number,
-            known: 0,
-            doc: 0,
-            score: 0,
-        },
-    }
+    ))
 }
 
 pub fn pipnn_household_count(day: u64, seconds: &[u64], docs: &[u32]) -> PipnnHousehold
     ensures { result ≡ counted_as (household_of day seconds.now docs.now) }
 {
-    let counted = household::household_count(day, seconds, docs);
-    match counted {
-        Household::Refused(number) => PipnnHousehold { number, phones: 0 },
-        Household::Phones(phones) => PipnnHousehold { number: 0, phones },
-    }
+    PipnnHousehold::from(household::household_count(day, seconds, docs))
 }

@@ -10,7 +10,8 @@ use Rattle.drintelbok.proofs.pipnn_new.Goals.{Start}
 pub returns-then-dimension_within-final_prune : goal.returns-then-dimension_within-final_prune
 returns-then-dimension_within-final_prune c =
     let a = c.args in
-    turned_back_lem a.dimension a.final_prune _ a.capacity a.words.now a.floats.now c.dimension_within.result c.dimension_within.ensures c.if-dimension_within-final_prune.true
+    (λ i. (c.number.ensures i, a.words.now, a.floats.now))
+    ∙ turned_back_lem a.dimension a.final_prune _ a.capacity a.words.now a.floats.now c.dimension_within.result c.dimension_within.ensures c.if-dimension_within-final_prune.true
 
 abbrev params : Start → PipnnParams
 params s =
@@ -22,5 +23,5 @@ returns c =
     let a = c.args in
     let within = c.dimension_within in
     ◌∙◌ {b = new_spec a.dimension (params (goal.at.returns c).Start) a.capacity a.words.now a.floats.now}
-    c.new.ensures
+    ((λ i. (c.number_or_zero.ensures i, c.new.new.words, c.new.new.floats)) ∙ c.new.ensures)
     (passed_on a.dimension a.final_prune (params (goal.at.returns c).Start) a.capacity a.words.now a.floats.now within.result within.ensures c.if-dimension_within-final_prune.false)
