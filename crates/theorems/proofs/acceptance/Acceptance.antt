@@ -16,6 +16,7 @@ use Rattle.basics.proofs.Tests.{both_false}
 use Rattle.params.specs.declared.PipnnParams.{PipnnParams}
 use Rattle.params.specs.Limits.{most_dimension, most_capacity, within_limits}
 use Rattle.params.proofs.Laws.{within}
+use Rattle.std.specs.Prelude.{None}
 use Rattle.store.specs.Opening.{scratch as lent}
 use Rattle.store.specs.Layout.{word, built_state, state_at, dimension_at, nodes_at, capacity_at, ef_search_at, scratch_words, scratch_floats}
 use Rattle.store.specs.View.{params_of, view}
@@ -87,7 +88,7 @@ add-accepted doc v x w f m s a =
     let full : word w nodes_at ≡ word w capacity_at → ⊥ = λ e. omega (arith, h.nodes, h.capacity, a.free) in
     let own : Pass (own_checks w v) = (open-still, (components, (ap not a.numbers, (ne_eqb (word w nodes_at) (word w capacity_at) full, tt)))) in
     number_is (first_refusal (add_checks w f v)) w f _ _
-    ∙ none (add_checks w f v) (pass_both (opening Nothing w f) (own_checks w v) (open_passes x w f m s Nothing refl) own)
+    ∙ none (add_checks w f v) (pass_both (opening None w f) (own_checks w v) (open_passes x w f m s None refl) own)
 
 add_passed : (doc : ℕ) (v : List Float) (w : List ℕ) (f : List Float) → Accepted (add doc v) w f → AddTaken w f v
 unfolding outcome add_spec

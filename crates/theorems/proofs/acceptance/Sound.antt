@@ -13,7 +13,8 @@ use borrow.Author.Tests.{le-ltb}
 use Rattle.basics.specs.Lists.{every}
 use Rattle.basics.proofs.Refusals.{Pass}
 use Rattle.params.specs.Limits.{dimension_within, capacity_within, within_limits}
-use Rattle.store.specs.declared.Lent.{Lent}
+use Rattle.std.specs.Prelude.{Option}
+use Rattle.store.specs.declared.Scratch.{Scratch}
 use Rattle.store.specs.Layout.{word, header_size, dimension_at, nodes_at, degree_at, final_prune_at, capacity_at, zero_at, words_size, floats_size}
 use Rattle.store.specs.View.{row_words, bridge_words, View, view}
 use Rattle.store.specs.WellFormed.{header_ok, count_ok, rest_ok}
@@ -80,7 +81,7 @@ module _ (x : Index) (w : List ℕ) (f : List Float) (s : Sound x w f) (h : Show
   unfolding view
   floats_long = subst (λ (k : ℕ). k ≤ length f) (sym (ap₂ floats_size h.capacity h.dimension)) s.floats
 
-  passed : header_ok w ≡ true → rest_ok w f ≡ true → (lent : Lent) → scratch_short (word w capacity_at) lent ≡ false → Pass (opening lent w f)
+  passed : header_ok w ≡ true → rest_ok w f ≡ true → (lent : Option Scratch) → scratch_short (word w capacity_at) lent ≡ false → Pass (opening lent w f)
   unfolding opening
   passed header others lent enough =
       let sizes = ap₂ ◌||◌ (ap₂ ◌||◌ (le-ltb (length w) _ words_long) (le-ltb (length f) _ floats_long)) enough in
@@ -96,7 +97,7 @@ open_words x w f o = record {
   bridges = sym (bridges_read w f) ∙ ap (λ (v : View). length v.bridges) o.is;
 }
 
-pub open_passes : (x : Index) (w : List ℕ) (f : List Float) → Made (opened x) w f → Sound x w f → (lent : Lent) → scratch_short (word w capacity_at) lent ≡ false
+pub open_passes : (x : Index) (w : List ℕ) (f : List Float) → Made (opened x) w f → Sound x w f → (lent : Option Scratch) → scratch_short (word w capacity_at) lent ≡ false
     → Pass (opening lent w f)
 open_passes x w f o s =
     let h : Shown x (view w f) = open_shown x w f o in
@@ -112,7 +113,7 @@ built_words_lem x w f b =
     let g : Walkable (view w f) = b.graph in
     record { state = b.state; nodes = omega (arith, g.entry); entry = g.entry; bridges = omega (arith, g.few, bridges_read w f) }
 
-pub built_passes : (x : Index) (w : List ℕ) (f : List Float) → Made (built x) w f → Sound x w f → (lent : Lent) → scratch_short (word w capacity_at) lent ≡ false
+pub built_passes : (x : Index) (w : List ℕ) (f : List Float) → Made (built x) w f → Sound x w f → (lent : Option Scratch) → scratch_short (word w capacity_at) lent ≡ false
     → Pass (opening lent w f)
 unfolding view
 built_passes x w f b s =

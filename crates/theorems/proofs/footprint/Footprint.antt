@@ -80,7 +80,7 @@ module _ (w w' : List ℕ) (f f' : List Float) (a : Agree w w' f f') where
   unfolding add_spec add_checks
   on_add doc v =
       answers (first_refusal (add_checks w f v)) (first_refusal (add_checks w' f' v)) (added_words w doc) (added_words w' doc) (added_floats w f v) (added_floats w' f' v)
-      (numbers_same Nothing Nothing a refl (own_same v))
+      (numbers_same None None a refl (own_same v))
       (added_same doc v)
 
   -- ---- build

@@ -11,7 +11,8 @@ use lib.ListN.{length, take, drop}
 use lib.Ieee.{Float}
 use Rattle.basics.specs.Lists.{pieces}
 use Rattle.basics.specs.Refusals.{Check, first_refusal}
-use Rattle.store.specs.declared.Lent.{Lent}
+use Rattle.std.specs.Prelude.{Option}
+use Rattle.store.specs.declared.Scratch.{Scratch}
 use Rattle.store.specs.Layout.{word, header_size, state_at, dimension_at, nodes_at, max_leaf_size_at, min_leaf_size_at, degree_at, hash_bits_at, final_prune_at, ef_search_at, entry_at, bridge_count_at, capacity_at, fraction_high_at, fraction_low_at, alpha_at, zero_at, docs_at, rows_at, row_size, bridges_at, bridge_size}
 use Rattle.store.specs.View.{view, params_of, row_words, bridge_words}
 use Rattle.store.specs.WellFormed.{header_ok, rest_ok, open_ok, built_ok}
@@ -149,7 +150,7 @@ module _ {w w' : List ℕ} {f f' : List Float} (h : Words w w') (ok : header_ok 
 -- ---- the number of the first check that fails
 
 -- whatever checks a call has besides: they agree too
-module _ {w w' : List ℕ} {f f' : List Float} (lent lent' : Lent) {more more' : List Check} (a : Agree w w' f f')
+module _ {w w' : List ℕ} {f f' : List Float} (lent lent' : Option Scratch) {more more' : List Check} (a : Agree w w' f f')
     (s : scratch_short (word w capacity_at) lent ≡ scratch_short (word w capacity_at) lent') (m : more ≡ more') where
   heads : Words w w'
   heads = words w w' a.header
@@ -161,7 +162,7 @@ module _ {w w' : List ℕ} {f f' : List Float} (lent lent' : Lent) {more more' :
   long' = le-ltb _ _ a.header_reach.1
 
   -- a header that is not well formed is refused with 4, whatever follows
-  refused : (u : List ℕ) (g : List Float) (l : Lent) (rest : List Check) → ltb (length u) header_size ≡ false → header_ok u ≡ false
+  refused : (u : List ℕ) (g : List Float) (l : Option Scratch) (rest : List Check) → ltb (length u) header_size ≡ false → header_ok u ≡ false
       → first_refusal (opening l u g ++ rest) ≡ 4
   unfolding opening first_refusal
   refused u g l rest x y = rw (x, y)
