@@ -18,8 +18,8 @@ ghost use Rattle.beam_state.specs.Inside.Tournament.{Putting};
 ghost use Rattle.beam_state.specs.Inside.Queues.{Popping, Worst, Keeping, Entering, held_rank};
 
 use super::tournament;
-use super::tournament::Pair;
 use distance::order;
+use sorting::Keyed;
 use words::ids::Node;
 
 // How many nodes are held, and the cutoff.
@@ -43,7 +43,7 @@ pub fn distance_of(floats: &[f32], node: Node) -> f32
 pub fn enter(tree: &mut [u32], key: u32, node: Node)
     ensures { Entering node.0 key tree.old tree.new }
 {
-    tournament::put(tree, node.0, Pair { key, id: node.0 });
+    tournament::put(tree, node.0, Keyed { key, id: node.0 });
 }
 
 // Takes the nearest node from the frontier, the lower one of equally near nodes, with its distance.
@@ -69,7 +69,7 @@ fn turned(key: u32) -> u32
 fn hold(tree: &mut [u32], slot: u32, key: u32)
     ensures { Putting slot (held_rank key slot) tree.old tree.new }
 {
-    let pair = Pair {
+    let pair = Keyed {
         key: turned(key),
         id: slot,
     };

@@ -9,26 +9,22 @@
 // takes the lesser of two in each step without a branch: id and key are one number of 64 bits, its rank.
 //
 // Every function is total. What a tree stands for is `Tournament` of specs/Inside/Tournament; proofs/Laws says that
-// its first pair is that of a slot and that no slot's comes before it.
+// its first pair is that of a slot and that no slot's comes before it. A pair is a `Keyed` of `sorting`.
 ghost use Rattle.std.specs.Prelude.{◌≡◌, ◌*◌, ◌+◌, ◌-◌, ◌/◌, ◌%◌, ◌<◌, length, replicate};
 ghost use Rattle.beam_state.specs.Inside.Tournament.{rank_of, rank_at, with_pair, empty_rank, Tournament, First, Putting, Climbing};
 
-#[derive(Clone, Copy)]
-pub struct Pair {
-    pub key: u32,
-    pub id: u32,
-}
+use sorting::Keyed;
 
 // What stands in an empty slot.
 const NOTHING: u32 = 0xffff_ffff;
 
-const EMPTY: Pair = Pair {
+const EMPTY: Keyed = Keyed {
     key: NOTHING,
     id: NOTHING,
 };
 
 // A pair as one number: pairs stand in the order of these numbers.
-fn rank(pair: Pair) -> u64
+fn rank(pair: Keyed) -> u64
     ensures { result ≡ rank_of pair.key pair.id }
 {
     (pair.key as u64) * 4294967296 + (pair.id as u64)
@@ -46,7 +42,7 @@ fn rank_at(tree: &[u32], p: usize) -> u64
     requires { 2 * p + 1 < length tree.now }
     ensures { result ≡ rank_at tree.now p }
 {
-    rank(Pair {
+    rank(Keyed {
         key: tree[2 * p + 1],
         id: tree[2 * p],
     })
@@ -77,7 +73,7 @@ fn climb(tree: &mut [u32], from: usize, rank: u64)
 }
 
 // Puts a pair at one of the tree's places.
-pub fn put(tree: &mut [u32], place: u32, pair: Pair)
+pub fn put(tree: &mut [u32], place: u32, pair: Keyed)
     ensures { Putting place (rank_of pair.key pair.id) tree.old tree.new }
 {
     let size = tree.len() / 4;
@@ -99,7 +95,7 @@ pub fn remove(tree: &mut [u32], place: u32)
 }
 
 // The first pair of all, if there is one.
-pub fn first(tree: &[u32]) -> Option<Pair>
+pub fn first(tree: &[u32]) -> Option<Keyed>
     ensures { First tree.now result }
 {
     if tree.len() < 4 {
@@ -109,5 +105,5 @@ pub fn first(tree: &[u32]) -> Option<Pair>
     if id == NOTHING {
         return None;
     }
-    Some(Pair { key: tree[3], id })
+    Some(Keyed { key: tree[3], id })
 }

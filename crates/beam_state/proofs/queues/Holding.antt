@@ -23,7 +23,7 @@ use Rattle.basics.specs.Choice.{pick, pick_ind, pick_true, pick_false}
 use Rattle.basics.proofs.Tests.{one_true, both_true, both_false}
 use Rattle.distance.proofs.order.Laws.{key_below}
 use Rattle.beam_state.specs.Inside.Tournament.{rank_of, rank_at, empty_rank, Tournament, Putting, first_of}
-use Rattle.beam_state.specs.declared.tournament.Pair.{Pair}
+use Rattle.sorting.specs.declared.Keyed.{Keyed}
 use Rattle.beam_state.proofs.tournament.Laws.{Winner, first_least, first_wins}
 use Rattle.def_walk.specs.KeepClosest.{key_at, sooner, insert_in, hold}
 use Rattle.beam_state.specs.Inside.Queues.{held_rank, times, Falling, Held}
@@ -102,10 +102,10 @@ module _ {far : ℕ → Float} {size : ℕ} {tree : List ℕ} where
         let no : ltb won.place (length h.keys) ≡ false = le-ltb won.place (length h.keys) (omega (arith, h.as_many)) in
         let all : rank_at tree 1 ≡ empty_rank = sym won.wins ∙ h.stands won.place (omega (arith, won.inside, h.many)) ∙ pick_false _ _ no in
         let s = size_is h in
-        ap (λ (p : Pair). p.id) (pick_false _ _ (le-ltb (length tree) 4 (omega arith))) ∙ omega arith
+        ap (λ (p : Keyed). p.id) (pick_false _ _ (le-ltb (length tree) 4 (omega arith))) ∙ omega arith
     | no p ↦
         let s = size_is h in
-        ap (λ (p : Pair). p.id) (pick_true _ _ (lt-ltb (length tree) 4 (omega arith)))
+        ap (λ (p : Keyed). p.id) (pick_true _ _ (lt-ltb (length tree) 4 (omega arith)))
   ]
 
 -- ---- the first pair is the worst's

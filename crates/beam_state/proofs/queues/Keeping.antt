@@ -13,15 +13,15 @@ use Rattle.basics.specs.Choice.{pick_true, pick_false}
 use Rattle.distance.specs.Order.{value_of}
 use Rattle.distance.proofs.order.Laws.{key_below, value_key}
 use Rattle.beam_state.specs.Inside.Tournament.{Putting, first_of}
-use Rattle.beam_state.specs.declared.tournament.Pair.{Pair}
+use Rattle.sorting.specs.declared.Keyed.{Keyed}
 use Rattle.def_walk.specs.KeepClosest.{key_at, hold, replace_worst, keep_closest, worst_of}
 use Rattle.beam_state.specs.Inside.Queues.{held_rank, Held, Worst, Keeping}
 use Rattle.def_walk.proofs.beam.Inserting.{hold_one}
 use Rattle.beam_state.proofs.queues.Holding.{none_first, first_held, held_more, held_over}
 
-module _ (tree : List ℕ) (top : Pair) (first : top ≡ first_of tree) (j : get_or tree 3 0 < 4294967296) (k : get_or tree 2 0 < 4294967296) where
+module _ (tree : List ℕ) (top : Keyed) (first : top ≡ first_of tree) (j : get_or tree 3 0 < 4294967296) (k : get_or tree 2 0 < 4294967296) where
   top_id : top.id ≡ (first_of tree).id
-  top_id = ap (λ (p : Pair). p.id) first
+  top_id = ap (λ (p : Keyed). p.id) first
 
   module _ {far : ℕ → Float} {size : ℕ} (f32s : (v : ℕ) → T (fits binary32 (far v))) where
     -- where some are held the first pair is no empty place's
@@ -36,7 +36,7 @@ module _ (tree : List ℕ) (top : Pair) (first : top ≡ first_of tree) (j : get
     worst_is u l h =
         let f = first_held f32s j k u l h in
         let small : key_at far u < 4294967296 = key_below (far u) (f32s u) in
-        let turned : 0xffff_ffff - top.key ≡ key_at far u = ap (λ (p : Pair). 0xffff_ffff - p.key) first ∙ ap (λ (x : ℕ). 0xffff_ffff - x) f.key ∙ omega arith in
+        let turned : 0xffff_ffff - top.key ≡ key_at far u = ap (λ (p : Keyed). 0xffff_ffff - p.key) first ∙ ap (λ (x : ℕ). 0xffff_ffff - x) f.key ∙ omega arith in
         ap (value_of binary32) turned ∙ value_key (far u) (f32s u)
 
   pub worst_none : top.id ≡ 0xffff_ffff → Worst tree (inf false)

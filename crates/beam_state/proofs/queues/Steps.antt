@@ -11,7 +11,7 @@ use lib.ListN.{length, get_or}
 use lib.Ieee.{Float, inf}
 use Rattle.basics.specs.Choice.{pick_true, pick_false}
 use Rattle.beam_state.specs.Inside.Tournament.{rank_of, empty_rank, Putting, first_of}
-use Rattle.beam_state.specs.declared.tournament.Pair.{Pair}
+use Rattle.sorting.specs.declared.Keyed.{Keyed}
 use Rattle.beam_state.proofs.tournament.Laws.{rank_id}
 use Rattle.def_walk.specs.KeepClosest.{key_at, sooner}
 use Rattle.def_walk.specs.Beam.{to_frontier}
@@ -30,7 +30,7 @@ module _ (a b : ℕ → ℕ) (n : ℕ) (tree : List ℕ) where
   first_id u l below h k q =
       let low : u < n = q.inside u (here refl) in
       let size : length tree / 4 ≡ n = queue_size (λ v. rank_of (a v) (b v)) n (u ∷ l) tree q in
-      ap (λ (p : Pair). p.id) (pick_false _ _ (le-ltb (length tree) 4 (omega arith)))
+      ap (λ (p : Keyed). p.id) (pick_false _ _ (le-ltb (length tree) 4 (omega arith)))
       ∙ rank_id (get_or tree 3 0) (get_or tree 2 0) (a u) (b u) k h (first_node (λ v. rank_of (a v) (b v)) n u l tree below q)
 
   pub none_id : get_or tree 3 0 < 4294967296 → get_or tree 2 0 < 4294967296 → Queue (λ v. rank_of (a v) (b v)) n [] tree → (first_of tree).id ≡ 0xffff_ffff
@@ -39,10 +39,10 @@ module _ (a b : ℕ → ℕ) (n : ℕ) (tree : List ℕ) where
     | yes h ↦
         let size : length tree / 4 ≡ n = queue_size (λ v. rank_of (a v) (b v)) n [] tree q in
         let all : rank_of (get_or tree 3 0) (get_or tree 2 0) ≡ empty_rank = none_first (λ v. rank_of (a v) (b v)) n tree h q in
-        ap (λ (p : Pair). p.id) (pick_false _ _ (le-ltb (length tree) 4 (omega arith))) ∙ omega arith
+        ap (λ (p : Keyed). p.id) (pick_false _ _ (le-ltb (length tree) 4 (omega arith))) ∙ omega arith
     | no h ↦
         let size : length tree / 4 ≡ n = queue_size (λ v. rank_of (a v) (b v)) n [] tree q in
-        ap (λ (p : Pair). p.id) (pick_true _ _ (lt-ltb (length tree) 4 (omega arith)))
+        ap (λ (p : Keyed). p.id) (pick_true _ _ (lt-ltb (length tree) 4 (omega arith)))
   ]
 
 -- ---- the frontier

@@ -2,7 +2,7 @@
 -- and pairs stand in the order of their ranks.
 use Rattle.std.specs.Prelude.{◌≡◌, List, ℕ, ◌+◌, ◌*◌, ◌/◌, ◌%◌, ◌≤◌, ◌<◌, min, ltb, length, get_or, set, Option, Some, None}
 use Rattle.basics.specs.Choice.{pick}
-use Rattle.beam_state.specs.declared.tournament.Pair.{Pair}
+use Rattle.sorting.specs.declared.Keyed.{Keyed}
 
 abbrev pub rank_of : ℕ → ℕ → ℕ
 rank_of key id = key * 4294967296 + id
@@ -26,12 +26,12 @@ abbrev pub Putting : ℕ → ℕ → List ℕ → List ℕ → Type 0
 Putting place rank tree tree' = (leaves : List ℕ) → Tournament leaves tree → place < length leaves → Tournament (set leaves place rank) tree'
 
 -- the pair that stands first
-unfoldable pub first_of : List ℕ → Pair
+unfoldable pub first_of : List ℕ → Keyed
 unfolding pick
 first_of tree = pick (ltb (length tree) 4) (record { key = 0xffff_ffff; id = 0xffff_ffff }) (record { key = get_or tree 3 0; id = get_or tree 2 0 })
 
 -- that pair, unless it is an empty place's
-abbrev pub First : List ℕ → Option Pair → Type 0
+abbrev pub First : List ℕ → Option Keyed → Type 0
 First tree None = (first_of tree).id ≡ 0xffff_ffff
 First tree (Some top) = (top ≡ first_of tree) × (top.id ≡ 0xffff_ffff → ⊥)
 

@@ -1,6 +1,6 @@
 -- The first pair's id is the first node's, if there is one. Assumes nothing.
 use Rattle.std.proofs.Common.{rules, refl, ap}
-use Rattle.beam_state.specs.declared.tournament.Pair.{Pair}
+use Rattle.sorting.specs.declared.Keyed.{Keyed}
 use Rattle.beam_state.specs.Inside.Tournament.{first_of}
 use Rattle.beam_state.proofs.queues.Steps.{pop_empty, pop_at}
 use Rattle.beam_state.proofs.queues.pop.Goals as goal
@@ -13,4 +13,4 @@ returns-in_default c =
 pub returns : goal.returns
 returns c =
     let top = c.in-Some.ensures in
-    pop_at c.args.floats.now c.args.tree.now c.remove.new.tree c.in-Some.top.id (ap (λ (p : Pair). p.id) top.0) (search rules) (search rules) top.1 c.distance_of.result c.distance_of.ensures c.remove.ensures
+    pop_at c.args.floats.now c.args.tree.now c.remove.new.tree c.in-Some.top.id (ap (λ (p : Keyed). p.id) top.0) (search rules) (search rules) top.1 c.distance_of.result c.distance_of.ensures c.remove.ensures
