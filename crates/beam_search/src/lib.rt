@@ -263,6 +263,7 @@ fn put_distances(distances: &mut [f32], answer: &[Keyed], floats: &[f32], count:
 // key, and their distances, as many as `answer` has room for. Returns how many there are, and how many nodes were
 // scored. `words` and `floats` are scratch, 64 and 16 for each node. The contract holds for scratch that is
 // long enough, at most 1,024 nodes and no more bridges than nodes.
+// kept (1): counts of 0, not an Option: a caller has checked the sizes, and has no refusal for the other case.
 pub fn beam_search(
     reads: Reads,
     sizes: Sizes,

@@ -30,6 +30,7 @@ pub struct Closest {
 }
 
 // A node's distance; infinity for one that has none.
+// kept (1): a walk compares a distance, and infinity is never the nearer one.
 pub fn distance_of(floats: &[f32], node: Node) -> f32
     ensures { result ≡ get_or floats.now node.0 (inf false) }
 {
@@ -77,6 +78,7 @@ fn hold(tree: &mut [u32], slot: u32, key: u32)
 }
 
 // The worst distance held; infinity where none is.
+// kept (1): the cutoff of part 8 is infinity where nothing is held.
 fn worst_of(tree: &[u32]) -> f32
     ensures { Worst tree.now result }
 {

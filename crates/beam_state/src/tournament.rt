@@ -16,6 +16,7 @@ ghost use Rattle.beam_state.specs.Inside.Tournament.{rank_of, rank_at, with_pair
 use sorting::Keyed;
 
 // What stands in an empty slot.
+// kept (1): the slots are words of the caller's scratch.
 const NOTHING: u32 = 0xffff_ffff;
 
 const EMPTY: Keyed = Keyed {
@@ -24,6 +25,7 @@ const EMPTY: Keyed = Keyed {
 };
 
 // A pair as one number: pairs stand in the order of these numbers.
+// kept (4): two of these are compared without a branch, and pairs field by field are not.
 fn rank(pair: Keyed) -> u64
     ensures { result ≡ rank_of pair.key pair.id }
 {
@@ -58,6 +60,7 @@ fn lay(tree: &mut [u32], p: usize, rank: u64)
 }
 
 // Settles the pairs above pair `from`, which alone was changed and has this rank, from below.
+// kept (3): the place halves with each step, which no range of std does.
 fn climb(tree: &mut [u32], from: usize, rank: u64)
     requires { (from < 2 * (length tree.old / 4)) × (rank_at tree.old from ≡ rank) }
     ensures { Climbing from tree.old tree.new }

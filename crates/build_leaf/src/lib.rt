@@ -49,6 +49,7 @@ pub fn build_leaves(
 }
 
 // The hyperplanes, in blocks of eight.
+// kept (2): it shares with `build_leaves` the shape of a local array that is filled and cut, and no step.
 fn planes_into(dimension: u32, bits: u32, out: &mut [f32])
     ensures { PlanesMade dimension bits (length out.old) out.new }
 {

@@ -226,6 +226,7 @@ pub fn mark(marks: &mut [u32], first: u32)
 }
 
 // Puts a bucket behind the first `at` nodes.
+// kept (2): it shares with `pipnn::put_vector` std's copy alone; the rest differs.
 fn place(bucket: &[u32], nodes: &mut [u32], marks: &mut [u32], at: usize)
     requires { (at + length bucket.now ≤ length nodes.old) × (length marks.old ≡ length nodes.old) }
     ensures { (nodes.new

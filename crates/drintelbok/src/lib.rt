@@ -9,6 +9,8 @@
 // It promises, for each call, the equation of the call behind it: number, stores and outputs, refusals
 // included. What C adds has a definition in specs/: `new_from` (final_prune is a number), the structs
 // returned (specs/Given), and sizes of 0 for what `pipnn_new` refuses (specs/Sizes).
+//
+// kept: numbers of refusals, structs of numbers, and slices that stand beside each other, since they cross to C.
 #![tactic(auto)]
 
 ghost use Rattle.std.specs.Prelude.{◌≡◌, length};

@@ -3,6 +3,8 @@
 //
 // Each export passes its arguments on and returns what it gets, and its clause is that of the function that it calls. What
 // crosses to C is said there: slices as a pointer and a length, structs by their fields in order.
+//
+// kept: numbers of refusals, and slices that stand beside each other, since they cross to C.
 #![tactic(auto)]
 
 ghost use Rattle.std.specs.Prelude.{◌≡◌, length};

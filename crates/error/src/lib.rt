@@ -58,6 +58,7 @@ impl fmt::Display for Refusal {
 }
 
 // What a call answers as C gets it: 0, or its refusal's number.
+// kept: C gets a number.
 pub fn number_or_zero(answer: Result<(), Refusal>) -> u32
     ensures { result ≡ answer_of answer }
 {

@@ -164,6 +164,7 @@ fn walk(
 // The nearest k of the nodes that a walk with `places` places and these stop numbers scores, all if fewer. They, each with
 // its key, and their distances go to the front of the two outputs, nearest first; what lies past them stays. A
 // checked query has at most 64 components.
+// kept (1): counts of 0, not an Option: a caller has checked the store, and has no refusal for the other case.
 pub fn find_nodes(
     words: &[u32],
     floats: &[f32],

@@ -52,6 +52,7 @@ fn gather(day: u64, seconds: &[u64], docs: &[u32], today: &mut [u32]) -> usize
 }
 
 // How many different numbers there are: each counts unless it stands again further on.
+// kept (3): std has no iterator over what is left of a slice.
 fn count_different(docs: &[u32]) -> usize
     ensures { result ≡ length (different docs.now) }
 {

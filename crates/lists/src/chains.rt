@@ -45,6 +45,7 @@ pub fn chain_bridge(links: &mut [u32], n: u32, j: u32, near: Node, far: Node)
 }
 
 // The first link of a node, 0 if there is none.
+// kept (1): links are words of the caller's scratch, here and in `next_link`.
 fn first_link(links: &[u32], n: u32, node: Node) -> u32
     ensures { result ≡ first_link n links.now node.0 }
 {

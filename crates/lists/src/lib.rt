@@ -72,6 +72,7 @@ pub fn row_of(rows: &[u32], degree: u16, node: Node) -> &[u32]
 }
 
 // An entry of a node's row, 0 where there is none.
+// kept (1): a place past the end reads as 0, as a word of a store does.
 pub fn entry_of(rows: &[u32], degree: u16, node: Node, e: usize) -> Node
     ensures { result.0 ≡ get_or (get_or (row_lists degree rows.now) node.0 []) e 0 }
 {

@@ -1,5 +1,7 @@
 // Distances and roots for bench/ alone, which links them by `measured_c`: a loop over rows inside the library, so that a call from
 // outside is paid for once for many rows. Proved safe; the crates that they call say what they compute.
+//
+// kept: a function for each way that is measured, with slices and numbers, since they cross to C.
 #![tactic(auto)]
 
 pub mod measured_stores;

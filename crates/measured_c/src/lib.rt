@@ -1,4 +1,6 @@
 // The static library for bench/: what `measured` has, each under its C name. `bindings/archive measured` writes the archive.
+//
+// kept: slices and numbers, since they cross to C.
 #![tactic(auto)]
 
 use measured::measured_stores;

@@ -41,6 +41,7 @@ pub struct PipnnParams {
 }
 
 // Whether a dimension is within its limits.
+// kept (2): one test of a range, here and in `capacity_within`; what they share is std's `contains`.
 pub fn dimension_within(dimension: u32) -> bool
     ensures { result ≡ dimension_within dimension }
 {

@@ -82,6 +82,7 @@ pub const HEADER_SIZE: usize = 16;
 pub const BRIDGE_SIZE: usize = 2;
 
 // What the state word says.
+// kept (1): a state is a word of the store, here and in `BUILT`, and `header_ok` has judged it.
 pub const OPEN: u32 = 0;
 
 pub const BUILT: u32 = 1;

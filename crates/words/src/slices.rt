@@ -11,6 +11,7 @@ pub fn word_at(words: &[u32], i: usize) -> u32
 }
 
 // Writes an element; an index past the end is ignored.
+// kept (3): with `get_mut` the proof loses what the slice holds.
 pub fn put<T: Copy>(items: &mut [T], at: usize, item: T)
     ensures { items.new ≡ set items.old at item }
 {
