@@ -1,7 +1,10 @@
 // The recorded leaves of vectors (recorded/README.md): the lines that ask for them.
 ghost use Rattle.std.specs.Prelude.{◌≤◌, length};
 
-use histories::vectors::Vectors;
+use carving::CarveParams;
+use dealing::DealParams;
+use distance::vectors::Vectors;
+use histories::vectors::Vectors as Generated;
 use replay::lines::Line;
 use replay::tokens::{Token, Tokens};
 
@@ -9,9 +12,7 @@ use replay::tokens::{Token, Tokens};
 #[derive(Clone, Copy)]
 struct Asked {
     dimension: Token,
-    max_leaf_size: u32,
-    min_leaf_size: u32,
-    leader_fraction: f64,
+    params: CarveParams,
     count: Token,
 }
 
@@ -19,9 +20,13 @@ impl Asked {
     fn read(question: &mut Tokens<'_>) -> Asked {
         Asked {
             dimension: question.token(),
-            max_leaf_size: question.read(),
-            min_leaf_size: question.read(),
-            leader_fraction: question.read(),
+            params: CarveParams {
+                max_leaf: question.read(),
+                dealing: DealParams {
+                    min_leaf: question.read(),
+                    leader_fraction: question.read(),
+                },
+            },
             count: question.token(),
         }
     }
@@ -35,18 +40,14 @@ struct Leaves<'a> {
 }
 
 // The leaves of vectors, carved in words of which 64 a node are passed in.
-fn carve<'a>(asked: &Asked, vectors: &[f32], words: &'a mut [u32]) -> Leaves<'a> {
+fn carve<'a>(asked: &Asked, components: &[f32], words: &'a mut [u32]) -> Leaves<'a> {
     let n = u32::from(asked.count);
     let lent = words.len().min(64 * (n as usize));
-    let found = carving::partition(
-        vectors,
-        u32::from(asked.dimension),
-        n,
-        asked.max_leaf_size,
-        asked.min_leaf_size,
-        asked.leader_fraction,
-        &mut words[..lent],
-    );
+    let vectors = Vectors {
+        components,
+        dimension: u32::from(asked.dimension),
+    };
+    let found = carving::partition(vectors, asked.params, n, &mut words[..lent]);
     let sizes = words.get(carving::SIZES_AT * (n as usize)..).unwrap_or(&[]);
     Leaves {
         nodes: words,
@@ -85,14 +86,14 @@ fn leaves_are_same(mut answer: Tokens<'_>, found: Leaves<'_>) -> bool {
 pub fn leaves_is_same(line: Line<'_>, room: &mut [f32]) -> bool {
     let mut question = line.question();
     let asked = Asked::read(&mut question);
-    let vectors = question.read_into(line.asked().saturating_sub(5), room);
+    let components = question.read_into(line.asked().saturating_sub(5), room);
     let mut words = histories::patterns::scattered::<u32, 65536>();
-    let found = carve(&asked, vectors, &mut words);
+    let found = carve(&asked, components, &mut words);
     leaves_are_same(line.answer(), found)
 }
 
 // Generates this many vectors, as far as there is room, and answers how many floats they have.
-fn generate_all(room: &mut [f32], dimension: usize, count: u64, mut vectors: Vectors) -> usize
+fn generate_all(room: &mut [f32], dimension: usize, count: u64, mut vectors: Generated) -> usize
     ensures { result ≤ length room.new }
 {
     let mut at: usize = 0;
@@ -125,7 +126,7 @@ fn sum_leaves(leaves: Leaves<'_>) -> u64 {
 pub fn leavesof_is_same(line: Line<'_>, room: &mut [f32]) -> Option<bool> {
     let mut question = line.question();
     let asked = Asked::read(&mut question);
-    let vectors = Vectors::asked(&mut question);
+    let vectors = Generated::asked(&mut question);
     let given = generate_all(
         room,
         usize::from(asked.dimension),

@@ -9,33 +9,45 @@
 
 pub mod leaf_histories;
 
+use beam_search::Walked;
+use error::Refusal;
 use histories::patterns::Scratch;
 use histories::{Stores, patterns};
 use replay::lines::Line;
 use replay::tokens::Tokens;
-use search::Found;
 
 // build SW SF = number
 pub fn build_is_same(stores: &mut Stores, line: Line<'_>) -> bool {
     let mut scratch = Scratch::asked(&mut line.question());
-    let number = build::build(
+    let built = build::build(
         stores.words.lent_mut(),
         stores.floats.lent(),
         scratch.words.lent_mut(),
         scratch.floats.lent_mut(),
     );
-    line.answer().is(number)
+    line.answer().is(built)
 }
 
 // Outputs: no answer is longer than 1,024, and k goes to 1,025.
 const OUTPUTS: usize = 1100;
 
-// Whether a search found what is recorded, and left the rest of its outputs alone.
-fn found_is_same(mut answer: Tokens<'_>, found: Found, docs: &[u32], distances: &[f32]) -> bool {
-    let count = found.count as usize;
-    answer.is(found.number)
-        && answer.is(found.count)
-        && answer.is(found.scored)
+// Whether a search found what is recorded, and left the rest of its outputs alone. One that is refused found and
+// scored nothing.
+fn found_is_same(
+    mut answer: Tokens<'_>,
+    found: Result<Walked, Refusal>,
+    docs: &[u32],
+    distances: &[f32],
+) -> bool {
+    let nothing = Walked {
+        count: 0,
+        scored: 0,
+    };
+    let walked = found.unwrap_or(nothing);
+    let count = walked.count as usize;
+    answer.is(found.map(|_| ()))
+        && answer.is(walked.count)
+        && answer.is(walked.scored)
         && answer.are(replay::front(docs, count))
         && answer.are(replay::front(distances, count))
         && answer.is_at_end()

@@ -17,6 +17,7 @@ pub mod memory;
 pub mod patterns;
 pub mod vectors;
 
+use error::Refusal;
 use memory::Memory;
 use params::PipnnParams;
 use random::lcg;
@@ -107,12 +108,12 @@ impl Stores {
         let capacity = question.read();
         let words = self.words.lent_mut();
         let floats = self.floats.lent_mut();
-        let number = pipnn::new(words, floats, dimension, params, capacity);
-        line.answer().is(number)
+        let made = pipnn::new(words, floats, dimension, params, capacity);
+        line.answer().is(made)
     }
 
-    // Adds a vector, and answers the call's number.
-    fn add(&mut self, doc: u32, vector: &[f32]) -> u32 {
+    // Adds a vector.
+    fn add(&mut self, doc: u32, vector: &[f32]) -> Result<(), Refusal> {
         let words = self.words.lent_mut();
         let floats = self.floats.lent_mut();
         pipnn::add_slice(words, floats, DocId(doc), vector)
@@ -126,18 +127,20 @@ impl Stores {
         line.answer().is(self.add(doc, vector))
     }
 
-    // Adds generated vectors, up to the first refusal. Answers the last number.
-    fn add_generated(&mut self, count: u64, mut vectors: Vectors, vector: &mut [f32]) -> u32 {
+    // Adds generated vectors, up to the first refusal.
+    fn add_generated(
+        &mut self,
+        count: u64,
+        mut vectors: Vectors,
+        vector: &mut [f32],
+    ) -> Result<(), Refusal> {
         let mut doc: u32 = 1;
         for _ in 0..count {
             vectors.next_into(vector);
-            let number = self.add(doc, vector);
-            if number != 0 {
-                return number;
-            }
+            self.add(doc, vector)?;
             doc = doc.wrapping_add(7);
         }
-        0
+        Ok(())
     }
 
     // The dimension of generated vectors: word 1, or 0 if it is not passed in or above the limit.
@@ -154,8 +157,8 @@ impl Stores {
         let count = question.read();
         let vectors = Vectors::asked(&mut question);
         let dimension = self.generated_dimension().min(room.len());
-        let number = self.add_generated(count, vectors, &mut room[..dimension]);
-        line.answer().is(number)
+        let added = self.add_generated(count, vectors, &mut room[..dimension]);
+        line.answer().is(added)
     }
 
     // The pattern of float i.

@@ -85,7 +85,7 @@ impl Vectors {
             }
             Style::Clusters => {
                 let centre = self.seed.wrapping_add(self.made % 16);
-                let noise = lcg::wrapping_mul(self.seed, 31).wrapping_add(1000);
+                let noise = self.seed.wrapping_mul(31).wrapping_add(1000);
                 generate_near(vector, centre, noise.wrapping_add(self.made));
             }
         }

@@ -9,7 +9,6 @@
 #![tactic(auto)]
 
 use arrayvec::ArrayVec;
-use household::Household;
 use std::env::{Env, FillError};
 use std::io;
 
@@ -57,8 +56,9 @@ impl Sightings {
     // Reports the count of one day.
     fn tell_day(&self, rt: &impl Print, day: u64) -> io::Result<()> {
         match household::household_count(day, self.seconds.as_slice(), self.docs.as_slice()) {
-            Household::Phones(phones) => println!(rt; "phones on day {day}: {phones}"),
-            Household::Refused(number) => {
+            Ok(phones) => println!(rt; "phones on day {day}: {phones}"),
+            Err(refusal) => {
+                let number = refusal.number();
                 println!(rt;
                     "phones on day {day}: turned back with number {number}, over 512 sightings"
                 )

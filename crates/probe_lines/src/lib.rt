@@ -10,6 +10,7 @@
 // recorded runs. It uses `pipnn`, `build` and `search` for the calls.
 #![tactic(auto)]
 
+use error::Refusal;
 use params::PipnnParams;
 use probe_text::answer::{Answer, Found, MOST_FOUND};
 use probe_text::reading;
@@ -41,14 +42,6 @@ pub struct Index {
     values: [u64; HEADERS],
     words: [u32; WORDS_SIZE],
     floats: [f32; FLOATS_SIZE],
-}
-
-// What is printed for a call's number: nothing, if it is no refusal.
-fn answer_of(number: u32) -> Answer {
-    match number {
-        0 => Answer::Silent,
-        _ => Answer::Refused(number),
-    }
 }
 
 impl Index {
@@ -85,16 +78,16 @@ impl Index {
         }
     }
 
-    // The number of `new`. A `final` that is neither 0 nor 1 is no bool: it is refused here, with the
-    // number and in the place of a parameter beyond its limits.
-    fn new_number(&mut self) -> u32 {
+    // The call of `new`. A `final` that is neither 0 nor 1 is no bool: it is refused here, like a parameter beyond
+    // its limits and in the place of one.
+    fn call_new(&mut self) -> Result<Answer, Refusal> {
         let dimension = self.word(Header::Dim);
         if self.value(Header::Final) > 1 {
-            return if params::dimension_within(dimension) {
-                error::PARAMETER_OUT_OF_RANGE
+            return Err(if params::dimension_within(dimension) {
+                Refusal::ParameterOutOfRange
             } else {
-                error::DIMENSION_OUT_OF_RANGE
-            };
+                Refusal::DimensionOutOfRange
+            });
         }
         let params = self.params_asked();
         let capacity = self.word(Header::Cap);
@@ -104,55 +97,54 @@ impl Index {
             dimension,
             params,
             capacity,
-        )
+        )?;
+        Ok(Answer::Silent)
     }
 
     // A header line, if it is the next one. The last of them, cap, makes the call of `new`.
-    fn take_header(&mut self, header: Header, value: u64) -> Option<Answer> {
+    fn take_header(&mut self, header: Header, value: u64) -> Option<Result<Answer, Refusal>> {
         if header as usize != self.headers {
             return None;
         }
         self.values[header as usize] = value;
         self.headers = header as usize + 1;
         if header != Header::Cap {
-            return Some(Answer::Silent);
+            return Some(Ok(Answer::Silent));
         }
         if self.word(Header::Cap) > MOST_CAPACITY {
             return None;
         }
-        Some(answer_of(self.new_number()))
+        Some(self.call_new())
     }
 
-    fn add(&mut self, doc: DocId, vector: &[f32]) -> Answer {
-        answer_of(pipnn::add_slice(&mut self.words, &mut self.floats, doc, vector))
+    fn add(&mut self, doc: DocId, vector: &[f32]) -> Result<Answer, Refusal> {
+        pipnn::add_slice(&mut self.words, &mut self.floats, doc, vector)?;
+        Ok(Answer::Silent)
     }
 
-    // A build: its refusal, or the entry node and how many bridges there are.
-    fn build(&mut self) -> Answer {
+    // A build: the entry node and how many bridges there are.
+    fn build(&mut self) -> Result<Answer, Refusal> {
         let mut scratch_words = [0u32; SCRATCH_WORDS];
         let mut scratch_floats = [0.0f32; SCRATCH_FLOATS];
-        let number = build::build(
+        build::build(
             &mut self.words,
             &self.floats,
             &mut scratch_words,
             &mut scratch_floats,
-        );
-        match number {
-            0 => Answer::Built {
-                entry: Node(store::word_at(&self.words, store::ENTRY)),
-                bridges: store::word_at(&self.words, store::BRIDGE_COUNT),
-            },
-            _ => Answer::Refused(number),
-        }
+        )?;
+        Ok(Answer::Built {
+            entry: Node(store::word_at(&self.words, store::ENTRY)),
+            bridges: store::word_at(&self.words, store::BRIDGE_COUNT),
+        })
     }
 
-    // A search: its refusal, or what it found.
-    fn find(&self, k: u32, ef: u32, query: &[f32]) -> Answer {
+    // A search: what it found.
+    fn find(&self, k: u32, ef: u32, query: &[f32]) -> Result<Answer, Refusal> {
         let mut docs = [0u32; MOST_FOUND];
         let mut distances = [0.0f32; MOST_FOUND];
         let mut scratch_words = [0u32; SCRATCH_WORDS];
         let mut scratch_floats = [0.0f32; SCRATCH_FLOATS];
-        let found = search::search_with_ef(
+        let walked = search::search_with_ef(
             &self.words,
             &self.floats,
             query,
@@ -162,28 +154,26 @@ impl Index {
             &mut distances,
             &mut scratch_words,
             &mut scratch_floats,
-        );
-        match found.number {
-            0 => Answer::Found(Found {
-                scored: found.scored,
-                count: found.count,
-                docs,
-                distances,
-            }),
-            number => Answer::Refused(number),
-        }
+        )?;
+        Ok(Answer::Found(Found {
+            scored: walked.scored,
+            count: walked.count,
+            docs,
+            distances,
+        }))
     }
 
     // Takes a line without its line feed: makes its call and answers what is printed for it; `None` if the line
     // ends the reading.
     pub fn step(&mut self, line: &[u8]) -> Option<Answer> {
         let mut room = [0.0f32; MOST_COMPONENTS];
-        match reading::read_line(line, &mut room)? {
-            Read::Header(header, value) => self.take_header(header, value),
-            _ if self.headers != HEADERS => None,
-            Read::Add { doc, vector } => Some(self.add(doc, vector)),
-            Read::Build => Some(self.build()),
-            Read::Find { k, ef, query } => Some(self.find(k, ef, query)),
-        }
+        let called = match reading::read_line(line, &mut room)? {
+            Read::Header(header, value) => self.take_header(header, value)?,
+            _ if self.headers != HEADERS => return None,
+            Read::Add { doc, vector } => self.add(doc, vector),
+            Read::Build => self.build(),
+            Read::Find { k, ef, query } => self.find(k, ef, query),
+        };
+        Some(called.unwrap_or_else(Answer::Refused))
     }
 }

@@ -1,4 +1,5 @@
 // What is printed for a line.
+use error::Refusal;
 use std::fmt;
 use words::bits;
 use words::ids::Node;
@@ -19,7 +20,7 @@ pub struct Found {
 #[derive(Clone, Copy)]
 pub enum Answer {
     Silent,
-    Refused(u32),
+    Refused(Refusal),
     Built { entry: Node, bridges: u32 },
     Found(Found),
 }
@@ -41,7 +42,10 @@ impl fmt::Display for Answer {
     fn fmt<W: fmt::Write>(&self, f: &mut fmt::Formatter<W>) -> fmt::Result {
         match self {
             Answer::Silent => Ok(()),
-            Answer::Refused(number) => writeln!(f, "refused={number}"),
+            Answer::Refused(refusal) => {
+                let number = refusal.number();
+                writeln!(f, "refused={number}")
+            }
             Answer::Built { entry, bridges } => {
                 let entry = entry.0;
                 writeln!(f, "entry={entry} bridges={bridges}")

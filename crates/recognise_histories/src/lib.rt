@@ -7,9 +7,9 @@
 // any content, and nothing more.
 #![tactic(auto)]
 
+use error::Refusal;
 use histories::Stores;
 use histories::patterns::Scratch;
-use household::Household;
 use recognise::score;
 use recognise::score::Recognised;
 use replay::lines::Line;
@@ -27,7 +27,6 @@ fn decided_is_same(mut answer: Tokens<'_>, decided: Recognised) -> bool {
     let same = match decided {
         Recognised::Known(doc, sure) => answer.is(1u32) && answer.is(doc.0) && answer.is(sure),
         Recognised::New(sure) => answer.is(0u32) && answer.is(sure),
-        Recognised::Refused(_) => false,
     };
     same && answer.is_at_end()
 }
@@ -42,10 +41,10 @@ pub fn decide_is_same(line: Line<'_>) -> bool {
 }
 
 // A refusal is its number and nothing more.
-fn recognised_is_same(mut answer: Tokens<'_>, recognised: Recognised) -> bool {
+fn recognised_is_same(mut answer: Tokens<'_>, recognised: Result<Recognised, Refusal>) -> bool {
     match recognised {
-        Recognised::Refused(number) => answer.is(number) && answer.is_at_end(),
-        _ => answer.is(0u32) && decided_is_same(answer, recognised),
+        Ok(decided) => answer.is(0u32) && decided_is_same(answer, decided),
+        Err(refusal) => answer.is(refusal) && answer.is_at_end(),
     }
 }
 
@@ -68,10 +67,10 @@ pub fn recognise_is_same(stores: &Stores, line: Line<'_>, room: &mut [f32]) -> b
     recognised_is_same(line.answer(), recognised)
 }
 
-fn counted_is_same(mut answer: Tokens<'_>, counted: Household) -> bool {
+fn counted_is_same(mut answer: Tokens<'_>, counted: Result<u32, Refusal>) -> bool {
     let same = match counted {
-        Household::Refused(number) => answer.is(number),
-        Household::Phones(phones) => answer.is(0u32) && answer.is(phones),
+        Ok(phones) => answer.is(0u32) && answer.is(phones),
+        Err(refusal) => answer.is(refusal),
     };
     same && answer.is_at_end()
 }

@@ -1,6 +1,7 @@
 // The tokens of a line, and what each stands for.
 ghost use Rattle.std.specs.Prelude.{◌≡◌, ◌<◌, ◌≤◌, min, length, IfSome};
 
+use error::Refusal;
 use words::bits;
 
 // A number as it is recorded.
@@ -57,6 +58,19 @@ impl Recorded for u32 {
 impl Recorded for f32 {
     fn is_recorded(self, token: Token) -> bool {
         bits::bits_of(self) == u32::from(token)
+    }
+}
+
+impl Recorded for Refusal {
+    fn is_recorded(self, token: Token) -> bool {
+        self.number().is_recorded(token)
+    }
+}
+
+// What a call answers that answers nothing but a refusal: 0 if it was not refused.
+impl Recorded for Result<(), Refusal> {
+    fn is_recorded(self, token: Token) -> bool {
+        error::number_or_zero(self).is_recorded(token)
     }
 }
 

@@ -7,11 +7,10 @@ mod plane_stream;
 
 use finish::medoid;
 use norm::root;
-use random::{hyperplanes, lcg, leaders};
+use random::{hyperplanes, leaders};
 use replay::lines::{Line, Replayed};
 use replay::tallies::Tallies;
-use replay::tokens::{Recorded, Token};
-use simd::Eight;
+use replay::tokens::Recorded;
 use std::io;
 
 #[derive(Clone, Copy)]
@@ -40,12 +39,12 @@ const NAMES: [(&'static str, Kind); 9] = [
     ("centroid", Kind::Centroid),
 ];
 
-// multiply a b = r
+// multiply a b = r, the product that the generator's step takes
 fn multiply_is_same(line: Line<'_>) -> bool {
     let mut question = line.question();
-    let a = question.read();
+    let a: u64 = question.read();
     let b = question.read();
-    line.answer().is(lcg::wrapping_mul(a, b))
+    line.answer().is(a.wrapping_mul(b))
 }
 
 // root x = r
@@ -59,12 +58,6 @@ fn leaders_is_same(line: Line<'_>) -> bool {
     let n = question.read();
     let fraction = question.read();
     line.answer().is(leaders::leader_count(n, fraction))
-}
-
-fn all_are(x: Eight, want: Token) -> bool {
-    [x.a, x.b, x.c, x.d, x.e, x.f, x.g, x.h]
-        .iter()
-        .all(|d| d.is_recorded(want))
 }
 
 // What has been counted, and room for a line's lists.
@@ -100,10 +93,11 @@ impl Numbers {
     fn distance_is_same(&mut self, line: Line<'_>) -> bool {
         let mut question = line.question();
         let q = question.read_counted(&mut self.a);
-        let r = question.read_counted(&mut self.b);
+        let r: &[f32] = question.read_counted(&mut self.b);
         let want = line.answer().token();
-        let eight = distance::cosine_distance_normalized8(q, r, r, r, r, r, r, r, r);
-        distance::cosine_distance_normalized(q, r).is_recorded(want) && all_are(eight, want)
+        let one = distance::cosine_distance_normalized(q, r);
+        let eight = distance::cosine_distance_normalized8(q, [r; 8]);
+        one.is_recorded(want) && eight.iter().all(|d| d.is_recorded(want))
     }
 
     // scale N v.. = length scaled..

@@ -6,6 +6,8 @@
 use distance::order;
 use replay::lines::{Line, Replayed};
 use replay::tallies::Tallies;
+use replay::tokens::Tokens;
+use sorting::Keyed;
 use std::io;
 
 #[derive(Clone, Copy)]
@@ -20,6 +22,14 @@ const NAMES: [(&'static str, Kind); 2] = [("sort", Kind::Sort), ("first", Kind::
 // The most distances that a line can have.
 const MOST: usize = 2048;
 
+// A distance's key, and its place among a line's distances.
+const NONE: Keyed = Keyed { key: 0, id: 0 };
+
+// Whether an answer is the places of these.
+fn places_are(mut answer: Tokens<'_>, pairs: &[Keyed]) -> bool {
+    pairs.iter().all(|pair| answer.is(pair.id))
+}
+
 // sort N d.. = place..
 fn sort_is_same(line: Line<'_>) -> bool {
     let mut question = line.question();
@@ -27,21 +37,14 @@ fn sort_is_same(line: Line<'_>) -> bool {
     if n > MOST {
         return false;
     }
-    let mut keys = [0u32; MOST];
-    let mut places = [0u32; MOST];
-    for ((key, place), i) in keys[..n].iter_mut().zip(&mut places).zip(0..) {
-        *key = order::key(question.read());
-        *place = i;
+    let mut room = [NONE; MOST];
+    let pairs = &mut room[..n];
+    for (pair, id) in pairs.iter_mut().zip(0..) {
+        let key = order::key(question.read());
+        *pair = Keyed { key, id };
     }
-    let mut spare_keys = [0u32; MOST];
-    let mut spare_places = [0u32; MOST];
-    sorting::sort_pairs(
-        &mut keys[..n],
-        &mut places[..n],
-        &mut spare_keys,
-        &mut spare_places,
-    );
-    line.answer().are(&places[..n])
+    sorting::sort_pairs(pairs, &mut [NONE; MOST]);
+    places_are(line.answer(), pairs)
 }
 
 // first M N d.. = place..
@@ -52,14 +55,14 @@ fn first_is_same(line: Line<'_>) -> bool {
     if most > MOST {
         return false;
     }
-    let mut keys = [0u32; MOST];
-    let mut places = [0u32; MOST];
+    let mut room = [NONE; MOST];
+    let pairs = &mut room[..most];
     let mut held = 0;
-    for i in 0..n.min(65536) as u32 {
+    for id in 0..n.min(65536) as u32 {
         let key = order::key(question.read());
-        held = sorting::keep_first(&mut keys[..most], &mut places, held, key, i);
+        held = sorting::keep_first(pairs, held, Keyed { key, id });
     }
-    line.answer().are(replay::front(&places, held))
+    places_are(line.answer(), replay::front(pairs, held))
 }
 
 // How many cases there were.
