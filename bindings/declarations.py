@@ -209,7 +209,7 @@ def defined_checks(files, known):
 def named_refusals(files):
     """Name and number of each refusal, and of success: in the code, the definitions, the header and the Rust crate."""
     found = {
-        REFUSALS: [(camel(name), number) for name, number in re.findall(r"^pub const (\w+): u32 = (\d+);", files[REFUSALS], re.M)],
+        REFUSALS: re.findall(r"^    (\w+) = (\d+),$", files[REFUSALS], re.M),
         DEFINED_REFUSALS: [(camel(name), number) for name, number in re.findall(r"^(\w+) = (\d+)$", files[DEFINED_REFUSALS], re.M)],
         HEADER: [(camel(name), number) for name, number in re.findall(r"^    PIPNN_(\w+) = (\d+)", files[HEADER], re.M)],
         ERRORS: re.findall(r"^    (\w+) = (\d+), \"", files[ERRORS], re.M),
@@ -359,8 +359,8 @@ EDITS = [
     (STRUCTS, "    pub scored: u32,\n", "    pub scored: u32,\n    pub bridges: u32,\n"),
     (SOURCE, "query: &[f32]", "query: &mut [f32]"),
     (ERRORS, 'BadSightings = 14, "', 'Sightings = 14, "'),
-    (REFUSALS, "FULL: u32 = 8", "FULL: u32 = 15"),
-    (REFUSALS, "FULL: u32 = 8", "FULL: u32 = 9"),
+    (REFUSALS, "Full = 8", "Full = 15"),
+    (REFUSALS, "Full = 8", "Full = 9"),
     (DEFINED_REFUSALS, "empty_index = 9", "empty_index = 10"),
     (DEFINED_REFUSALS, "abbrev pub full : ℕ\nfull = 8\n", ""),
     ("crates/def_calls/specs/Search.antt", "built_state)) not_built", "built_state)) already_built"),
