@@ -15,7 +15,7 @@
 
 ghost use Rattle.std.specs.Prelude.{◌≡◌, ◌+◌, ◌≤◌, length, set};
 ghost use Rattle.basics.specs.Refusals.{first_refusal};
-ghost use Rattle.error.specs.Refused.{answer_of};
+ghost use Rattle.error.specs.Inside.Refused.{answer_of};
 ghost use Rattle.distance.specs.Vectors.{vectors_of};
 ghost use Rattle.def_graph.specs.Rows.{rows_of};
 ghost use Rattle.store.specs.Layout.{header_size, built_state, state_at, entry_at, bridge_count_at};

@@ -3,7 +3,7 @@ use Rattle.std.specs.Prelude.{List, [], ◌∷◌, ℕ, get_or, Float, Result, O
 use Rattle.def_calls.specs.Search.{Reply}
 use Rattle.basics.specs.Refusals.{Values}
 use Rattle.error.specs.declared.Refusal.{Refusal}
-use Rattle.error.specs.Refused.{number_of}
+use Rattle.error.specs.Inside.Refused.{number_of}
 use Rattle.beam_search.specs.declared.Walked.{Walked}
 use Rattle.drintelbok.specs.declared.PipnnFound.{PipnnFound}
 use Rattle.drintelbok.specs.declared.PipnnRecognised.{PipnnRecognised}

@@ -3,7 +3,7 @@ use Rattle.std.proofs.Common.{◌≡◌, arith}
 use Rattle.error.specs.declared.Refusal.{Refusal}
 use Rattle.error.specs.declared.Refusal.TheVariants.{DimensionOutOfRange, ParameterOutOfRange, SliceTooShort, NotWellFormed, AlreadyBuilt, DimensionMismatch, NonFiniteInput}
 use Rattle.error.specs.declared.Refusal.TheVariants.{Full, EmptyIndex, NotBuilt, KOrEfTooLarge, OutputTooShort, LimitNotFinite, BadSightings}
-use Rattle.error.specs.Refused.{number_of}
+use Rattle.error.specs.Inside.Refused.{number_of}
 
 pub never_zero : (r : Refusal) → number_of r ≡ 0 → ⊥
 never_zero DimensionOutOfRange e = absurd (omega arith)

@@ -5,7 +5,7 @@
 #![tactic(auto)]
 
 ghost use Rattle.std.specs.Prelude.{◌≡◌, false};
-ghost use Rattle.error.specs.Refused.{number_of, answer_of};
+ghost use Rattle.error.specs.Inside.Refused.{number_of, answer_of};
 
 use std::fmt;
 

@@ -6,7 +6,7 @@ use Rattle.basics.specs.Nodes.{has}
 use Rattle.basics.specs.Refusals.{Values}
 use Rattle.error.specs.Numbers.{bad_sightings}
 use Rattle.error.specs.declared.Refusal.{Refusal}
-use Rattle.error.specs.Refused.{number_of}
+use Rattle.error.specs.Inside.Refused.{number_of}
 use Rattle.household.specs.Day.{day_of}
 
 -- the doc ids of the sightings of a day, in their order

@@ -12,7 +12,7 @@
 ghost use Rattle.std.specs.Prelude.{◌≡◌, true, ◌++◌, ◌+◌, ◌≤◌, length, take, drop};
 ghost use Rattle.std.specs.Float.{binary32};
 ghost use Rattle.basics.specs.Refusals.{first_refusal};
-ghost use Rattle.error.specs.Refused.{answer_of};
+ghost use Rattle.error.specs.Inside.Refused.{answer_of};
 ghost use Rattle.params.specs.Limits.{within_limits};
 ghost use Rattle.norm.specs.Norm.{scaled_of};
 ghost use Rattle.store.specs.Layout.{header_size};

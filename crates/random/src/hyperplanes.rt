@@ -9,7 +9,6 @@ ghost use Rattle.std.specs.Prelude.{◌≡◌, min, ◌++◌, length, drop};
 ghost use Rattle.std.specs.Float.{binary32};
 ghost use Rattle.random.specs.Hyperplanes.{plane_numbers};
 
-
 const PLANES: [u32; 1024] = [
     0x3e0b_bc57,
     0xbf0c_900f,

@@ -8,7 +8,7 @@ use Rattle.std.specs.Float.Ieee.{le}
 use Rattle.basics.specs.Choice.{pick}
 use Rattle.basics.specs.Refusals.{Values}
 use Rattle.error.specs.declared.Refusal.{Refusal}
-use Rattle.error.specs.Refused.{number_of}
+use Rattle.error.specs.Inside.Refused.{number_of}
 use Rattle.recognise.specs.declared.score.Recognised.{Recognised}
 use Rattle.recognise.specs.declared.score.Recognised.TheVariants.{Known, New}
 use Rattle.recognise.specs.Score.{score_of}

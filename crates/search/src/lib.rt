@@ -13,7 +13,7 @@
 
 ghost use Rattle.std.specs.Prelude.{◌≡◌, length};
 ghost use Rattle.basics.specs.Refusals.{first_refusal};
-ghost use Rattle.error.specs.Refused.{answer_of};
+ghost use Rattle.error.specs.Inside.Refused.{answer_of};
 ghost use Rattle.def_calls.specs.Search.{search_checks, search_with_ef_spec, search_spec};
 ghost use Rattle.search.specs.Inside.Reply.{found_with};
 

@@ -34,7 +34,7 @@ ghost use Rattle.store.specs.Layout.{
 };
 ghost use Rattle.store.specs.View.{params_of};
 ghost use Rattle.store.specs.WellFormed.{is_node, header_ok, row_ok, count_ok, bridge_ok, rest_ok};
-ghost use Rattle.error.specs.Refused.{answer_of};
+ghost use Rattle.error.specs.Inside.Refused.{answer_of};
 ghost use Rattle.store.specs.Opening.{store_short, scratch_short, too_short, opening};
 
 use error::Refusal;

@@ -6,7 +6,7 @@ use lib.ListN.{length}
 use native.Mathlib.Omega.{arith}
 use borrow.Author.Tests.{eq-eqb, ne_eqb}
 use Rattle.std.proofs.lemmas.Result.{err_from_is_err_and}
-use Rattle.error.specs.Refused.{number_of}
+use Rattle.error.specs.Inside.Refused.{number_of}
 use Rattle.error.proofs.Laws.{never_zero}
 use Rattle.basics.specs.Choice.{pick_true, pick_false}
 use Rattle.basics.specs.Refusals.{first_refusal}

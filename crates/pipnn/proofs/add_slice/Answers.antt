@@ -5,7 +5,7 @@ use native.Mathlib.Omega.{arith}
 use lib.ListN.{set}
 use Rattle.std.proofs.lemmas.Result.{err_from_is_err_and}
 use Rattle.basics.specs.Refusals.{first_refusal}
-use Rattle.error.specs.Refused.{number_of}
+use Rattle.error.specs.Inside.Refused.{number_of}
 use Rattle.error.proofs.Laws.{never_zero}
 use Rattle.store.specs.Layout.{nodes_at}
 use Rattle.pipnn.specs.Answer.{Answer}

@@ -4,7 +4,7 @@ use Rattle.std.proofs.lemmas.Result.{err_from_is_err_and}
 use lib.Ieee.{binary32, of_bits}
 use Rattle.basics.specs.Sum.{+zero}
 use Rattle.basics.specs.Refusals.{first_refusal}
-use Rattle.error.specs.Refused.{number_of}
+use Rattle.error.specs.Inside.Refused.{number_of}
 use Rattle.error.proofs.Laws.{never_zero}
 use Rattle.pipnn.specs.Answer.{Answer}
 use Rattle.pipnn.specs.New.{new_checks, new_spec}

@@ -1,7 +1,7 @@
 -- What a search returns, as one value with its two outputs (scope, part 8).
 use Rattle.std.specs.Prelude.{List, ℕ, Float, Result, Ok, Err}
 use Rattle.error.specs.declared.Refusal.{Refusal}
-use Rattle.error.specs.Refused.{number_of}
+use Rattle.error.specs.Inside.Refused.{number_of}
 use Rattle.beam_search.specs.declared.Walked.{Walked}
 use Rattle.def_calls.specs.Search.{Reply, refused}
 
