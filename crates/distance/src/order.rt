@@ -4,13 +4,12 @@
 // Distances are sorted, selected and compared by this key alone, so that sorting is written and proved once,
 // over u32. `before_key` of proofs/order/Laws says that the keys' order is the distances' order, for the values of
 // any format; `key_injective` that only equal values have equal keys, and `value_key` that `value` returns the
-// distance whose key it gets. It uses the toolchain's definitions of IEEE 754, and `bits` for patterns of any
-// kind.
+// distance whose key it gets. It uses the toolchain's definitions of IEEE 754.
 ghost use Rattle.std.specs.Prelude.{◌≡◌};
 ghost use Rattle.std.specs.Float.{binary32};
 ghost use Rattle.distance.specs.Order.{key_of, value_of};
 
-use words::bits;
+use std::num::f32_from_bits_with_nan;
 
 // `f32::total_cmp` turns the bits below the sign where the sign is set, and compares signed numbers; this key
 // turns the sign too and is compared unsigned. Which bits are turned is computed from the sign bit: no branch
@@ -32,5 +31,5 @@ pub fn value(key: u32) -> f32
     ensures { result ≡ value_of binary32 key }
 {
     let sign = 1 - key / 0x8000_0000;
-    bits::f32_from(key ^ (0x8000_0000 + sign * 0x7fff_ffff))
+    f32_from_bits_with_nan(key ^ (0x8000_0000 + sign * 0x7fff_ffff))
 }

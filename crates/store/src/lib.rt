@@ -9,7 +9,7 @@
 // the refusal of the first check that fails. The check reads each word of the store once and joins its
 // tests without a branch for each word, since it happens at every call.
 //
-// It uses `params` for the limits, `bits` for the two floats of the header and `finite` for the vectors.
+// It uses `params` for the limits, and `finite` for the vectors.
 #![tactic(auto)]
 
 ghost use Rattle.std.specs.Prelude.{◌≡◌, true, ◌+◌, ◌*◌, ◌≤◌, length, drop, set};
@@ -39,9 +39,10 @@ ghost use Rattle.store.specs.Opening.{store_short, scratch_short, too_short, ope
 
 use error::Refusal;
 use params::{PipnnParams, finite};
+use std::num::{f32_from_bits_with_nan, f64_from_bits_with_nan};
 use words::ids::{DocId, Node};
 pub use words::slices::word_at;
-use words::{bits, slices};
+use words::slices;
 
 // The header's words.
 pub const STATE: usize = 0;
@@ -183,11 +184,11 @@ pub fn params_of(words: &[u32]) -> PipnnParams
     PipnnParams {
         max_leaf_size: word_at(words, MAX_LEAF_SIZE),
         min_leaf_size: word_at(words, MIN_LEAF_SIZE),
-        leader_fraction: bits::f64_from(fraction),
+        leader_fraction: f64_from_bits_with_nan(fraction),
         max_degree: word_at(words, DEGREE),
         num_hash_bits: word_at(words, HASH_BITS),
         final_prune: word_at(words, FINAL_PRUNE) == 1,
-        alpha: bits::f32_from(word_at(words, ALPHA)),
+        alpha: f32_from_bits_with_nan(word_at(words, ALPHA)),
         ef_search: word_at(words, EF_SEARCH),
     }
 }

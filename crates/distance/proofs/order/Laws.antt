@@ -12,7 +12,6 @@ use lib.Dec.{T, leb, ltb}
 use lib.Ieee.{Float, nan, inf, fin, Format, binary32, top, is_nan, fits, of_bits}
 use lib.Ieee.Bits.{of_bits-to_bits, is_false}
 use Rattle.basics.specs.Choice.{pick, pick_true, pick_false}
-use Rattle.words.proofs.bits.Patterns.{no_number}
 use Rattle.distance.specs.Order.{ahead, before, key_of, value_of}
 use Rattle.distance.proofs.order.Sizes.{sign, mag, bits_are, mag_lt, mag_ne, less, sizes}
 
@@ -175,9 +174,14 @@ value_number f x h t =
     ∙ ap (of_bits f) (turned_back_lem (top f) (mag f x) (mag_lt f x h t) (sign x) ∙ sym (bits_are f x t))
     ∙ of_bits-to_bits f x h
 
+-- the largest pattern is one of the NaN's
+pattern_nan : of_bits binary32 0x7fff_ffff ≡ nan
+unfolding of_bits
+pattern_nan = refl
+
 value_nan : value_of binary32 (key_of binary32 nan) ≡ nan
 unfolding value_of pick
-value_nan = ap (λ (k : ℕ). of_bits binary32 (pick (leb (top binary32) k) (k - top binary32) (2 * top binary32 - 1 - k))) (key_nan binary32) ∙ sym (no_number binary32 0x7fff_ffff (omega arith))
+value_nan = ap (λ (k : ℕ). of_bits binary32 (pick (leb (top binary32) k) (k - top binary32) (2 * top binary32 - 1 - k))) (key_nan binary32) ∙ pattern_nan
 
 -- a key determines the f32 that has it
 pub value_key : (x : Float) → T (fits binary32 x) → value_of binary32 (key_of binary32 x) ≡ x
