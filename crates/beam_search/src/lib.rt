@@ -12,6 +12,9 @@
 // node; what it held before has no effect. Before the walk goes on from the entry node, bridges, where there
 // are any, are linked (`lists::chains`) in a local array of 16 KB, so that an expansion looks at its node's own
 // bridges alone.
+//
+// kept (5): what a walk writes are three slices: of a struct of `&mut` slices its maker's proof does not learn what was written.
+// kept (6): words are the caller's scratch, since there is no heap, and a count says how many of a part hold.
 #![tactic(auto)]
 
 ghost use Rattle.std.specs.Prelude.{◌≡◌, ◌&&◌, ◌||◌, ◌*◌, ◌/◌, ◌≤◌, leb, ltb, length, take};
@@ -250,6 +253,7 @@ fn start(
 }
 
 // The distances of the answer's nodes go to the output.
+// kept (2): it shares with `finding::put_docs` a loop of one line, and a closure for it would need a law.
 fn put_distances(distances: &mut [f32], answer: &[Keyed], floats: &[f32], count: usize)
     ensures { PutDistances count answer.now floats.now distances.old distances.new }
 {

@@ -14,6 +14,9 @@
 // specs/Inside/State  has the same names: `frontier_at`, `held_at`, `words_for`. The answer stands in a slice of its own, nearest
 // first, each node with its key: `keep_first` keeps the first of what it is offered, as many as that slice has room for, so that
 // nothing is sorted at the end. Counts and the cutoff are a struct by value.
+//
+// kept (5): words and answer are two slices: of a struct of `&mut` slices its maker's proof does not learn what was written.
+// kept (6): words are the caller's scratch, since there is no heap, and a count says how many of a part hold.
 #![tactic(auto)]
 
 pub mod queues;

@@ -12,6 +12,8 @@
 // proofs/Laws     the frontier: empty, a node put in, the first taken out
 // proofs/Holding  the held: none, one more, the worst's slot taken, which pair is first
 // proofs/Keeping  the cases of `keep_closest`
+//
+// kept (6): a queue is words of the caller's scratch, since there is no heap.
 ghost use Rattle.std.specs.Prelude.{◌≡◌, ◌-◌, false, get_or};
 ghost use Rattle.std.specs.Float.{inf};
 ghost use Rattle.beam_state.specs.Inside.Tournament.{Putting};

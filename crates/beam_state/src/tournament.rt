@@ -10,6 +10,8 @@
 //
 // Every function is total. What a tree stands for is `Tournament` of specs/Inside/Tournament; proofs/Laws says that
 // its first pair is that of a slot and that no slot's comes before it. A pair is a `Keyed` of `sorting`.
+//
+// kept (6): a tree is words of the caller's scratch, since there is no heap.
 ghost use Rattle.std.specs.Prelude.{◌≡◌, ◌*◌, ◌+◌, ◌-◌, ◌/◌, ◌%◌, ◌<◌, length, replicate};
 ghost use Rattle.beam_state.specs.Inside.Tournament.{rank_of, rank_at, with_pair, empty_rank, Tournament, First, Putting, Climbing};
 
@@ -98,6 +100,7 @@ pub fn remove(tree: &mut [u32], place: u32)
 }
 
 // The first pair of all, if there is one.
+// kept (1): an empty slot has all ones, as the words of the caller's scratch have no other mark.
 pub fn first(tree: &[u32]) -> Option<Keyed>
     ensures { First tree.now result }
 {

@@ -11,6 +11,8 @@
 //   leaf lists      floats   from 0         16·n  eight distances for each place of a leaf
 //   entry node      floats   from 0    dimension  the centroid
 //   repair          words    from 0          4·n  links (crate chains): n heads, n tails, 2·n slots
+//
+// kept (5): stores, outputs and scratch go side by side, as the C functions pass them.
 #![tactic(auto)]
 
 ghost use Rattle.std.specs.Prelude.{◌≡◌, ◌+◌, ◌≤◌, length, set};
@@ -146,6 +148,7 @@ fn put_rows(
 
 // The entry node and the bridges, for rows that stand in the store: words 0, 9 and 10 and the bridges are
 // written. The bridges are built beside the store, since its rows are read meanwhile.
+// kept (6): arrays are of the largest size, since there is no heap, and a count says how much of one holds.
 fn repair(
     words: &mut [u32],
     vectors: Vectors,

@@ -7,6 +7,8 @@
 //
 // specs/Inside/Candidates  what is offered, and what the candidates are
 // proofs/Laws              positions in place of nodes: sorting orders both in the same way
+//
+// kept (6): arrays are of the largest size, since there is no heap, and a count says how much of one holds.
 ghost use Rattle.std.specs.Prelude.{◌+◌, ◌-◌, ◌*◌, ◌≤◌, ◌<◌, length, map};
 ghost use Rattle.basics.specs.Nodes.{Below};
 ghost use Rattle.sorting.specs.Inside.Pairs.{id_in};

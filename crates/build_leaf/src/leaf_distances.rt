@@ -8,6 +8,8 @@
 //
 // specs/Inside/Lanes  what is put where
 // proofs/Laws         lanes of a block: one written, the others kept
+//
+// kept (6): arrays are of the largest size, since there is no heap, and a count says how much of one holds.
 ghost use Rattle.std.specs.Prelude.{◌*◌, ◌≤◌, ◌<◌, length};
 ghost use Rattle.distance.specs.Vectors.{vectors_of};
 ghost use Rattle.build_leaf.specs.Inside.Lanes.{LanePut, BlockTurned, LanesFilled, Distances};

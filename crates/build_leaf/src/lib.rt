@@ -9,6 +9,8 @@
 // specs/Inside/Built  what the functions leave of the rows
 // proofs/Rows         one row, one position, eight positions, a leaf
 // proofs/Leaves       leaf after leaf
+//
+// kept (6): arrays are of the largest size, since there is no heap, and a count says how much of one holds.
 #![tactic(auto)]
 
 pub mod leaf_candidates;

@@ -45,6 +45,7 @@ struct Scratch {
 // The leaves of an index of n nodes. Returns how many leaves hold a node. From word 0 on stand their nodes,
 // n or 2·n, leaf after leaf; from word 2·n on their sizes. More than 1,024 nodes, leaves of no node and
 // fewer than 4·n words are refused: 0 is returned, and no word changes.
+// kept (6): arrays are of the largest size, since there is no heap, and a count says how much of one holds.
 pub fn partition(vectors: Vectors, p: CarveParams, n: u32, words: &mut [u32]) -> u32
     ensures { Partitioned p.max_leaf p.dealing.min_leaf p.dealing.leader_fraction (vectors_of vectors.entry) n
         words.old words.new result }

@@ -165,6 +165,7 @@ fn nearest_leaders(vectors: Vectors, leaders: &[u32], id: u32, found: &mut [Keye
 }
 
 // The card of a node: it names its nearest leader, and at fan 2 the second nearest too.
+// kept (6): arrays are of the largest size, since there is no heap, and a count says how much of one holds.
 fn card_of(vectors: Vectors, leaders: &[u32], fan: usize, id: u32) -> u32
     requires { (length leaders.now ≤ 2048) × (1 ≤ fan) × (fan ≤ 2) × (fan ≤ length leaders.now) }
     ensures { result ≡ card_of (nearest_leaders (vectors_of vectors.entry) fan leaders.now id) }
@@ -200,6 +201,7 @@ fn is_named(l: u32, card: u32) -> bool
 }
 
 // Puts the nodes that go to leader l behind the first `held`.
+// kept (6): how many words hold is the caller's count, since there is no heap.
 fn append_bucket(carded: Carded, l: u32, to: &mut [u32], held: usize) -> usize
     requires { (length carded.cards.now ≡ length carded.ids.now) × (held + length (bucket_in l carded) ≤ length to.old) }
     ensures { (result ≡ held + length (bucket_in l carded.entry))

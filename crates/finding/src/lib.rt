@@ -12,6 +12,9 @@
 // they are, and what scratch held before has no effect.
 //
 // It uses `store` for the layout, `norm` for scaling, and `beam_search` for the walk, which it calls in one place.
+//
+// kept (5): stores, outputs and scratch go side by side, as the C functions pass them.
+// kept (6): doc ids and distances are two outputs, as the C functions pass them.
 #![tactic(auto)]
 
 ghost use Rattle.std.specs.Prelude.{◌≡◌, true, map, ◌++◌, ℕ, ◌≤◌, min, max, length, take, drop};

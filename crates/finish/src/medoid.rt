@@ -33,6 +33,7 @@ pub fn centroid(vectors: &[f32], n: u16, out: &mut [f32])
 // and 0 if no distance is below infinity. `centroid` is room for as many floats as a row has. A u16 counts
 // any index's nodes.
 // kept (1): node 0 is the Rust's answer then, as the entry node of that index.
+// kept (6): rows by their places, as `sum_rows` says, here and in `mean`.
 pub fn compute_medoid(vectors: &[f32], n: u16, centroid: &mut [f32]) -> Node
     ensures { result.0 ≡ compute_medoid (length centroid.old) (rows_in (length centroid.old) n vectors.now) }
 {

@@ -10,6 +10,8 @@
 // `hashprune_insert` is total. That its row is `merged .. (selected ..)` of `def_graph` holds where the
 // caller prepared what `Turn` of specs/Inside/Hashprune says, planes among it. specs/Inside/Steps has what the steps say of
 // each other.
+//
+// kept (6): arrays are of the largest size, since there is no heap, and a count says how much of one holds.
 #![tactic(auto)]
 
 ghost use Rattle.std.specs.Prelude.{◌≡◌, map, ◌+◌, ◌-◌, ◌≤◌, ◌<◌, leb, length, get_or, set, take, drop};

@@ -5,6 +5,9 @@
 // that takes a comparison for each two of at most 512, without a branch, and no memory of the caller's.
 // `household_count` equals `household_of` of specs/Household, for lists of any length; that this is the
 // number of different doc ids is `counts_each_once` of proofs/Laws.
+//
+// kept (5): a day, its seconds and doc ids go side by side, as the C function passes them.
+// kept (6): seconds and doc ids are two lists, as the C function passes them.
 #![tactic(auto)]
 
 ghost use Rattle.std.specs.Prelude.{◌≡◌, ◌≤◌, length, take};

@@ -13,6 +13,8 @@
 // specs/Inside/Lists   a node's list, and what is left of it
 // proofs/Reading       the equations of a chain's reader: none, one more
 // proofs/Laws          chains with one bridge more; what a reader finds is the other ends, in order
+//
+// kept (6): links are words of the caller's scratch, since there is no heap; n is how many nodes they are of.
 ghost use Rattle.std.specs.Prelude.{◌≡◌, ◌-◌, ◌<◌, ◌^◌};
 ghost use Rattle.std.specs.Iterator.{YieldsFirstBy, item_count};
 ghost use Rattle.lists.specs.Inside.Chains.{other_end_at, first_link, next_link, cleared_links, link_place, append_slot, chain_bridge};

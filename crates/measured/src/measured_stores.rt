@@ -2,6 +2,7 @@
 // say what they compute.
 //
 // kept: numbers of refusals, since they cross to C.
+
 use params::PipnnParams;
 use words::ids::DocId;
 

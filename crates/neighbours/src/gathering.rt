@@ -5,6 +5,8 @@
 // A slice of words has a mark for each of the first n nodes, 0 or 1, and behind the marks n words for the
 // fresh nodes. Entries that are not below n are skipped. A node's list is its row and then the other ends of
 // its bridges, as `list_of` of `basics` says; chains link them, so that only the bridges of the node are read.
+//
+// kept (6): words are the caller's scratch, since there is no heap, and a count says how many of a part hold.
 ghost use Rattle.std.specs.Prelude.{[], ◌∷◌, ◌≤◌, length};
 ghost use Rattle.lists.specs.Inside.Lists.{ends_of};
 ghost use Rattle.neighbours.specs.Inside.Gathering.{fresh_end, Gathering, GatheringList, Beginning};

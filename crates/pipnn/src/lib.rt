@@ -7,6 +7,8 @@
 //
 // It uses `store` for the layout and the checks that calls begin with, `params` for the limits, and `norm`
 // for scaling.
+//
+// kept (5): stores, outputs and scratch go side by side, as the C functions pass them.
 #![tactic(auto)]
 
 ghost use Rattle.std.specs.Prelude.{◌≡◌, true, ◌++◌, ◌+◌, ◌≤◌, length, take, drop};

@@ -56,6 +56,7 @@ fn count_up(left: &mut [u32])
 
 // `count` draws: each steps r and takes the position that r determines, and the last of those left moves
 // into its place (`swap_remove`).
+// kept (6): how many are drawn is said beside the slice of those that are left, which are more.
 fn draw(left: &mut [u32], out: &mut [u32], count: usize, start: u64)
     requires { (count ≤ length left.old) × (count ≤ length out.old) }
     ensures { out.new ≡ drawn count start left.old ++ drop count out.old }

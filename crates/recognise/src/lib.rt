@@ -11,6 +11,8 @@
 // for the three phones of the worked example.
 //
 // It uses `search` for the checks and the walk, and `score` for the answer at a distance.
+//
+// kept (5): stores, outputs and scratch go side by side, as the C functions pass them.
 #![tactic(auto)]
 
 pub mod score;

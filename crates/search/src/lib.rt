@@ -9,6 +9,9 @@
 // before has no effect.
 //
 // It uses `store` for the checks that calls begin with, and `finding` for the walk over a checked store.
+//
+// kept (5): stores, outputs and scratch go side by side, as the C functions pass them.
+// kept (6): doc ids and distances are two outputs, as the C functions pass them.
 #![tactic(auto)]
 
 ghost use Rattle.std.specs.Prelude.{◌≡◌, length};

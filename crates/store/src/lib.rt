@@ -41,8 +41,8 @@ use error::Refusal;
 use params::{PipnnParams, finite};
 use std::num::{f32_from_bits_with_nan, f64_from_bits_with_nan};
 use words::ids::{DocId, Node};
-pub use words::slices::word_at;
 use words::slices;
+pub use words::slices::word_at;
 
 // The header's words.
 pub const STATE: usize = 0;
@@ -254,6 +254,7 @@ fn row_ok(row: &[u32], degree: u16, n: u32) -> bool
 }
 
 // Whether each of n rows is, row by row.
+// kept (2): what differs from `counts_ok` is the test of a row, and a closure for it would need a law.
 fn each_row_ok(rows: &[u32], degree: u16, n: u32) -> bool
     requires { length rows.now ≡ n * row_size degree }
     ensures { result ≡ every (row_ok degree n) (pieces (row_size degree) n rows.now) }
