@@ -5,10 +5,10 @@
 //
 // specs/Inside/Candidates  candidates on words, with the distance kept
 // proofs/Refining          it is `nearest_reached` of the definition
-ghost use Rattle.std.specs.Prelude.{◌≡◌};
+ghost use Rattle.std.specs.Prelude.{◌≡◌, ◌∷◌};
 ghost use Rattle.lists.specs.Inside.Lists.{list_in};
 ghost use Rattle.distance.specs.Vectors.{vectors_of};
-ghost use Rattle.graph_utils.specs.Inside.Candidates.{seeking, considered, considered_all, around, around_list, start_of};
+ghost use Rattle.graph_utils.specs.Inside.Candidates.{seeking, considered, considered_all, start_of};
 
 use distance::vectors::Vectors;
 use lists::chains::Lists;
@@ -21,12 +21,12 @@ pub struct Nearest {
     pub distance: f32,
 }
 
-// What candidates for a bridge to a node are compared by: the marks of n nodes, the nodes' vectors, and the node's
-// own vector, the query.
+// What candidates for a bridge to a node are found and compared by: the nodes' lists, their marks, their vectors, and
+// the node's own vector, the query.
 #[derive(Clone, Copy)]
 struct Seeker<'a> {
+    lists: Lists<'a>,
     marks: &'a [u32],
-    n: u32,
     vectors: Vectors<'a>,
     query: &'a [f32],
 }
@@ -37,8 +37,8 @@ pub fn bridge_start(lists: Lists, state: &[u32], vectors: Vectors, entry: Node, 
 {
     let query = vectors.get(i);
     let seeker = Seeker {
+        lists,
         marks: state,
-        n: lists.shape.n,
         vectors,
         query,
     };
@@ -46,42 +46,30 @@ pub fn bridge_start(lists: Lists, state: &[u32], vectors: Vectors, entry: Node, 
         node: entry,
         distance: vectors.distance_from(query, entry),
     };
-    let own = seeker.around_list(lists, first, false, i);
-    seeker.around_list(lists, own, true, entry).node
+    let own = lists
+        .of(i)
+        .fold(first, |best, u| seeker.consider_list(best, u));
+    let last = lists
+        .of(entry)
+        .fold(own, |best, u| seeker.consider_with_list(best, u));
+    last.node
 }
 
 impl<'a> Seeker<'a> {
-    // The candidates around the nodes of a node's list: their lists, and with `own` the nodes themselves.
-    fn around_list(self, lists: Lists, best: Nearest, own: bool, u: Node) -> Nearest
-        ensures { result ≡ considered_all (seeking self.entry) (around_list own (list_in lists.entry) u.0) best }
+    // A node, then the nodes of its list.
+    fn consider_with_list(self, best: Nearest, u: Node) -> Nearest
+        ensures { result ≡ considered_all (seeking self.entry) (u.0 ∷ list_in self.entry.lists u.0) best }
     {
-        let mut near = best;
-        for v in lists.of(u) {
-            near = self.consider_around(lists, near, own, v);
-        }
-        near
-    }
-
-    // The candidates around one node: with `own` the node itself, then its list.
-    fn consider_around(self, lists: Lists, best: Nearest, own: bool, u: Node) -> Nearest
-        ensures { result ≡ considered_all (seeking self.entry) (around own (list_in lists.entry) u.0) best }
-    {
-        if own {
-            let first = self.consider(best, u);
-            return self.consider_list(lists, first, u);
-        }
-        self.consider_list(lists, best, u)
+        self.consider_list(self.consider(best, u), u)
     }
 
     // The nodes of a node's list.
-    fn consider_list(self, lists: Lists, best: Nearest, u: Node) -> Nearest
-        ensures { result ≡ considered_all (seeking self.entry) (list_in lists.entry u.0) best }
+    fn consider_list(self, best: Nearest, u: Node) -> Nearest
+        ensures { result ≡ considered_all (seeking self.entry) (list_in self.entry.lists u.0) best }
     {
-        let mut near = best;
-        for c in lists.of(u) {
-            near = self.consider(near, c);
-        }
-        near
+        self.lists
+            .of(u)
+            .fold(best, |near, c| self.consider(near, c))
     }
 
     // A candidate is the nearest where it is reached and its distance is below the distance so far, as numbers.
@@ -89,7 +77,7 @@ impl<'a> Seeker<'a> {
         ensures { result ≡ considered (seeking self.entry) c.0 best }
     {
         let mark = store::word_at(self.marks, c.0 as usize);
-        if (self.n <= c.0) | (mark == 0) {
+        if (self.lists.shape.n <= c.0) | (mark == 0) {
             return best;
         }
         let distance = self.vectors.distance_from(self.query, c);

@@ -20,8 +20,7 @@ use Rattle.distance.specs.Vectors.{vector_of, between}
 use Rattle.def_walk.specs.Repair.{lists_of, with_lists, candidates_for, nearest_reached}
 use Rattle.graph_utils.proofs.marking.Refining.{Marked}
 use Rattle.graph_utils.specs.declared.candidates.Nearest.{Nearest}
-use Rattle.graph_utils.specs.Inside.Candidates.{Seeking, nearest, distance_from, considered, considered_all, around, around_all, around_list, start_of}
-use Rattle.graph_utils.proofs.candidates.Steps.{both_lists}
+use Rattle.graph_utils.specs.Inside.Candidates.{Seeking, nearest, distance_from, considered, considered_all, start_of}
 
 -- ---- the nearest
 
@@ -55,15 +54,15 @@ module _ (words : List ℕ) (n : ℕ) (reached : List ℕ) (marked : Marked n re
 -- ---- the candidates
 
 module _ (list list' : ℕ → List ℕ) (n : ℕ) (alike : (u : ℕ) → u < n → list' u ≡ list u) (within : (u v : ℕ) → In v (list u) → v < n) where
-  around-lists : (us : List ℕ) → Below n us → around_all false list' us ≡ lists_of list us
-  unfolding around_all around pick lists_of
-  around-lists [] b = refl
-  around-lists (u ∷ us) b = ap₂ (λ (x : List ℕ) (y : List ℕ). x ++ y) (alike u (b u (here refl))) (around-lists us (λ x m. b x (there m)))
+  same_lists : (us : List ℕ) → Below n us → lists_of list' us ≡ lists_of list us
+  unfolding lists_of
+  same_lists [] b = refl
+  same_lists (u ∷ us) b = ap₂ (λ (x : List ℕ) (y : List ℕ). x ++ y) (alike u (b u (here refl))) (same_lists us (λ x m. b x (there m)))
 
-  around_with : (us : List ℕ) → Below n us → around_all true list' us ≡ with_lists list us
-  unfolding around_all around pick with_lists
-  around_with [] b = refl
-  around_with (u ∷ us) b = ap₂ (λ (x : List ℕ) (y : List ℕ). u ∷ (x ++ y)) (alike u (b u (here refl))) (around_with us (λ x m. b x (there m)))
+  same_with : (us : List ℕ) → Below n us → with_lists list' us ≡ with_lists list us
+  unfolding with_lists
+  same_with [] b = refl
+  same_with (u ∷ us) b = ap₂ (λ (x : List ℕ) (y : List ℕ). u ∷ (x ++ y)) (alike u (b u (here refl))) (same_with us (λ x m. b x (there m)))
 
   either : {a b : List ℕ} → Below n a → Below n b → Below n (a ++ b)
   either {a} {b} p q x m = elim (in-cases a m) [ inl k ↦ p x k | inr k ↦ q x k ]
@@ -85,8 +84,8 @@ module _ (list list' : ℕ → List ℕ) (n : ℕ) (alike : (u : ℕ) → u < n 
   start_refines words reached m vs entry i e h =
       let k : Seeking = record { marks = words; n = n; vs = vs; query = vector_of vs i } in
       let first : Nearest = nearest entry (distance_from k entry) in
-      let a : around_list false list' i ≡ lists_of list (list i) = ap (around_all false list') (alike i h) ∙ around-lists (list i) (within i) in
-      let b : around_list true list' entry ≡ with_lists list (list entry) = ap (around_all true list') (alike entry e) ∙ around_with (list entry) (within entry) in
-      ap₂ (λ (x : List ℕ) (y : List ℕ). (considered_all k y (considered_all k x first)).node.0) a b
-      ∙ ap (λ (z : Nearest). z.node.0) (both_lists k (lists_of list (list i)) (with_lists list (list entry)) first
-      ∙ all_refines words n reached m vs i (lists_of list (list i) ++ with_lists list (list entry)) entry (either (lists_below (list i)) (with_below (list entry) (within entry))))
+      let a : lists_of list' (list' i) ≡ lists_of list (list i) = ap (lists_of list') (alike i h) ∙ same_lists (list i) (within i) in
+      let b : with_lists list' (list' entry) ≡ with_lists list (list entry) = ap (with_lists list') (alike entry e) ∙ same_with (list entry) (within entry) in
+      ap₂ (λ (x : List ℕ) (y : List ℕ). (considered_all k (x ++ y) first).node.0) a b
+      ∙ ap (λ (z : Nearest). z.node.0) (all_refines words n reached m vs i (lists_of list (list i) ++ with_lists list (list entry)) entry
+      (either (lists_below (list i)) (with_below (list entry) (within entry))))

@@ -1,11 +1,12 @@
 -- Where a bridge starts, as words and a distance that is kept do it (scope, part 7). Of n nodes the first n words are marks, not 0 where a node is
 -- reached.
-use Rattle.std.specs.Prelude.{Bool, true, false, ◌||◌, List, [], ◌∷◌, ◌++◌, ℕ, eqb, leb, get_or, Float}
+use Rattle.std.specs.Prelude.{◌||◌, List, [], ◌∷◌, ℕ, eqb, leb, get_or, Float}
 use Rattle.std.specs.Float.{binary32}
 use Rattle.std.specs.Float.Ieee.{lt}
 use Rattle.basics.specs.Choice.{pick}
 use Rattle.distance.specs.Distance.{distance_of}
 use Rattle.distance.specs.Vectors.{vectors_of, vector_of}
+use Rattle.def_walk.specs.Repair.{candidates_for}
 use Rattle.graph_utils.specs.declared.candidates.Nearest.{Nearest}
 use Rattle.graph_utils.specs.declared.candidates.Seeker.{Seeker}
 
@@ -18,7 +19,7 @@ pub record Seeking : Type 0 where
 
 -- the same, of an index in slices
 abbrev pub seeking : Seeker → Seeking
-seeking s = record { marks = s.marks.now; n = s.n; vs = vectors_of s.vectors; query = s.query.now }
+seeking s = record { marks = s.marks.now; n = s.lists.shape.n; vs = vectors_of s.vectors; query = s.query.now }
 
 abbrev pub nearest : ℕ → Float → Nearest
 nearest c d = record { node = record { 0 = c }; distance = d }
@@ -38,25 +39,9 @@ unfolding considered
 considered_all k [] best = best
 considered_all k (c ∷ cs) best = considered_all k cs (considered k c best)
 
--- a node's list, with the node itself first where it counts too
-unfoldable pub around : Bool → (ℕ → List ℕ) → ℕ → List ℕ
-unfolding pick
-around own list u = pick own (u ∷ list u) (list u)
-
-unfoldable pub around_all : Bool → (ℕ → List ℕ) → List ℕ → List ℕ
-unfolding around
-around_all own list [] = []
-around_all own list (u ∷ us) = around own list u ++ around_all own list us
-
--- the same of the nodes of u's list
-abbrev pub around_list : Bool → (ℕ → List ℕ) → ℕ → List ℕ
-around_list own list u = around_all own list (list u)
-
 -- of the candidates for a bridge to node i, the nearest, or the entry
 unfoldable pub start_of : List ℕ → ℕ → List (List Float) → (ℕ → List ℕ) → ℕ → ℕ → ℕ
-unfolding considered_all around_all distance_of
+unfolding considered_all candidates_for distance_of
 start_of marks n vs list entry i =
     let k : Seeking = record { marks = marks; n = n; vs = vs; query = vector_of vs i } in
-    let first : Nearest = nearest entry (distance_from k entry) in
-    let own : Nearest = considered_all k (around_list false list i) first in
-    (considered_all k (around_list true list entry) own).node.0
+    (considered_all k (candidates_for list entry i) (nearest entry (distance_from k entry))).node.0

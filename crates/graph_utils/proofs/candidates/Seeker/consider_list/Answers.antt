@@ -1,11 +1,14 @@
--- One candidate more, and the end. Assumes nothing.
-use Rattle.std.proofs.Common.{◌∙◌}
-use Rattle.graph_utils.specs.Inside.Candidates.{seeking}
-use Rattle.graph_utils.proofs.candidates.Steps.{consider_next, consider_none}
+-- Each call considers one candidate. Assumes nothing.
+use Rattle.std.proofs.Common.{rules, ◌∙◌}
+use Rattle.std.proofs.lemmas.Iterator.Consumers.{YieldsList-from_first, fold_from_yields_List}
+use Rattle.lists.specs.Inside.Lists.{list_in, entries_left}
+use Rattle.graph_utils.specs.Inside.Candidates.{seeking, considered}
+use Rattle.graph_utils.proofs.candidates.Steps.{fold_list}
 use Rattle.graph_utils.proofs.candidates.Seeker.consider_list.Goals as goal
 
-pub loop-c-preserved : goal.loop-c-preserved
-loop-c-preserved c = consider_next (seeking c.args.self) _ _ _ _ _ c.in-Some.ensures.steps c.consider-near.ensures ∙ c.loop-c.invariant
-
 pub returns : goal.returns
-returns c = consider_none (seeking c.args.self) _ c.loop-c.near c.in-None.ensures.steps.0 ∙ c.loop-c.invariant
+returns c =
+    let a = c.args in
+    fold_from_yields_List _ (λ b x. considered (seeking a.self) x b) a.best c.fold.result c.fold.ensures.ran
+    (YieldsList-from_first (λ node. node.0) entries_left (list_in a.self.lists a.u.0) c.of.ensures) (λ b x r q k. search rules)
+    ∙ fold_list (seeking a.self) (list_in a.self.lists a.u.0) a.best
