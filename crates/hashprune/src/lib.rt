@@ -44,6 +44,16 @@ pub struct Candidate {
     pub far: f32,
 }
 
+// What comes to a node's row in its turn: the candidates, at most 64 nodes in their order; the vectors of the index and the
+// blocks of hyperplanes, by which they are hashed.
+#[derive(Clone, Copy)]
+pub struct Offer<'a> {
+    pub vectors: Vectors<'a>,
+    pub point: Point,
+    pub planes: &'a [f32],
+    pub candidates: &'a [Candidate],
+}
+
 // A hash, and the place of the candidate that holds its cell.
 #[derive(Clone, Copy)]
 struct Cell {
@@ -98,26 +108,25 @@ fn put_cell(cells: &mut [Cell], held: usize, new: Cell, candidates: &[Candidate]
 
 // The cells after all candidates have come, in their order, at the front of a slice. Returns how many
 // there are.
-fn fill_cells(
-    vectors: Vectors,
-    point: Point,
-    planes: &[f32],
-    candidates: &[Candidate],
-    cells: &mut [Cell],
-) -> usize
-    requires { CellRoom (length candidates.now) cells.old }
-    ensures { (result ≤ length candidates.now) × (cells_in result cells.new
-        ≡ cells_of point vectors.entry planes.now candidates.now) }
+fn fill_cells(offer: Offer, cells: &mut [Cell]) -> usize
+    requires { CellRoom (length offer.candidates.now) cells.old }
+    ensures { (result ≤ length offer.entry.candidates.now) × (cells_in result cells.new
+        ≡ cells_of offer.entry.point offer.entry.vectors offer.entry.planes.now offer.entry.candidates.now) }
 {
-    let p = vectors.get(point.node);
+    let p = offer.vectors.get(offer.point.node);
     let mut held = 0;
-    for (i, candidate) in candidates.iter().enumerate() {
-        let hash = hash_of(p, vectors.get(candidate.node), planes, point.bits);
+    for (i, candidate) in offer.candidates.iter().enumerate() {
+        let hash = hash_of(
+            p,
+            offer.vectors.get(candidate.node),
+            offer.planes,
+            offer.point.bits,
+        );
         let cell = Cell {
             hash,
             place: i as u32,
         };
-        held = put_cell(cells, held, cell, candidates);
+        held = put_cell(cells, held, cell, offer.candidates);
     }
     held
 }
@@ -191,21 +200,14 @@ fn write_row(row: &mut [u32], pairs: &[Keyed])
 
 // The nodes that hold cells after the candidates have come, the nearest first, with their keys, at the
 // front of a slice. Returns how many there are.
-fn select(
-    vectors: Vectors,
-    point: Point,
-    planes: &[f32],
-    candidates: &[Candidate],
-    pairs: &mut [Keyed],
-    spare: &mut [Keyed],
-) -> usize
-    requires { SelectRoom (length candidates.now) pairs.old spare.old }
-    ensures { Selected (selected_pairs point vectors.entry planes.now candidates.now)
-        (length candidates.now) result pairs.old pairs.new }
+fn select(offer: Offer, pairs: &mut [Keyed], spare: &mut [Keyed]) -> usize
+    requires { SelectRoom (length offer.candidates.now) pairs.old spare.old }
+    ensures { Selected (selected_pairs offer.entry.point offer.entry.vectors offer.entry.planes.now offer.entry.candidates.now)
+        (length offer.entry.candidates.now) result pairs.old pairs.new }
 {
     let mut cells = [Cell { hash: 0, place: 0 }; 64];
-    let held = fill_cells(vectors, point, planes, candidates, &mut cells);
-    rank_places(candidates, &cells[..held], pairs);
+    let held = fill_cells(offer, &mut cells);
+    rank_places(offer.candidates, &cells[..held], pairs);
     sorting::sort_pairs(&mut pairs[..held], spare);
     held
 }
@@ -221,46 +223,26 @@ fn merge_row(pairs: &mut [Keyed], spare: &mut [Keyed], row: &mut [u32])
 }
 
 // The turn of a node, where sizes fit: the row's entries come first, then what is selected.
-fn insert_fitting(
-    vectors: Vectors,
-    point: Point,
-    planes: &[f32],
-    candidates: &[Candidate],
-    row: &mut [u32],
-)
-    requires { TurnRoom candidates.now row.old }
-    ensures { row.new ≡ row_after point vectors.entry planes.now candidates.now row.old }
+fn insert_fitting(offer: Offer, row: &mut [u32])
+    requires { TurnRoom offer.candidates.now row.old }
+    ensures { row.new ≡ row_after offer.entry.point offer.entry.vectors offer.entry.planes.now offer.entry.candidates.now row.old }
 {
     let none = Keyed { key: 0, id: 0 };
     let mut pairs = [none; 96];
     let mut spare = [none; 64];
-    let p = vectors.get(point.node);
-    let old = rank_row(vectors, p, row, &mut pairs);
-    let new = select(
-        vectors,
-        point,
-        planes,
-        candidates,
-        &mut pairs[old..],
-        &mut spare,
-    );
+    let p = offer.vectors.get(offer.point.node);
+    let old = rank_row(offer.vectors, p, row, &mut pairs);
+    let new = select(offer, &mut pairs[old..], &mut spare);
     let all = old + new.min(row.len() - 1);
     merge_row(&mut pairs[..all], &mut spare, row);
 }
 
-// The turn of a node: `row` is its row, a count and D entries with D at most 32, `candidates` are at most
-// 64 nodes in their order with their distances from it, and `planes` the blocks of hyperplanes.
+// The turn of a node: `row` is its row, a count and D entries with D at most 32.
 // It is promised for sizes that fit (`Turn` of specs/Inside/Hashprune); for others it is safe, and no more is said.
-pub fn hashprune_insert(
-    vectors: Vectors,
-    point: Point,
-    planes: &[f32],
-    candidates: &[Candidate],
-    row: &mut [u32],
-)
-    ensures { Inserted point vectors.entry planes.now candidates.now row.old row.new }
+pub fn hashprune_insert(offer: Offer, row: &mut [u32])
+    ensures { Inserted offer.entry.point offer.entry.vectors offer.entry.planes.now offer.entry.candidates.now row.old row.new }
 {
-    if candidates.len() > 64 {
+    if offer.candidates.len() > 64 {
         return;
     }
     if row.len() == 0 {
@@ -269,5 +251,5 @@ pub fn hashprune_insert(
     if row.len() > 33 {
         return;
     }
-    insert_fitting(vectors, point, planes, candidates, row);
+    insert_fitting(offer, row);
 }

@@ -10,13 +10,13 @@ use native.Mathlib.Omega.{arith}
 use Rattle.hashprune.proofs.fill_cells.Goals as goal
 
 pub loop-i-init : goal.loop-i-init
-loop-i-init c = let a = c.args in came_none (far_at a.candidates.now) (hash_at a.point a.vectors a.planes.now a.candidates.now) a.cells.now
+loop-i-init c = let a = c.args in came_none (far_at a.offer.candidates.now) (hash_at a.offer.point a.offer.vectors a.offer.planes.now a.offer.candidates.now) a.cells.now
 
 pub put_cell-held-requires : goal.put_cell-held-requires
 put_cell-held-requires c =
     let a = c.args in
     let l = c.loop-i in
-    let inside = came_below (far_at a.candidates.now) (hash_at a.point a.vectors a.planes.now a.candidates.now) l.i l.held l.cells l.invariant in
+    let inside = came_below (far_at a.offer.candidates.now) (hash_at a.offer.point a.offer.vectors a.offer.planes.now a.offer.candidates.now) l.i l.held l.cells l.invariant in
     record {
       room = omega (arith, l.auto.cells, l.invariant.few, c.requires.room);
       place_inside = omega arith;
@@ -29,14 +29,14 @@ loop-i-preserved c =
     let l = c.loop-i in
     let put = c.put_cell-held in
     let hash = c.hash_of-hash in
-    let same : hash.result ≡ hash_at a.point a.vectors a.planes.now a.candidates.now l.i
-    = hash.ensures ∙ (λ j. hash_by a.planes.now a.point.bits (c.get-p.ensures j) (c.get.ensures j)) in
-    came_more (far_at a.candidates.now) (hash_at a.point a.vectors a.planes.now a.candidates.now) l.i l.held put.result hash.result l.cells put.new.cells
+    let same : hash.result ≡ hash_at a.offer.point a.offer.vectors a.offer.planes.now a.offer.candidates.now l.i
+    = hash.ensures ∙ (λ j. hash_by a.offer.planes.now a.offer.point.bits (c.get-p.ensures j) (c.get.ensures j)) in
+    came_more (far_at a.offer.candidates.now) (hash_at a.offer.point a.offer.vectors a.offer.planes.now a.offer.candidates.now) l.i l.held put.result hash.result l.cells put.new.cells
     l.invariant same put.ensures.0 put.ensures.1
 
 pub returns : goal.returns
 returns c =
     let a = c.args in
     let l = c.loop-i in
-    let e : l.i ≡ length a.candidates.now = omega arith in
-    (omega (arith, l.invariant.few), l.invariant.cells_are ∙ ap (λ (k : ℕ). cells_from (far_at a.candidates.now) (hash_at a.point a.vectors a.planes.now a.candidates.now) [] (first_places k)) e)
+    let e : l.i ≡ length a.offer.candidates.now = omega arith in
+    (omega (arith, l.invariant.few), l.invariant.cells_are ∙ ap (λ (k : ℕ). cells_from (far_at a.offer.candidates.now) (hash_at a.offer.point a.offer.vectors a.offer.planes.now a.offer.candidates.now) [] (first_places k)) e)

@@ -4,4 +4,4 @@ use Rattle.hashprune.proofs.Cells.{Came}
 use Rattle.hashprune.proofs.fill_cells.Given as goal
 
 abbrev pub invariant-loop-i : goal.invariant-loop-i
-invariant-loop-i l = Came (far_at l.initial.candidates) (hash_at l.initial.point l.initial.vectors l.initial.planes l.initial.candidates) l.i l.held l.cells
+invariant-loop-i l = Came (far_at l.fn.offer.candidates.now) (hash_at l.fn.offer.point l.fn.offer.vectors l.fn.offer.planes.now l.fn.offer.candidates.now) l.i l.held l.cells

@@ -7,4 +7,4 @@ pub returns : goal.returns
 returns c =
     λ old t.
     let a = c.args in
-    c.insert_fitting.ensures ∙ turn_is a.vectors a.point a.planes.now a.candidates.now a.row.now old t
+    c.insert_fitting.ensures ∙ turn_is a.offer.vectors a.offer.point a.offer.planes.now a.offer.candidates.now a.row.now old t

@@ -18,9 +18,9 @@ returns c =
     let r = c.rank_row-old in
     let t = c.select-new in
     let D : ℕ = length a.row.now - 1 in
-    let new : List Keyed = selected_pairs a.point a.vectors a.planes.now a.candidates.now in
+    let new : List Keyed = selected_pairs a.offer.point a.offer.vectors a.offer.planes.now a.offer.candidates.now in
     c.merge_row.ensures
     ∙ ap (λ (ps : List Keyed). row_block D (merged_pairs D ps))
-    (joined D (old_pairs a.vectors c.get-p.result.now a.row.now) new r.result c.min.result _ r.new.pairs _ t.new.pairs _ r.ensures.0
+    (joined D (old_pairs a.offer.vectors c.get-p.result.now a.row.now) new r.result c.min.result _ r.new.pairs _ t.new.pairs _ r.ensures.0
     (omega (arith, c.min.ensures, t.ensures.many)) r.ensures.1 t.ensures.are)
-    ∙ ap (λ (x : List Float). row_block D (merged_pairs D (old_pairs a.vectors x a.row.now ++ take D new))) c.get-p.ensures
+    ∙ ap (λ (x : List Float). row_block D (merged_pairs D (old_pairs a.offer.vectors x a.row.now ++ take D new))) c.get-p.ensures
