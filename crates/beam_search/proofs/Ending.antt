@@ -2,21 +2,19 @@
 -- distances. Assumes nothing.
 use mathlib.Core.Path.{◌≡◌, refl, sym, ap, ap₂, ◌∙◌, subst}
 use mathlib.Core.Bool.{Bool, true, false, ◌||◌}
-use mathlib.Core.List.{List, [], ◌∷◌, ◌++◌, map, map-append, reverse}
+use mathlib.Core.List.{List, [], ◌∷◌, ◌++◌, map, reverse}
 use mathlib.Core.List.Memᴰ.{not-nil as in-nil}
 use mathlib.Core.List.{Memᴰ as In}
-use Prim.Native.Nat.{ℕ, ◌+◌, ◌-◌, ◌/◌, ◌≤◌, ◌<◌, min}
+use Prim.Native.Nat.{ℕ, ◌-◌, ◌/◌, ◌≤◌, ◌<◌, min}
 use native.Mathlib.Omega.{arith}
-use native.Mathlib.Numerals.{add-one}
 use lib.Dec.{T, ltb}
 use borrow.Author.Tests.{lt-ltb, le-ltb, ltb-false}
-use lib.ListN.{length, get_or, take, drop, set, replicate, length-drop, length-map, length-append, length-replicate, length-reverse, get_or-replicate, get_or-append}
-use lib.Seq.{length-take-le, take-suc, take-nil, take_at}
+use lib.ListN.{length, get_or, take, drop, replicate, length-drop, length-map, length-append, length-replicate, length-reverse, get_or-replicate, get_or-append}
+use lib.Seq.{length-take-le, take-nil, take_at}
 use lib.Ieee.{Float, binary32, fits, inf}
 use Rattle.basics.specs.Choice.{pick, pick_true}
 use Rattle.basics.specs.Lists.{keep}
 use Rattle.basics.specs.Nodes.{has}
-use Rattle.basics.proofs.Loops.{front_set}
 use Rattle.basics.proofs.Members.{map_in}
 use Rattle.basics.proofs.Tests.{both_false}
 use Rattle.basics.proofs.Counting.{at_most}

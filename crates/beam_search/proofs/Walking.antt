@@ -22,7 +22,8 @@ use Rattle.def_walk.specs.Walk.{State, expand, walk}
 use Rattle.def_walk.specs.Beam.{to_frontier, too_far, too_many}
 use Rattle.beam_state.specs.Inside.Queues.{front_rank, Queue, Taken, Popping}
 use Rattle.words.specs.declared.ids.Node.{Node}
-use Rattle.std.proofs.Common.{Option, Some, None}
+use Rattle.beam_state.specs.declared.queues.Popped.{Popped}
+use Rattle.beam_state.specs.declared.queues.Popped.TheVariants.{At, Empty}
 use Rattle.sorting.specs.declared.Keyed.{Keyed}
 use Rattle.neighbours.specs.Inside.Gathering.{Linked}
 use Rattle.beam_state.specs.Inside.State.{part, frontier_at, held_at, words_for, held_end, frontier_part, Memory}
@@ -85,14 +86,14 @@ module _ (sizes : Sizes) (reads : Reads) (links : List ℕ) (m : Memory) (x : Li
       kept : (a e : ℕ) → held_at n ≤ a → part a e m.words ≡ part a e popped_to.words
       kept a e h = sym (part_after (frontier_at n) (held_at n) x m.words (omega arith) (omega arith) size a e h)
 
-  module _ (popped : Option (Float × Node)) (pop : Popping m.floats (frontier_part n m.words) x popped) where
+  module _ (popped : Popped) (pop : Popping m.floats (frontier_part n m.words) x popped) where
     taken : (answer₀ : List Keyed) (seen front : List ℕ) → Between sizes far live answer₀ m seen front → Taken far n front x popped
     taken answer₀ seen front t = pop far n front (record { few = t.known.few; f32s = t.known.f32s; there = λ v i. t.known.there v (t.standing.sub v i) }) t.standing.frontier
 
-    not-both : (d : Float) (v : Node) → popped ≡ None → popped ≡ Some (d, v) → ⊥
+    not-both : (d : Float) (v : Node) → popped ≡ Empty → popped ≡ At d v → ⊥
     not-both d v p q = let z : ◌≡◌ {A = ℕ} 0 1 = cc in omega arith
 
-    pub step_empty : popped ≡ None → Stepping sizes reads links m popped_to true
+    pub step_empty : popped ≡ Empty → Stepping sizes reads links m popped_to true
     unfolding walk
     step_empty e linked answer₀ seen [] t = record {
       seen' = seen;
@@ -103,17 +104,17 @@ module _ (sizes : Sizes) (reads : Reads) (links : List ℕ) (m : Memory) (x : Li
     }
     step_empty e linked answer₀ seen (u ∷ rest) t = absurd (not-both (far u) (record { 0 = u }) e (taken answer₀ seen (u ∷ rest) t).0)
 
-    module _ (d : Float) (v : Node) (got : popped ≡ Some (d, v)) (stop : Bool) (stop_is : stop ≡ (leb b w.held && lt (mul binary32 w.cutoff stops.factor) d)) where
+    module _ (d : Float) (v : Node) (got : popped ≡ At d v) (stop : Bool) (stop_is : stop ≡ (leb b w.held && lt (mul binary32 w.cutoff stops.factor) d)) where
       -- what is in it
-      abbrev content : Option (Float × Node) → Float × Node
-      content None = (d, v)
-      content (Some x) = x
+      abbrev content : Popped → Float × Node
+      content Empty = (d, v)
+      content (At x u) = (x, u)
 
-      same_distance : (u : ℕ) → popped ≡ Some (far u, record { 0 = u }) → d ≡ far u
-      same_distance u e = ap (λ (o : Option (Float × Node)). (content o).0) (sym got ∙ e)
+      same_distance : (u : ℕ) → popped ≡ At (far u) (record { 0 = u }) → d ≡ far u
+      same_distance u e = ap (λ (o : Popped). (content o).0) (sym got ∙ e)
 
-      same_node : (u : ℕ) → popped ≡ Some (far u, record { 0 = u }) → v.0 ≡ u
-      same_node u e = ap (λ (o : Option (Float × Node)). (content o).1.0) (sym got ∙ e)
+      same_node : (u : ℕ) → popped ≡ At (far u) (record { 0 = u }) → v.0 ≡ u
+      same_node u e = ap (λ (o : Popped). (content o).1.0) (sym got ∙ e)
 
       too_far_is : (answer₀ : List Keyed) (seen rest : List ℕ) (u : ℕ) → Between sizes far live answer₀ m seen (u ∷ rest) → too_far stops far b (keep live seen) u ≡ stop
       unfolding too_far

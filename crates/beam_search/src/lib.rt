@@ -26,6 +26,7 @@ ghost use Rattle.beam_state.specs.Inside.State.{frontier_at, words_for, live_by}
 ghost use Rattle.beam_search.specs.Inside.Steps.{Linking, TakingIn, Stepping, Walking, WalkingLinked, Prepared, Starting, PutDistances, walk_of, is_done};
 ghost use Rattle.beam_search.specs.Inside.Search.{Searching};
 
+use beam_state::queues::Popped;
 use beam_state::{Walk, queues, tournament};
 use def_walk::Stops;
 use distance::vectors::Vectors;
@@ -145,7 +146,7 @@ fn step(
     let n = sizes.shape.n as usize;
     let frontier = beam_state::FRONTIER * n;
     let held = beam_state::HELD * n;
-    let Some((distance, node)) = queues::pop(&mut words[frontier..held], floats) else {
+    let Popped::At(distance, node) = queues::pop(&mut words[frontier..held], floats) else {
         return ControlFlow::Break(walk);
     };
     if too_far(walk, sizes, distance) {

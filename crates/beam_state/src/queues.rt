@@ -24,6 +24,14 @@ use distance::order;
 use sorting::Keyed;
 use words::ids::Node;
 
+// The nearest node of the frontier with its distance, or nothing where the frontier is empty.
+// kept (1): the scope asks for this enum, of a distance and a node or nothing.
+#[derive(Clone, Copy)]
+pub enum Popped {
+    At(f32, Node),
+    Empty,
+}
+
 // How many nodes are held, and the cutoff.
 #[derive(Clone, Copy)]
 pub struct Closest {
@@ -50,15 +58,15 @@ pub fn enter(tree: &mut [u32], key: u32, node: Node)
 }
 
 // Takes the nearest node from the frontier, the lower one of equally near nodes, with its distance.
-pub fn pop(tree: &mut [u32], floats: &[f32]) -> Option<(f32, Node)>
+pub fn pop(tree: &mut [u32], floats: &[f32]) -> Popped
     ensures { Popping floats.now tree.old tree.new result }
 {
     let Some(top) = tournament::first(tree) else {
-        return None;
+        return Popped::Empty;
     };
     tournament::remove(tree, top.id);
     let node = Node(top.id);
-    Some((distance_of(floats, node), node))
+    Popped::At(distance_of(floats, node), node)
 }
 
 // A held distance's key, turned so that the worst is first, and back.

@@ -19,7 +19,7 @@ pub returns-then-too_far : goal.returns-then-too_far
 returns-then-too_far c =
     let a = c.args in
     step_far a.sizes a.reads a.links.now (memory (goal.at.returns-then-too_far c).Start) c.pop.new.tree c.requires c.pop.auto.tree c.pop.result c.pop.ensures
-    c.in-Some.distance c.in-Some.node c.in-Some.is c.too_far.result c.too_far.ensures c.if-too_far.true
+    c.in-At.distance c.in-At.node c.in-At.is c.too_far.result c.too_far.ensures c.if-too_far.true
 
 -- a node expanded
 module _ (c : After-ends_after) where
@@ -33,9 +33,9 @@ module _ (c : After-ends_after) where
       let m : Memory = record { words = a.words.now; floats = a.floats.now; answer = a.answer.now; walk = a.walk } in
       let gather = c.gather-count in
       let take = c.take_in-next in
-      step_on a.sizes a.reads a.links.now m c.pop.new.tree c.requires c.pop.auto.tree c.pop.result c.pop.ensures c.in-Some.distance c.in-Some.node c.in-Some.is
+      step_on a.sizes a.reads a.links.now m c.pop.new.tree c.requires c.pop.auto.tree c.pop.result c.pop.ensures c.in-At.distance c.in-At.node c.in-At.is
       c.too_far.result c.too_far.ensures after done c.if-too_far.false
-      (expanding a.sizes a.reads a.links c.in-Some.node.0 gather.result gather.new.words
+      (expanding a.sizes a.reads a.links c.in-At.node.0 gather.result gather.new.words
       (popped_to a.sizes a.reads a.links.now m c.pop.new.tree c.requires c.pop.auto.tree) after
       (popped_long a.sizes a.reads a.links.now m c.pop.new.tree c.requires c.pop.auto.tree) gather.ensures take.ensures.pushed take.ensures.marks)
       d

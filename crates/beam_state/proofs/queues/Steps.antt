@@ -17,7 +17,7 @@ use Rattle.def_walk.specs.KeepClosest.{key_at, sooner}
 use Rattle.def_walk.specs.Beam.{to_frontier}
 use Rattle.beam_state.specs.Inside.Queues.{front_rank, Queue, Known, Entering, Popping}
 use Rattle.words.specs.declared.ids.Node.{Node}
-use Rattle.std.proofs.Common.{Some, None}
+use Rattle.beam_state.specs.declared.queues.Popped.TheVariants.{At, Empty}
 use Rattle.beam_state.proofs.queues.Laws.{put_in, take_out, first_node, none_first, queue_size}
 use Rattle.beam_state.proofs.queues.Ranks.{front_order, front_below, front_one}
 
@@ -65,7 +65,7 @@ module _ (floats : List Float) (tree tree' : List ℕ) (id : ℕ) (first : id �
       let low : u < n = q.inside u (here refl) in
       first ∙ first_id (key_at far) (λ v. v) n tree u l (λ v h. front_below far known.f32s v (omega arith)) (omega arith) k q
 
-  pub pop_empty : id ≡ 0xffff_ffff → Popping floats tree tree None
+  pub pop_empty : id ≡ 0xffff_ffff → Popping floats tree tree Empty
   pop_empty e far n [] known q = (refl, q)
   pop_empty e far n (u ∷ l) known q =
       let few : n ≤ 1024 = known.few in
@@ -73,10 +73,10 @@ module _ (floats : List Float) (tree tree' : List ℕ) (id : ℕ) (first : id �
       let same : id ≡ u = front_id far n u l known q in
       absurd (omega arith)
 
-  pub pop_at : (id ≡ 0xffff_ffff → ⊥) → (d : Float) → d ≡ get_or floats id (inf false) → Putting id empty_rank tree tree' → Popping floats tree tree' (Some (d, node id))
+  pub pop_at : (id ≡ 0xffff_ffff → ⊥) → (d : Float) → d ≡ get_or floats id (inf false) → Putting id empty_rank tree tree' → Popping floats tree tree' (At d (node id))
   pop_at ne d e put far n [] known q = absurd (ne (first ∙ none_id (key_at far) (λ v. v) n tree j k q))
   pop_at ne d e put far n (u ∷ l) known q =
       let same : id ≡ u = front_id far n u l known q in (
-        ap₂ (λ (x : Float) (y : Node). Some (x, y)) (e ∙ ap (λ (v : ℕ). get_or floats v (inf false)) same ∙ known.there u (here refl)) (ap node same),
+        ap₂ (λ (x : Float) (y : Node). At x y) (e ∙ ap (λ (v : ℕ). get_or floats v (inf false)) same ∙ known.there u (here refl)) (ap node same),
         take_out (front_rank far) n u l tree tree' (subst (λ (v : ℕ). Putting v empty_rank tree tree') same put) q,
       )

@@ -1,7 +1,7 @@
 -- The frontier and the held nodes of a walk as tournaments (scope, part 8; the Rust's `BinaryHeap`). The frontier has a slot for each node; the held
 -- have b slots, or n if that is less, and a slot has a held node's key alone: only the cutoff is asked of them. What a function promises is about
 -- every tree that represents some nodes, and about those nodes as `def_walk` defines the walk.
-use Rattle.std.specs.Prelude.{◌≡◌, false, ℕ, ◌+◌, ◌-◌, ◌≤◌, ◌<◌, T, eqb, ltb, length, get_or, Float, Option, Some, None}
+use Rattle.std.specs.Prelude.{◌≡◌, false, ℕ, ◌+◌, ◌-◌, ◌≤◌, ◌<◌, T, eqb, ltb, length, get_or, Float}
 use mathlib.Core.List.{List, [], ◌∷◌, map, Memᴰ as In}
 use Rattle.std.specs.Float.{binary32, inf}
 use Rattle.std.specs.Float.Ieee.{fits}
@@ -10,7 +10,8 @@ use Rattle.basics.specs.Nodes.{has, Below}
 use Rattle.beam_state.specs.Inside.Tournament.{rank_of, empty_rank, Tournament}
 use Rattle.def_walk.specs.KeepClosest.{key_at, worst_of, keep_closest}
 use Rattle.def_walk.specs.Beam.{to_frontier}
-use Rattle.words.specs.declared.ids.Node.{Node}
+use Rattle.beam_state.specs.declared.queues.Popped.{Popped}
+use Rattle.beam_state.specs.declared.queues.Popped.TheVariants.{At, Empty}
 use Rattle.beam_state.specs.declared.queues.Closest.{Closest}
 
 -- the floats have these nodes' distances, which are f32; there are not too many nodes
@@ -52,11 +53,11 @@ Entering v key tree tree' =
     → Queue (front_rank far) n (to_frontier far v front) tree'
 
 -- what taking from a frontier returns and leaves
-abbrev pub Taken : (ℕ → Float) → ℕ → List ℕ → List ℕ → Option (Float × Node) → Type 0
-Taken far n [] tree' r = (r ≡ None) × Queue (front_rank far) n [] tree'
-Taken far n (u ∷ front) tree' r = (r ≡ Some (far u, record { 0 = u })) × Queue (front_rank far) n front tree'
+abbrev pub Taken : (ℕ → Float) → ℕ → List ℕ → List ℕ → Popped → Type 0
+Taken far n [] tree' r = (r ≡ Empty) × Queue (front_rank far) n [] tree'
+Taken far n (u ∷ front) tree' r = (r ≡ At (far u) (record { 0 = u })) × Queue (front_rank far) n front tree'
 
-abbrev pub Popping : List Float → List ℕ → List ℕ → Option (Float × Node) → Type 0
+abbrev pub Popping : List Float → List ℕ → List ℕ → Popped → Type 0
 Popping floats tree tree' r =
     (far : ℕ → Float) (n : ℕ) (front : List ℕ)
     → Known far n front floats
