@@ -68,7 +68,7 @@ struct Index<'a> {
 
 impl<'a> Index<'a> {
     // The bridges, with links and marks passed in.
-    // kept (6): links and marks are scratch of a fixed size; a struct of `&mut` loses what is written.
+    // kept (6): links and marks are scratch; a struct of three `&mut` is no plainer: each method then says what of it stays.
     fn repair(self, bridges: &mut [u32], links: &mut [u32], state: &mut [u32]) -> u32
         requires { self.shape.n ≤ 1024 }
         ensures { work result bridges.new links.new state.new ≡ repaired_in self.entry bridges.old links.old state.old }
