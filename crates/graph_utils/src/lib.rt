@@ -18,7 +18,7 @@ ghost use Rattle.std.specs.Prelude.{◌≡◌, ◌≤◌, ◌<◌};
 ghost use Rattle.lists.specs.Inside.Words.{row_lists};
 ghost use Rattle.distance.specs.Vectors.{vectors_of};
 ghost use Rattle.graph_utils.specs.Inside.Connectivity.{Repairs};
-ghost use Rattle.graph_utils.specs.Inside.Turns.{work, put_bridge, turned, repaired};
+ghost use Rattle.graph_utils.specs.Inside.Turns.{work, put_bridge, turned_in, repaired_in};
 
 use distance::vectors::Vectors;
 use lists::chains::Lists;
@@ -48,78 +48,83 @@ pub fn ensure_connectivity(
         degree,
     };
     let mut state = [0u32; 2048];
-    repair(rows, vectors, shape, entry, bridges, words, &mut state)
+    let index = Index {
+        shape,
+        rows,
+        vectors,
+        entry,
+    };
+    index.repair(bridges, words, &mut state)
 }
 
-// The same, with links and marks passed in.
-fn repair(
-    rows: &[u32],
-    vectors: Vectors,
+// What repair reads of an index.
+#[derive(Clone, Copy)]
+struct Index<'a> {
     shape: Shape,
+    rows: &'a [u32],
+    vectors: Vectors<'a>,
     entry: Node,
-    bridges: &mut [u32],
-    links: &mut [u32],
-    state: &mut [u32],
-) -> u32
-    requires { shape.n ≤ 1024 }
-    ensures { work result bridges.new links.new state.new
-        ≡ repaired shape rows.now (vectors_of vectors.entry) entry.0
-        bridges.old links.old state.old }
-{
-    chains::clear_links(links, shape.n);
-    let lists = Lists {
-        shape,
-        rows,
-        bridges,
-        links,
-    };
-    marking::mark_reachable(lists, state, entry);
-    let mut count: u32 = 0;
-    for i in 0..shape.n {
-        count = turn(rows, vectors, shape, entry, bridges, links, state, count, i);
-    }
-    count
 }
 
-// The turn of node i: nothing if it is reached, else a bridge and what that makes reachable.
-fn turn(
-    rows: &[u32],
-    vectors: Vectors,
-    shape: Shape,
-    entry: Node,
-    bridges: &mut [u32],
-    links: &mut [u32],
-    state: &mut [u32],
-    count: u32,
-    i: u32,
-) -> u32
-    requires { count < 1024 }
-    ensures { work result bridges.new links.new state.new
-        ≡ turned shape rows.now (vectors_of vectors.entry) entry.0 i
-        (work count bridges.old links.old state.old) }
-{
-    let mark = store::word_at(state, i as usize);
-    if 0 < mark {
-        return count;
+impl<'a> Index<'a> {
+    // The bridges, with links and marks passed in.
+    // kept (6): links and marks are scratch; a struct of three `&mut` is no plainer: each method then says what of it stays.
+    fn repair(self, bridges: &mut [u32], links: &mut [u32], state: &mut [u32]) -> u32
+        requires { self.shape.n ≤ 1024 }
+        ensures { work result bridges.new links.new state.new ≡ repaired_in self.entry bridges.old links.old state.old }
+    {
+        chains::clear_links(links, self.shape.n);
+        let lists = Lists {
+            shape: self.shape,
+            rows: self.rows,
+            bridges,
+            links,
+        };
+        marking::mark_reachable(lists, state, self.entry);
+        let mut count: u32 = 0;
+        for i in 0..self.shape.n {
+            count = self.turn(bridges, links, state, count, i);
+        }
+        count
     }
-    let node = Node(i);
-    let before = Lists {
-        shape,
-        rows,
-        bridges,
-        links,
-    };
-    let near = candidates::bridge_start(before, state, vectors, entry, node);
-    put_bridge(bridges, count, near, node);
-    chains::chain_bridge(links, shape.n, count, near, node);
-    let after = Lists {
-        shape,
-        rows,
-        bridges,
-        links,
-    };
-    marking::mark_reachable(after, state, node);
-    count + 1
+
+    // The turn of node i: nothing if it is reached, else a bridge and what that makes reachable.
+    // kept (6): as `repair`, and the bridges so far are the first of the caller's words.
+    fn turn(
+        self,
+        bridges: &mut [u32],
+        links: &mut [u32],
+        state: &mut [u32],
+        count: u32,
+        i: u32,
+    ) -> u32
+        requires { count < 1024 }
+        ensures { work result bridges.new links.new state.new
+            ≡ turned_in self.entry i (work count bridges.old links.old state.old) }
+    {
+        let mark = store::word_at(state, i as usize);
+        if 0 < mark {
+            return count;
+        }
+        let node = Node(i);
+        let before = Lists {
+            shape: self.shape,
+            rows: self.rows,
+            bridges,
+            links,
+        };
+        let near = candidates::bridge_start(before, state, self.vectors, self.entry, node);
+        put_bridge(bridges, count, near, node);
+        chains::chain_bridge(links, self.shape.n, count, near, node);
+        let after = Lists {
+            shape: self.shape,
+            rows: self.rows,
+            bridges,
+            links,
+        };
+        marking::mark_reachable(after, state, node);
+        count + 1
+    }
 }
 
 fn put_bridge(bridges: &mut [u32], count: u32, near: Node, far: Node)

@@ -33,6 +33,7 @@ pub fn mark_reachable(lists: Lists, state: &mut [u32], start: Node)
 }
 
 // Visits the nodes of a node's list.
+// kept (6): a struct of `state`, n and top is no plainer, here and in `visit`: each method then says what of it stays.
 fn visit_list(lists: Lists, state: &mut [u32], top: u32, u: Node) -> u32
     ensures { marks state.new result
         ≡ visited_all lists.entry.shape.n (list_in lists.entry u.0) (marks state.old top) }

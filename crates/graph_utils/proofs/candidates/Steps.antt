@@ -7,7 +7,14 @@ use lib.Dec.{eqb, leb}
 use lib.ListN.{get_or}
 use lib.Ieee.{Float, lt}
 use Rattle.basics.specs.Choice.{pick_true, pick_false}
+use denote.Param.Members.{Mut}
+use Rattle.std.specs.Fn.{Called}
+use Rattle.std.specs.Iterator.{YieldsFirstBy, FoldsItems}
 use Rattle.std.specs.List.{fold}
+use Rattle.std.proofs.lemmas.Iterator.Consumers.{YieldsList-from_first, fold_from_yields_List}
+use Rattle.words.specs.declared.ids.Node.{Node}
+use Rattle.lists.specs.declared.chains.Entries.{Entries}
+use Rattle.lists.specs.Inside.Lists.{entries_left}
 use Rattle.distance.specs.Vectors.{vector_of}
 use Rattle.def_walk.specs.Repair.{lists_of, with_lists, candidates_for}
 use Rattle.graph_utils.specs.declared.candidates.Nearest.{Nearest}
@@ -62,6 +69,13 @@ module _ (k : Seeking) where
     fold_with_lists [] best = refl
     fold_with_lists (u ∷ us) best =
         fold_with_lists us (considered_all k (u ∷ list u) best) ∙ both_lists (u ∷ list u) (with_lists list us) best
+
+-- ---- a fold over a node's list, whose calls act as h on a node's number
+
+pub entries_fold : {C F : Type 0} (g : Mut F (C × (Node × Unit {0})) C) (h : C → ℕ → C) {f : F} {s : Entries} (init r : C) {us : List ℕ} → entries_left s ≡ us
+    → FoldsItems (YieldsFirstBy (λ (x : Node). x.0) entries_left) g s f init r
+    → ((b : C) (x : Node) (r : C) (f' : F) → Called g f (b, (x, tt)) r f' → (f' ≡ f) × (r ≡ h b x.0)) → r ≡ fold h init us
+entries_fold g h init r {us} e ran calls = fold_from_yields_List g h init r ran (YieldsList-from_first (λ (x : Node). x.0) entries_left us e) calls
 
 -- ---- the whole
 

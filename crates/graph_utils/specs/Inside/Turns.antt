@@ -4,9 +4,11 @@ use mathlib.Core.List.{List}
 use Prim.Native.Nat.{ℕ, zero, suc, ◌+◌, ◌*◌}
 use Rattle.std.specs.Prelude.{eqb, get_or, set, Float}
 use Rattle.basics.specs.Choice.{pick}
+use Rattle.distance.specs.Vectors.{vectors_of}
 use Rattle.lists.specs.Inside.Chains.{cleared_links, chain_bridge}
 use Rattle.lists.specs.declared.Shape.{Shape}
 use Rattle.lists.specs.Inside.Lists.{list_words}
+use Rattle.graph_utils.specs.declared.Index.{Index}
 use Rattle.graph_utils.specs.Inside.Marking.{marked}
 use Rattle.graph_utils.specs.Inside.Candidates.{start_of}
 
@@ -52,3 +54,10 @@ module _ (s : Shape) (rows : List ℕ) (vs : List (List Float)) (entry : ℕ) wh
   -- after all turns
   abbrev pub repaired : List ℕ → List ℕ → List ℕ → Work
   repaired bridges links state = turned_to (begun bridges links state) s.n
+
+-- both, of an index in slices
+abbrev pub turned_in : Index → ℕ → Work → Work
+turned_in x = turned x.shape x.rows.now (vectors_of x.vectors) x.entry.0
+
+abbrev pub repaired_in : Index → List ℕ → List ℕ → List ℕ → Work
+repaired_in x = repaired x.shape x.rows.now (vectors_of x.vectors) x.entry.0
