@@ -13,7 +13,7 @@
 // are any, are linked (`lists::chains`) in a local array of 16 KB, so that an expansion looks at its node's own
 // bridges alone.
 //
-// kept (5): what a walk writes are three slices: of a struct of `&mut` slices its maker's proof does not learn what was written.
+// kept (5): what a walk writes are three slices: with a struct of three `&mut` each clause would also say that each stays the same.
 // kept (6): words are the caller's scratch, since there is no heap, and a count says how many of a part hold.
 #![tactic(auto)]
 

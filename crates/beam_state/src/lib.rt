@@ -15,7 +15,7 @@
 // first, each node with its key: `keep_first` keeps the first of what it is offered, as many as that slice has room for, so that
 // nothing is sorted at the end. Counts and the cutoff are a struct by value.
 //
-// kept (5): words and answer are two slices: of a struct of `&mut` slices its maker's proof does not learn what was written.
+// kept (5): words and answer are two slices: with a struct of two `&mut` each clause would also say that each stays the same.
 // kept (6): words are the caller's scratch, since there is no heap, and a count says how many of a part hold.
 #![tactic(auto)]
 

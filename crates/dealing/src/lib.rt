@@ -250,7 +250,7 @@ struct Held {
 
 // The bucket of leader l is placed, or gathers with those before it, which are placed once they are
 // enough.
-// kept: three slices and not a struct of them, since what is written through such a struct is not known to its maker
+// kept: three slices and not a struct of them, with which each clause would also say that each stays the same
 fn gather_one(
     carded: Carded,
     l: u32,
