@@ -33,6 +33,7 @@ const OUTPUTS: usize = 1100;
 
 // Whether a search found what is recorded, and left the rest of its outputs alone. One that is refused found and
 // scored nothing.
+// kept (6): a search puts doc ids and distances into two slices, for C.
 fn found_is_same(
     mut answer: Tokens<'_>,
     found: Result<Walked, Refusal>,

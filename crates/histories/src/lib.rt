@@ -23,8 +23,8 @@ use params::PipnnParams;
 use random::lcg;
 use replay::lines::Line;
 use replay::tokens::Tokens;
+use std::num::{f32_from_bits_with_nan, f32_to_bits_with_nan};
 use vectors::Vectors;
-use words::bits;
 use words::ids::DocId;
 
 // The largest store has 36,885 words and 65,539 floats.
@@ -64,6 +64,7 @@ impl Stores {
     }
 
     // fill W F seed
+    // kept (2): it shares with `set_word` the reading of a question, and no step.
     pub fn fill(&mut self, line: Line<'_>) {
         let mut question = line.question();
         let words = question.read();
@@ -93,9 +94,9 @@ impl Stores {
         let mut question = line.question();
         let at: usize = question.read();
         let pattern = question.read();
-        let x = bits::f32_from(pattern);
+        let x = f32_from_bits_with_nan(pattern);
         self.floats.set(at, x);
-        if x != x {
+        if x.is_nan() {
             self.nan = Some((at, pattern));
         }
     }
@@ -144,6 +145,7 @@ impl Stores {
     }
 
     // The dimension of generated vectors: word 1, or 0 if it is not passed in or above the limit.
+    // kept (1): vectors without components are generated then, and the calls refuse them.
     fn generated_dimension(&self) -> usize {
         match store::word_at(self.words.lent(), store::DIMENSION) {
             dimension @ 0..=params::MOST_DIMENSION => dimension as usize,
@@ -164,8 +166,8 @@ impl Stores {
     // The pattern of float i.
     fn pattern(&self, i: usize, x: f32) -> u32 {
         match self.nan {
-            Some((at, pattern)) if at == i && x != x => pattern,
-            _ => bits::bits_of(x),
+            Some((at, pattern)) if at == i && x.is_nan() => pattern,
+            _ => f32_to_bits_with_nan(x),
         }
     }
 

@@ -51,6 +51,7 @@ impl<T: Patterned, const N: usize> Memory<T, N> {
         &self.all
     }
 
+    // kept (2): one call of `front`, here and in `lent`.
     pub fn made(&self) -> &[T] {
         replay::front(&self.all, self.made)
     }

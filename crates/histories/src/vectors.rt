@@ -11,6 +11,7 @@ enum Style {
 }
 
 impl From<Token> for Style {
+    // kept (7): a recorded style is a number, and here it becomes one of the enum.
     fn from(token: Token) -> Style {
         match token.0 {
             1 => Style::Ties,
@@ -22,6 +23,7 @@ impl From<Token> for Style {
 }
 
 // The number from -1 up to 1 that a state of the generator stands for.
+// kept (4): one of two numbers that a state stands for, so that it is no `From`.
 fn number_of(r: u64) -> f32 {
     replay::float_of(r / 0x100_0000_0000) / 8388608.0 - 1.0
 }

@@ -23,6 +23,7 @@ fn tell_lines(rt: &impl Print, text: &[u8], index: &mut Index) -> io::Result<boo
 }
 
 // Takes all lines. The turns are more than any input has bytes.
+// kept (6): the part of a line at the text's end stays in front of what is read next.
 fn tell_all<R: Read>(rt: &impl Print, input: &mut R) -> io::Result<()> {
     let mut index = Index::new();
     let mut text = [0u8; 65536];

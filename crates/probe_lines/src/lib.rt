@@ -15,7 +15,7 @@ use params::PipnnParams;
 use probe_text::answer::{Answer, Found, MOST_FOUND};
 use probe_text::reading;
 use probe_text::reading::{HEADERS, Header, Read};
-use words::bits;
+use std::num::{f32_from_bits_with_nan, f64_from_bits_with_nan};
 use words::ids::{DocId, Node};
 
 // The probe takes a capacity up to this one. Above it reading ends.
@@ -36,6 +36,7 @@ const SCRATCH_FLOATS: usize = 1280;
 const MOST_COMPONENTS: usize = 65;
 
 // How many header lines there were, and their values; and the two stores.
+// kept (6): each value stands at its header's place, and a read of a vector would answer an Option.
 #[derive(Drop)]
 pub struct Index {
     headers: usize,
@@ -69,11 +70,11 @@ impl Index {
         PipnnParams {
             max_leaf_size: self.word(Header::Leaf),
             min_leaf_size: self.word(Header::Min),
-            leader_fraction: bits::f64_from(self.value(Header::Fraction)),
+            leader_fraction: f64_from_bits_with_nan(self.value(Header::Fraction)),
             max_degree: self.word(Header::Degree),
             num_hash_bits: self.word(Header::Bits),
             final_prune: self.value(Header::Final) == 1,
-            alpha: bits::f32_from(self.word(Header::Alpha)),
+            alpha: f32_from_bits_with_nan(self.word(Header::Alpha)),
             ef_search: self.word(Header::Ef),
         }
     }
@@ -139,6 +140,7 @@ impl Index {
     }
 
     // A search: what it found.
+    // kept (5): the parameters of the call, in the order of C.
     fn find(&self, k: u32, ef: u32, query: &[f32]) -> Result<Answer, Refusal> {
         let mut docs = [0u32; MOST_FOUND];
         let mut distances = [0.0f32; MOST_FOUND];

@@ -1,13 +1,14 @@
 // What is printed for a line.
 use error::Refusal;
 use std::fmt;
-use words::bits;
+use std::num::f32_to_bits_with_nan;
 use words::ids::Node;
 
 // No answer is longer than the largest capacity that the probe takes.
 pub const MOST_FOUND: usize = 64;
 
 // What a search found: how many nodes it scored, and its answers, the first `count` of the two lists.
+// kept (6): a search fills two slices of its caller, for C, and answers how many it found.
 #[derive(Clone, Copy)]
 pub struct Found {
     pub scored: u32,
@@ -17,6 +18,7 @@ pub struct Found {
 }
 
 // What came of a line that does not end the reading.
+// kept (1): each of the four is printed in its own way, and a refusal is one of the answers.
 #[derive(Clone, Copy)]
 pub enum Answer {
     Silent,
@@ -31,7 +33,7 @@ impl fmt::Display for Found {
         writeln!(f, "scored={scored}")?;
         let ranks = 1..=self.count;
         for ((rank, doc), distance) in ranks.zip(&self.docs).zip(&self.distances) {
-            let dist = bits::bits_of(*distance);
+            let dist = f32_to_bits_with_nan(*distance);
             writeln!(f, "rank={rank} doc={doc} dist={dist:08x}")?;
         }
         Ok(())

@@ -1,6 +1,6 @@
 // What a line is: a key, `=`, and what its key asks for, to the line's end.
 use replay::tokens;
-use words::bits;
+use std::num::f32_from_bits_with_nan;
 use words::ids::DocId;
 
 // The header lines, in the scope's order.
@@ -76,7 +76,7 @@ fn hexadecimal(text: &[u8], digits: usize) -> Option<u64> {
 // A comma and the bits of a float after it.
 fn component(text: &[u8]) -> Option<f32> {
     let bits = hexadecimal(text.strip_prefix(b",")?, 8)?;
-    Some(bits::f32_from((bits % 0x1_0000_0000) as u32))
+    Some(f32_from_bits_with_nan((bits % 0x1_0000_0000) as u32))
 }
 
 // The components that a text is. They go to `room`, as many as it holds.

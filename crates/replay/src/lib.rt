@@ -18,29 +18,35 @@ ghost use Rattle.std.specs.Prelude.{◌≡◌, ◌≤◌, length, take, IfOk};
 use std::io;
 use std::io::Read;
 
-// Reads until `text` is full or the input ends, and answers how much was read.
-pub fn read_full<R: Read>(input: &mut R, text: &mut [u8]) -> io::Result<usize>
-    ensures { IfOk result (λ n. n ≤ length text.new) }
+// Reads until `text` is full or the input ends, and answers what was read.
+pub fn read_full<'a, R: Read>(input: &mut R, text: &'a mut [u8]) -> io::Result<&'a [u8]>
+    ensures { IfOk result (λ read. length read.now ≤ length text.old) }
 {
     let mut done: usize = 0;
+    // kept (3): each step is as long as what a read answers, and std has no method that stops at the input's end.
     while done < text.len() {
         let more = input.read(&mut text[done..])?;
         if more == 0 {
-            return Ok(done);
+            break;
         }
         done += more;
     }
-    Ok(done)
+    Ok(&text[..done])
+}
+
+// A text up to the last of these bytes, and with it, and the rest of the text.
+fn split_after_last(text: &[u8], byte: u8) -> (&[u8], &[u8])
+    ensures { length result.0.now ≤ length text.now }
+{
+    let last = text.iter().rposition(|b| *b == byte);
+    text.split_at(last.map_or(0, |last| last + 1))
 }
 
 // The part of a text that is whole lines, which its last line feed ends.
 pub fn whole_lines(text: &[u8]) -> &[u8]
     ensures { length result.now ≤ length text.now }
 {
-    match text.iter().rposition(|b| *b == b'\n') {
-        Some(end) => &text[..end + 1],
-        None => &[],
-    }
+    split_after_last(text, b'\n').0
 }
 
 // A line without its line feed.
@@ -66,6 +72,7 @@ pub fn decimal(text: &[u8]) -> Option<u64> {
 }
 
 // The first n, or all if there are fewer.
+// kept (6): it is `get` with an answer for a number that is too large.
 pub fn front<T>(xs: &[T], n: usize) -> &[T]
     ensures { result.now ≡ take n xs.now }
 {
@@ -73,6 +80,7 @@ pub fn front<T>(xs: &[T], n: usize) -> &[T]
 }
 
 // A whole number up to 2^24 as a float, which holds each of them; a larger one counts as 2^24.
+// kept (4): not every number has a float, so std has no `From` here either.
 pub fn float_of(x: u64) -> f32 {
     x.min(16777216) as f32
 }

@@ -8,6 +8,7 @@ use std::io::Read;
 
 // The name of its kind, if a blank ends it; its tokens, `count` of them, of which the first `asked` are the
 // question. Behind them are tokens of earlier lines.
+// kept (6): a line that is too short reads on into those, and what programs answer to such a line stays.
 #[derive(Clone, Copy)]
 pub struct Line<'a> {
     name: Option<&'a [u8]>,
@@ -61,10 +62,7 @@ pub fn read_line<'a>(line: &'a [u8], tokens: &'a mut [u64]) -> Line<'a> {
         Some(blank) => (Some(&line[..blank]), &line[blank + 1..]),
         None => (None, &line[..0]),
     };
-    let (question, answer) = match text.iter().rposition(|b| *b == b'=') {
-        Some(equals) => text.split_at(equals + 1),
-        None => (&text[..0], text),
-    };
+    let (question, answer) = crate::split_after_last(text, b'=');
     let asked = tokens::put_tokens(question, tokens);
     let count = asked + tokens::put_tokens(answer, &mut tokens[asked..]);
     Line {
@@ -96,6 +94,7 @@ const MOST_PIECES: u32 = 1000;
 
 // Reads an input piece by piece, up to its end, and replays its lines. A line has at most as many tokens as
 // `tokens` has room for.
+// kept (6): the part of a line at the text's end stays in front of what is read next.
 pub fn replay_all<R: Read, P: Replayed>(
     input: &mut R,
     program: &mut P,
@@ -104,7 +103,7 @@ pub fn replay_all<R: Read, P: Replayed>(
     let mut text = [0u8; 65536];
     let mut kept = 0;
     'pieces: for _ in 0..MOST_PIECES {
-        let end = kept + crate::read_full(input, &mut text[kept..])?;
+        let end = kept + crate::read_full(input, &mut text[kept..])?.len();
         if end == 0 {
             return Ok(());
         }

@@ -44,6 +44,7 @@ impl<const N: usize> Tallies<N> {
     }
 
     // Counts a case of the kind with this number, or a line of no kind.
+    // kept (7): `same` is what is counted, and no step depends on it.
     pub fn count(&mut self, kind: Option<usize>, same: bool) {
         match kind {
             Some(kind) => {
@@ -56,6 +57,7 @@ impl<const N: usize> Tallies<N> {
     }
 
     // Writes a line for each kind, and one for lines of no kind.
+    // kept (4): the names are the program's; a `Display` would need a type that holds both.
     pub fn write<K>(&self, rt: &impl Print, names: &[(&str, K)]) -> io::Result<()> {
         for ((name, _), tally) in names.iter().zip(&self.of_kind) {
             println!(rt; "{name}: {tally}")?;

@@ -2,7 +2,7 @@
 ghost use Rattle.std.specs.Prelude.{◌≡◌, ◌<◌, ◌≤◌, min, length, IfSome};
 
 use error::Refusal;
-use words::bits;
+use std::num::{f32_from_bits_with_nan, f32_to_bits_with_nan, f64_from_bits_with_nan};
 
 // A number as it is recorded.
 #[derive(Clone, Copy)]
@@ -28,13 +28,13 @@ impl From<Token> for u32 {
 
 impl From<Token> for f32 {
     fn from(token: Token) -> f32 {
-        bits::f32_from(u32::from(token))
+        f32_from_bits_with_nan(u32::from(token))
     }
 }
 
 impl From<Token> for f64 {
     fn from(token: Token) -> f64 {
-        bits::f64_from(token.0)
+        f64_from_bits_with_nan(token.0)
     }
 }
 
@@ -57,7 +57,7 @@ impl Recorded for u32 {
 
 impl Recorded for f32 {
     fn is_recorded(self, token: Token) -> bool {
-        bits::bits_of(self) == u32::from(token)
+        f32_to_bits_with_nan(self) == u32::from(token)
     }
 }
 
@@ -99,6 +99,7 @@ impl<'a> Tokens<'a> {
     }
 
     // The next n tokens, as far as `out` has room for them, at its front.
+    // kept (6): n is how many tokens are read, and those without room are skipped.
     pub fn read_into<'b, T: From<Token> + Copy>(
         &mut self,
         n: usize,
@@ -171,13 +172,14 @@ pub(crate) fn put_tokens(text: &[u8], tokens: &mut [u64]) -> usize
     ensures { result ≤ length tokens.new }
 {
     let mut count = 0;
-    let mut rest = text;
-    while let Some(end) = rest.iter().position(|b| digit(*b).is_none()) {
-        if end > 0 && count < tokens.len() {
-            tokens[count] = number(&rest[..end]);
+    for piece in text.split_inclusive(|b| digit(*b).is_none()) {
+        let Some((end, digits)) = piece.split_last() else {
+            continue;
+        };
+        if digit(*end).is_none() && !digits.is_empty() && count < tokens.len() {
+            tokens[count] = number(digits);
             count += 1;
         }
-        rest = &rest[end + 1..];
     }
     count
 }

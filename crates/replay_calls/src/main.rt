@@ -87,6 +87,7 @@ impl Calls {
     }
 
     // Takes a line whose answer is not compared.
+    // kept (2): it shares with `is_same` a match on its kind, and no arm.
     fn prepare(&mut self, step: Preparing, line: Line<'_>) {
         match step {
             Preparing::Fill => self.stores.fill(line),

@@ -40,6 +40,7 @@ const NAMES: [(&'static str, Kind); 9] = [
 ];
 
 // multiply a b = r, the product that the generator's step takes
+// kept (2): each reads what its own call takes, here and in `leaders_is_same`, `dot_is_same` and `draw_is_same`.
 fn multiply_is_same(line: Line<'_>) -> bool {
     let mut question = line.question();
     let a: u64 = question.read();

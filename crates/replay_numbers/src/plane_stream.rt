@@ -5,7 +5,7 @@
 // and their products are exact, and their sum alone rounds.
 use random::{hyperplanes, lcg};
 use replay::tallies::Tally;
-use words::bits;
+use std::num::f32_to_bits_with_nan;
 
 // a/2^30, rounded once, for an a of at most 2^30.
 fn fraction(a: u64) -> f32 {
@@ -13,6 +13,7 @@ fn fraction(a: u64) -> f32 {
 }
 
 // The number that r stands for.
+// kept (4): a state is a plain u64 in `random`, and other generators make other numbers of one.
 fn number_of(r: u64) -> f32 {
     let h = r >> 33;
     if h < 1073741824 {
@@ -29,7 +30,7 @@ pub fn tally() -> Tally {
     let mut r: u64 = 42;
     for plane in &planes {
         r = lcg::next_plane(r);
-        tally.count(bits::bits_of(number_of(r)) == bits::bits_of(*plane));
+        tally.count(f32_to_bits_with_nan(number_of(r)) == f32_to_bits_with_nan(*plane));
     }
     tally
 }

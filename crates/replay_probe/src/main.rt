@@ -9,6 +9,6 @@ use std::io;
 fn main(rt: HostRuntime) -> io::Result<()> {
     // All runs together have some 82,000 bytes.
     let mut text = [0u8; 131072];
-    let n = replay::read_full(&mut rt.stdin(), &mut text)?;
-    println!(rt; "probe: {}", probe_runs::replay_runs(&text[..n]))
+    let runs = replay::read_full(&mut rt.stdin(), &mut text)?;
+    println!(rt; "probe: {}", probe_runs::replay_runs(runs))
 }

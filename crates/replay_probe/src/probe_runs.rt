@@ -4,7 +4,7 @@
 // `replay_runs` takes one text of all runs, each a heading, the bytes of its input and those of its output,
 // and counts them. Every run starts on stores that are zero. Everything here is proved safe on every text,
 // and nothing more.
-ghost use Rattle.std.specs.Prelude.{◌<◌, length};
+ghost use Rattle.std.specs.Prelude.{◌<◌, length, IfSome};
 
 use probe_lines::Index;
 use replay::lines;
@@ -28,26 +28,34 @@ impl<'a> fmt::Write for Expected<'a> {
     }
 }
 
-// Whether a run of the probe on an input prints just this output. The last line may lack its line feed.
-fn run_is_same(input: &[u8], output: &[u8]) -> bool {
-    let mut index = Index::new();
-    let mut expected = Expected { left: output };
-    for line in input.split_inclusive(|b| *b == b'\n') {
-        let Some(answer) = index.step(replay::without_end(line)) else {
-            break;
-        };
-        if write!(expected, "{answer}").is_err() {
-            return false;
-        }
-    }
-    expected.left.is_empty()
+// A recorded run.
+#[derive(Clone, Copy)]
+struct Run<'a> {
+    input: &'a [u8],
+    output: &'a [u8],
 }
 
-// Replays the first run of a text, and answers whether it is as recorded, and what comes after it. Its heading
-// has the sizes of input and output. One that is not whole counts as one that differs, and is the last.
-fn replay_run<'a>(text: &'a [u8], tokens: &mut [u64]) -> (bool, &'a [u8])
+impl<'a> Run<'a> {
+    // Whether the probe on its input prints just its output. The last line may lack its line feed.
+    fn holds(&self) -> bool {
+        let mut index = Index::new();
+        let mut expected = Expected { left: self.output };
+        for line in self.input.split_inclusive(|b| *b == b'\n') {
+            let Some(answer) = index.step(replay::without_end(line)) else {
+                break;
+            };
+            if write!(expected, "{answer}").is_err() {
+                return false;
+            }
+        }
+        expected.left.is_empty()
+    }
+}
+
+// The first run of a text, if it is whole, and what comes after it. Its heading has the sizes of input and output.
+fn read_run<'a>(text: &'a [u8], tokens: &mut [u64]) -> Option<(Run<'a>, &'a [u8])>
     requires { 0 < length text.now }
-    ensures { length result.1.now < length text.now }
+    ensures { IfSome result (λ run. length run.1.now < length text.now) }
 {
     let end = text.iter().position(|b| *b == b'\n');
     let (heading, rest) = text.split_at(end.map_or(text.len(), |end| end + 1));
@@ -55,24 +63,28 @@ fn replay_run<'a>(text: &'a [u8], tokens: &mut [u64]) -> (bool, &'a [u8])
     let inputs: usize = sizes.read();
     let outputs: usize = sizes.read();
     if rest.len() < inputs {
-        return (false, &[]);
+        return None;
     }
     let (input, behind) = rest.split_at(inputs);
     if behind.len() < outputs {
-        return (false, &[]);
+        return None;
     }
     let (output, next) = behind.split_at(outputs);
-    (run_is_same(input, output), next)
+    Some((Run { input, output }, next))
 }
 
-// Replays all runs of a text.
+// Replays all runs of a text. One that is not whole counts as one that differs, and is the last.
 pub fn replay_runs(text: &[u8]) -> Tally {
     let mut tokens = [0u64; 2];
     let mut tally = Tally::NONE;
     let mut rest = text;
+    // kept (3): how long a run is stands in its heading, so that no method of std splits them.
     while !rest.is_empty() {
-        let (same, next) = replay_run(rest, &mut tokens);
-        tally.count(same);
+        let Some((run, next)) = read_run(rest, &mut tokens) else {
+            tally.count(false);
+            break;
+        };
+        tally.count(run.holds());
         rest = next;
     }
     tally

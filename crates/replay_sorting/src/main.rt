@@ -34,11 +34,10 @@ fn places_are(mut answer: Tokens<'_>, pairs: &[Keyed]) -> bool {
 fn sort_is_same(line: Line<'_>) -> bool {
     let mut question = line.question();
     let n: usize = question.read();
-    if n > MOST {
-        return false;
-    }
     let mut room = [NONE; MOST];
-    let pairs = &mut room[..n];
+    let Some(pairs) = room.get_mut(..n) else {
+        return false;
+    };
     for (pair, id) in pairs.iter_mut().zip(0..) {
         let key = order::key(question.read());
         *pair = Keyed { key, id };
@@ -52,11 +51,10 @@ fn first_is_same(line: Line<'_>) -> bool {
     let mut question = line.question();
     let most: usize = question.read();
     let n: u64 = question.read();
-    if most > MOST {
-        return false;
-    }
     let mut room = [NONE; MOST];
-    let pairs = &mut room[..most];
+    let Some(pairs) = room.get_mut(..most) else {
+        return false;
+    };
     let mut held = 0;
     for id in 0..n.min(65536) as u32 {
         let key = order::key(question.read());
