@@ -21,7 +21,7 @@ ghost use Rattle.hashprune.specs.Inside.Hashprune.{node_of, far_of};
 ghost use Rattle.build_leaf.specs.Inside.Built.{RowPut, PlacePut, PlacesPut, LeafBuilt, LeavesBuilt, PlanesMade, Built};
 
 use distance::vectors::Vectors;
-use hashprune::{Candidate, Point};
+use hashprune::{Candidate, Offer, Point};
 use random::hyperplanes;
 use words::ids::Node;
 
@@ -169,6 +169,11 @@ fn put_row(
     if rows.len() < end {
         return;
     }
-    let point = Point { node, bits: p.bits };
-    hashprune::hashprune_insert(vectors, point, planes, candidates, &mut rows[at..end]);
+    let offer = Offer {
+        vectors,
+        point: Point { node, bits: p.bits },
+        planes,
+        candidates,
+    };
+    hashprune::hashprune_insert(offer, &mut rows[at..end]);
 }
