@@ -7,7 +7,7 @@ mod plane_stream;
 
 use finish::medoid;
 use norm::root;
-use random::{hyperplanes, leaders};
+use random::{hyperplanes, lcg, leaders};
 use replay::lines::{Line, Replayed};
 use replay::tallies::Tallies;
 use replay::tokens::Recorded;
@@ -45,7 +45,7 @@ fn multiply_is_same(line: Line<'_>) -> bool {
     let mut question = line.question();
     let a: u64 = question.read();
     let b = question.read();
-    line.answer().is(a.wrapping_mul(b))
+    line.answer().is(lcg::wrapping_mul(a, b))
 }
 
 // root x = r
