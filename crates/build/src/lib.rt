@@ -10,7 +10,7 @@
 //                            from 2·n        2·n  the leaves' sizes
 //   leaf lists      floats   from 0         16·n  eight distances for each place of a leaf
 //   entry node      floats   from 0    dimension  the centroid
-//   repair          words    from 0          4·n  links (crate chains): n heads, n tails, 2·n slots
+//   repair          words    from 0          4·n  links (`lists::chains`): n heads, n tails, 2·n slots
 //
 // kept (5): stores, outputs and scratch go side by side, as the C functions pass them.
 #![tactic(auto)]
@@ -107,7 +107,7 @@ fn put_leaves(
 
 // The rows before repair, in place of whatever rows there were: leaves are carved, their lists are
 // built, reverse edges are added. The final prune has nothing to do, since no row is longer than the
-// degree (`prune_changes_nothing` of Rattle.graph_rows).
+// degree (`prune_changes_nothing` of def_graph/proofs/graph_rows).
 fn put_rows(
     rows: &mut [u32],
     vectors: Vectors,
