@@ -91,7 +91,7 @@ module _ (p : LeafParams) (v : Vectors) (planes : List Float) (node : ℕ) (cs :
 -- ---- one place
 
 pub place_put : (p : LeafParams) (v : Vectors) (planes : List Float) (leaf : List ℕ) (i lane : ℕ) (floats : List Float) (rows rows' : List ℕ)
-    (r : ℕ) (candidates : List Candidate) → i < length leaf → Candidates leaf floats lane i p.degree r candidates
+    (r : ℕ) (candidates : List Candidate) → i < length leaf → Candidates leaf floats lane i p.degree 64 r candidates
     → RowPut p v planes (get_or leaf i 0) (map node_of (take r candidates)) (map far_of (take r candidates)) rows rows' → PlacePut p v planes leaf i lane floats rows rows'
 place_put p v planes leaf i lane floats rows rows' r candidates h c put n rs s many below ready b =
     let vs : List (List Float) = vectors_of v in
@@ -128,14 +128,15 @@ module _ (p : LeafParams) (v : Vectors) (planes : List Float) (leaf : List ℕ) 
       let vs : List (List Float) = vectors_of v in
       let before : List (List ℕ) = places_to p.degree p.bits v.dimension vs leaf rs i in
       let place : min (first + lane) (length leaf - 1) ≡ i = omega arith in
-      let sizes : LaneFits leaf floats lane i p.degree = record {
+      let sizes : LaneFits leaf floats lane i p.degree 64 = record {
         place_is = h;
         lane_is = omega arith;
         degree_most = s.sizes.degree_most;
         size_most = omega (arith, held.few, s.sizes.nodes_most);
         floats_fit = held.fits;
+        room_is = omega arith;
       } in
-      let ready : LaneReady leaf floats lane i p.degree vs = record {
+      let ready : LaneReady leaf floats lane i p.degree 64 vs = record {
         sizes = sizes;
         distances = lanes lane (omega arith) ∙ ap (λ (x : ℕ). map (between vs (get_or leaf x 0)) leaf) place;
       } in

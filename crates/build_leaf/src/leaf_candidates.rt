@@ -19,7 +19,7 @@ use hashprune::Candidate;
 use sorting::Keyed;
 use words::ids::Node;
 
-// The candidates of place i, whose distances stand in a lane, at the front of an array. Says how many: none
+// The candidates of place i, whose distances stand in a lane, at the front of a slice of 64 at least. Says how many: none
 // where the sizes do not fit.
 pub fn candidates_at(
     leaf: &[u32],
@@ -27,9 +27,9 @@ pub fn candidates_at(
     lane: usize,
     i: usize,
     degree: u16,
-    candidates: &mut [Candidate; 64],
+    candidates: &mut [Candidate],
 ) -> usize
-    ensures { Candidates leaf.now floats.now lane i degree result candidates.new }
+    ensures { Candidates leaf.now floats.now lane i degree (length candidates.old) result candidates.new }
 {
     if leaf.len() <= i {
         return 0;
@@ -46,6 +46,9 @@ pub fn candidates_at(
     if floats.len() / 8 < leaf.len() {
         return 0;
     }
+    if candidates.len() < 64 {
+        return 0;
+    }
     candidates_within(leaf, floats, lane, i, degree, candidates)
 }
 
@@ -55,10 +58,10 @@ fn candidates_within(
     lane: usize,
     i: usize,
     degree: u16,
-    candidates: &mut [Candidate; 64],
+    candidates: &mut [Candidate],
 ) -> usize
-    requires { LaneFits leaf.now floats.now lane i degree }
-    ensures { Candidates leaf.now floats.now lane i degree result candidates.new }
+    requires { LaneFits leaf.now floats.now lane i degree (length candidates.old) }
+    ensures { Candidates leaf.now floats.now lane i degree (length candidates.old) result candidates.new }
 {
     let mut pairs = [Keyed { key: 0, id: 0 }; 64];
     let most = 2 * (degree as usize).min(leaf.len() - 1);
@@ -100,14 +103,8 @@ fn offer(
 }
 
 // The nodes of some places, and their distances.
-fn gather(
-    leaf: &[u32],
-    floats: &[f32],
-    lane: usize,
-    pairs: &[Keyed],
-    candidates: &mut [Candidate; 64],
-)
-    requires { LanesSized lane (length leaf.now) floats.now × Below (length leaf.now) (map id_in pairs.now) × (length pairs.now ≤ 64) }
+fn gather(leaf: &[u32], floats: &[f32], lane: usize, pairs: &[Keyed], candidates: &mut [Candidate])
+    requires { LanesSized lane (length leaf.now) floats.now × Below (length leaf.now) (map id_in pairs.now) × (length pairs.now ≤ 64) × (64 ≤ length candidates.old) }
     ensures { NodesAt leaf.now floats.now lane pairs.now candidates.old candidates.new }
 {
     for (c, pair) in pairs.iter().enumerate() {

@@ -93,7 +93,7 @@ module _ (floats : List Float) (lane size i r : ℕ) (pairs : List Keyed) (h : i
   held_below j m =
       in_others size i h (first_in (λ (k : ℕ). key_of binary32 (far_in_lane floats lane k)) (length pairs) (other_places size i) (subst (In j) held_places m))
 
-module _ (leaf : List ℕ) (floats : List Float) (lane i D : ℕ) (vs : List (List Float)) (ready : LaneReady leaf floats lane i D vs) where
+module _ (leaf : List ℕ) (floats : List Float) (lane i D room : ℕ) (vs : List (List Float)) (ready : LaneReady leaf floats lane i D room vs) where
   -- a place's distance
   far_is : (j : ℕ) → j < length leaf → far_in_lane floats lane j ≡ between vs (get_or leaf i 0) (node_in leaf j)
   far_is j h =
@@ -147,11 +147,11 @@ module _ (leaf : List ℕ) (floats : List Float) (lane i D r most : ℕ) (pairs 
   pub front_below : Below (length leaf) (map id_in (take r (pairs ++ rest)))
   front_below = subst (λ (l : List Keyed). Below (length leaf) (map id_in l)) (sym front) (held_below floats lane (length leaf) i r pairs h n)
 
-  pub gathered_are : (candidates candidates' : List Candidate) → most ≡ 2 * min D (length leaf - 1) → most ≤ 64
-      → LaneFits leaf floats lane i D → NodesAt leaf floats lane (take r (pairs ++ rest)) candidates candidates' → Candidates leaf floats lane i D r candidates'
-  gathered_are candidates candidates' e few fits g = record {
+  pub gathered_are : (room : ℕ) (candidates candidates' : List Candidate) → most ≡ 2 * min D (length leaf - 1) → most ≤ 64
+      → LaneFits leaf floats lane i D room → NodesAt leaf floats lane (take r (pairs ++ rest)) candidates candidates' → Candidates leaf floats lane i D room r candidates'
+  gathered_are room candidates candidates' e few fits g = record {
     few = omega (arith, n.few);
     none = λ z. absurd (z fits);
-    are = λ vs ready. candidates_are leaf floats lane i D vs ready r pairs candidates candidates'
+    are = λ vs ready. candidates_are leaf floats lane i D room vs ready r pairs candidates candidates'
         (a ∙ e) n (subst (λ (l : List Keyed). NodesAt leaf floats lane l candidates candidates') front g);
   }

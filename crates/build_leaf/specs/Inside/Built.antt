@@ -70,7 +70,7 @@ module _ (p : LeafParams) (v : Vectors) where
   -- one place of a leaf, whose distances stand in a lane
   abbrev pub PlacePut : List Float → List ℕ → ℕ → ℕ → List Float → List ℕ → List ℕ → Type 0
   PlacePut planes leaf i lane floats rows rows' =
-      (n : ℕ) (rs : List (List ℕ)) → Setting n p v planes → length rs ≡ n → Below n leaf → LaneReady leaf floats lane i D vs
+      (n : ℕ) (rs : List (List ℕ)) → Setting n p v planes → length rs ≡ n → Below n leaf → LaneReady leaf floats lane i D 64 vs
       → Blocks D rs rows → Blocks D (hashprune_insert D bits d vs (get_or leaf i 0) (candidates_at D vs leaf i) rs) rows'
 
   -- the places of a leaf from `first` on and before `end`, if those before `first` had their turns; the distances of place first + g stand in lane g

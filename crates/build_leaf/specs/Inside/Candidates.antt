@@ -57,17 +57,18 @@ candidate_in leaf floats lane p = record { node = record { 0 = node_in leaf p.id
 abbrev pub NodesAt : List ℕ → List Float → ℕ → List Keyed → List Candidate → List Candidate → Type 0
 NodesAt leaf floats lane pairs candidates candidates' = candidates' ≡ map (candidate_in leaf floats lane) pairs ++ drop (length pairs) candidates
 
--- sizes that fit: the place and the lane
-pub record LaneFits (leaf : List ℕ) (floats : List Float) (lane i D : ℕ) : Type 0 where
+-- sizes that fit: the place, the lane and the room for candidates
+pub record LaneFits (leaf : List ℕ) (floats : List Float) (lane i D room : ℕ) : Type 0 where
   pub place_is : i < length leaf
   pub lane_is : lane < 8
   pub degree_most : D ≤ 32
   pub size_most : length leaf ≤ 4294967295
   pub floats_fit : 8 * length leaf ≤ length floats
+  pub room_is : 64 ≤ room
 
 -- what has to be there: sizes that fit, and place i's distances in its lane
-pub record LaneReady (leaf : List ℕ) (floats : List Float) (lane i D : ℕ) (vs : List (List Float)) : Type 0 where
-  pub sizes : LaneFits leaf floats lane i D
+pub record LaneReady (leaf : List ℕ) (floats : List Float) (lane i D room : ℕ) (vs : List (List Float)) : Type 0 where
+  pub sizes : LaneFits leaf floats lane i D room
   pub distances : lane_of floats lane (length leaf) ≡ map (between vs (get_or leaf i 0)) leaf
 
 -- the r candidates and their distances, at the front of a slice
@@ -75,8 +76,8 @@ pub record CandidatesAre (leaf : List ℕ) (i D : ℕ) (vs : List (List Float)) 
   pub nodes : map node_of (take r candidates) ≡ candidates_at D vs leaf i
   pub fars : map far_of (take r candidates) ≡ map (between vs (get_or leaf i 0)) (candidates_at D vs leaf i)
 
-pub record Candidates (leaf : List ℕ) (floats : List Float) (lane i D r : ℕ) (candidates : List Candidate) : Type 0 where
+pub record Candidates (leaf : List ℕ) (floats : List Float) (lane i D room r : ℕ) (candidates : List Candidate) : Type 0 where
   pub few : r ≤ 64
   -- none where the sizes do not fit
-  pub none : (LaneFits leaf floats lane i D → ⊥) → r ≡ 0
-  pub are : (vs : List (List Float)) → LaneReady leaf floats lane i D vs → CandidatesAre leaf i D vs r candidates
+  pub none : (LaneFits leaf floats lane i D room → ⊥) → r ≡ 0
+  pub are : (vs : List (List Float)) → LaneReady leaf floats lane i D room vs → CandidatesAre leaf i D vs r candidates

@@ -17,3 +17,6 @@ returns-then-leaf-gt4294967295 c = record { few = omega arith; none = λ _. refl
 
 pub returns-then-floats-leaf : goal.returns-then-floats-leaf
 returns-then-floats-leaf c = record { few = omega arith; none = λ _. refl; are = λ vs ready. absurd (omega (arith, ready.sizes.floats_fit)) }
+
+pub returns-then-candidates-lt64 : goal.returns-then-candidates-lt64
+returns-then-candidates-lt64 c = record { few = omega arith; none = λ _. refl; are = λ vs ready. absurd (omega (arith, ready.sizes.room_is)) }

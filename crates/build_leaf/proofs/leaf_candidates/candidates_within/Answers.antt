@@ -13,6 +13,7 @@ gather-requires c =
       record { lane_is = s.lane_is; fits = s.floats_fit; few = s.size_most },
       front_below x.leaf.now x.floats.now x.lane x.i x.degree n.result _ _ _ s.place_is a n.ensures,
       simp length-take (omega (arith, n.ensures.few)),
+      s.room_is,
     )
 
 pub returns : goal.returns
@@ -22,4 +23,4 @@ returns c =
     let n = c.nearest-held in
     let a = simp length-take at n.auto.pairs in
     gathered_are x.leaf.now x.floats.now x.lane x.i x.degree n.result _ _ _ s.place_is a n.ensures
-    x.candidates.now _ (omega (arith, c.min-most.ensures)) (omega arith) s c.gather.ensures
+    _ x.candidates.now _ (omega (arith, c.min-most.ensures)) (omega arith) s c.gather.ensures

@@ -26,16 +26,16 @@ pub bounds-floats-place : goal.bounds-floats-place
 bounds-floats-place c = omega (arith, in_leaf _ c.args.pairs.now c.loop-c.c c.requires.1 (omega arith), c.requires.0.fits, c.requires.0.lane_is)
 
 pub loop-c-init : goal.loop-c-init
-loop-c-init c = let x = c.args in (omega (arith, c.well_formed), copied_none (candidate_in x.leaf.now x.floats.now x.lane) x.pairs.now x.candidates.now (omega (arith, c.well_formed)))
+loop-c-init c = let x = c.args in (refl, copied_none (candidate_in x.leaf.now x.floats.now x.lane) x.pairs.now x.candidates.now (omega (arith, c.requires.3)))
 
 pub loop-c-preserved : goal.loop-c-preserved
 loop-c-preserved c =
     let l = c.loop-c in
     let x = c.args in
-    (length-set l.candidates l.c _ ∙ l.invariant.0, copied_more (candidate_in x.leaf.now x.floats.now x.lane) x.pairs.now x.candidates.now (omega (arith, c.well_formed, c.requires.2)) l.c l.candidates _ (omega arith) refl l.invariant.1)
+    (length-set l.candidates l.c _ ∙ l.invariant.0, copied_more (candidate_in x.leaf.now x.floats.now x.lane) x.pairs.now x.candidates.now (omega (arith, c.requires.3, c.requires.2)) l.c l.candidates _ (omega arith) refl l.invariant.1)
 
 pub returns : goal.returns
 returns c =
     let l = c.loop-c in
     let x = c.args in
-    copied_all (candidate_in x.leaf.now x.floats.now x.lane) x.pairs.now x.candidates.now (omega (arith, c.well_formed, c.requires.2)) l.c l.candidates (omega arith) (omega arith) l.invariant.1
+    copied_all (candidate_in x.leaf.now x.floats.now x.lane) x.pairs.now x.candidates.now (omega (arith, c.requires.3, c.requires.2)) l.c l.candidates (omega arith) (omega arith) l.invariant.1

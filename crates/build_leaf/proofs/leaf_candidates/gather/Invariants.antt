@@ -6,4 +6,4 @@ use Rattle.build_leaf.proofs.leaf_candidates.Offers.{Copied}
 use Rattle.build_leaf.proofs.leaf_candidates.gather.Given as goal
 
 abbrev pub invariant-loop-c : goal.invariant-loop-c
-invariant-loop-c l = (length l.candidates ≡ 64) × Copied (candidate_in l.leaf l.floats l.lane) l.pairs l.initial.candidates l.c l.candidates
+invariant-loop-c l = (length l.candidates ≡ length l.initial.candidates) × Copied (candidate_in l.leaf l.floats l.lane) l.pairs l.initial.candidates l.c l.candidates
