@@ -412,7 +412,7 @@ def clean(text):
 
 
 CLAUSE = re.compile(r"\s*(requires|ensures|decreases|measure)\b[^{]*")
-RESULT = re.compile(r"\s*->\s*[^{;]*?(?=\s*(?:[{;]|\b(?:requires|ensures|decreases|measure)\b))")
+RESULT = re.compile(r"\s*->\s*(?:\[(?:[^\[\]]|\[[^\[\]]*\])*\]|[^{;\[])*?(?=\s*(?:[{;]|\b(?:requires|ensures|decreases|measure)\b))")
 
 
 def past_generics(text, at):

@@ -1,14 +1,21 @@
 -- What a loop that gathers a test over a slice, without a branch, has gathered so far. Assumes nothing.
 use mathlib.Core.Path.{◌≡◌, refl, sym, ap, ◌∙◌}
 use mathlib.Core.Bool.{Bool, true, ◌&&◌, and_assoc, and-true}
-use mathlib.Core.List.{List, ◌++◌}
+use mathlib.Core.List.{List, [], ◌∷◌, ◌++◌}
 use Prim.Native.Nat.{ℕ, zero, suc, ◌+◌, ◌-◌, ◌*◌, ◌≤◌, ◌<◌}
 use native.Mathlib.Nat.{sub-zero}
 use native.Mathlib.Numerals.{add-one}
 use native.Mathlib.Omega.{arith}
 use lib.ListN.{length, length-append, get_or, take, drop, drop_of_length-le}
 use lib.Seq.{drop-cons, drop-drop, take_at, drop_at}
+use Rattle.std.specs.List.{fold}
 use Rattle.basics.specs.Lists.{every, pieces}
+
+-- a fold that joins the tests of all elements
+pub fold_of_tests : {A : Type 0} (p : A → Bool) (ok : Bool) (xs : List A) → fold (λ (b : Bool) (x : A). b && p x) ok xs ≡ (ok && every p xs)
+unfolding every
+fold_of_tests p ok [] = sym (and-true ok)
+fold_of_tests p ok (x ∷ xs) = fold_of_tests p (ok && p x) xs ∙ and_assoc ok (p x) (every p xs)
 
 module _ {A : Type 0} (p : A → Bool) (xs : List A) where
   every_step : (d : A) (i : ℕ) → i < length xs → every p (drop i xs) ≡ (p (get_or xs i d) && every p (drop (i + 1) xs))

@@ -167,20 +167,20 @@ started sizes far live count words between floats answer m' f32s long p begin ta
 
 -- ---- ended
 
-module _ (sizes : Sizes) (reads : Reads) (answer : List Keyed) (m : Memory) (front : List ℕ) (distances distances' : List Float) (count : ℕ)
-    (t : Between sizes (far_of sizes reads) (live_of reads) answer m (walk_on sizes reads sizes.shape.n (sizes.entry.0 ∷ []) (sizes.entry.0 ∷ [])) front) (few : sizes.shape.n ≤ 1024)
+module _ (reads : Reads) (answer : List Keyed) (m : Memory) (front : List ℕ) (distances distances' : List Float) (count : ℕ)
+    (t : Between reads.sizes (far_of reads) (live_of reads) answer m (walk_on reads reads.sizes.shape.n (reads.sizes.entry.0 ∷ []) (reads.sizes.entry.0 ∷ [])) front) (few : reads.sizes.shape.n ≤ 1024)
     (room : length answer ≤ length distances) (put : PutDistances m.walk.kept m.answer m.floats distances distances') (count_is : m.walk.kept < 4294967296 → count ≡ m.walk.kept) where
   abbrev n : ℕ
-  n = sizes.shape.n
+  n = reads.sizes.shape.n
 
   abbrev far : ℕ → Float
-  far = far_of sizes reads
+  far = far_of reads
 
   abbrev r : Walk
   r = m.walk
 
   abbrev seen : List ℕ
-  seen = walk_on sizes reads n (sizes.entry.0 ∷ []) (sizes.entry.0 ∷ [])
+  seen = walk_on reads n (reads.sizes.entry.0 ∷ []) (reads.sizes.entry.0 ∷ [])
 
   -- those of them that are live
   abbrev scored : List ℕ
@@ -220,7 +220,7 @@ module _ (sizes : Sizes) (reads : Reads) (answer : List Keyed) (m : Memory) (fro
   read [] = refl
   read (v ∷ l) = ap (λ (x : List Float). get_or m.floats v (inf false) ∷ x) (read l)
 
-  pub searched : Searched far (answer_of far (length answer) (scored_by sizes reads)) (scored_by sizes reads) answer m.answer distances distances'
+  pub searched : Searched far (answer_of far (length answer) (scored_by reads)) (scored_by reads) answer m.answer distances distances'
       (record { count = count; scored = r.scored })
   unfolding beam_search walked
   searched = record {

@@ -4,7 +4,8 @@ use mathlib.Core.List.{List, [], ◌∷◌, ◌++◌, map, map-append}
 use Prim.Native.Nat.{ℕ, ◌+◌, ◌*◌, ◌/◌, ◌≤◌, ◌<◌}
 use native.Mathlib.Omega.{arith}
 use native.Mathlib.Numerals.{add-one}
-use lib.ListN.{length, get_or, length-map}
+use lib.ListN.{length, get_or, take, drop, length-map, length-append, length-drop}
+use lib.Seq.{take-append_seam, drop-append_seam, drop-drop}
 use Rattle.basics.specs.Graph.{Bridge}
 use Rattle.basics.specs.Lists.{pieces}
 use Rattle.basics.proofs.Pieces.{length_pieces, pieces_more}
@@ -57,6 +58,20 @@ module _ (n : ℕ) (bridges links₀ : List ℕ) where
           (chain_more n (bridge_of j bridges).near (bridge_of j bridges).far (bridges_in j bridges) links (p.so_far few room zero ends)
           (end ends more 0 (omega arith)) (end ends more 1 (omega arith)) (omega (arith, many_bridges j bridges, p.kept)) (omega (arith, many_bridges j bridges))));
     }
+
+    -- the bridge that is cut from what is left
+    pub cut : (some rest rest' : List ℕ) → rest ≡ drop (2 * j) bridges → rest ≡ some ++ rest' → length some ≡ 2
+        → (some ≡ block_at bridge_size j bridges) × (rest' ≡ drop (2 * (j + 1)) bridges) × (j < length bridges / 2)
+    cut some rest rest' at is two =
+        let from : 2 * j ≡ j * bridge_size = omega arith in
+        let next : 2 + 2 * j ≡ 2 * (j + 1) = omega arith in
+        let left : some ++ rest' ≡ drop (2 * j) bridges = sym is ∙ at in
+        let first : take 2 (some ++ rest') ≡ some = ap (λ (k : ℕ). take k (some ++ rest')) (sym two) ∙ take-append_seam some rest' in
+        let others : drop 2 (some ++ rest') ≡ rest' = ap (λ (k : ℕ). drop k (some ++ rest')) (sym two) ∙ drop-append_seam some rest' in (
+          sym first ∙ ap (take 2) left ∙ ap (λ (k : ℕ). take 2 (drop k bridges)) from,
+          sym others ∙ ap (drop 2) left ∙ drop-drop 2 (2 * j) bridges ∙ ap (λ (k : ℕ). drop k bridges) (omega (arith, next)),
+          omega (arith, ap length left, length-append some rest', length-drop (2 * j) bridges),
+        )
 
     pub chaining_all : length bridges / 2 ≤ j → Linking n bridges links₀ links
     chaining_all h few room zero ends =

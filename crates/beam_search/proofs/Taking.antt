@@ -171,16 +171,16 @@ module _ (sizes : Sizes) (far : ℕ → Float) (live : ℕ → Bool) (count : �
           (standing_behind m.words between m.floats m.floats got.behind t)
 
 -- a node's list looked at, of linked bridges
-abbrev pub Expanding : Sizes → Reads → List ℕ → ℕ → Memory → Memory → Type 0
-Expanding sizes reads links u m m' =
-    Linked sizes.shape.n reads.bridges.now links → u < sizes.shape.n → (answer₀ : List Keyed) (seen front : List ℕ) → Between sizes (far_of sizes reads) (live_of reads) answer₀ m seen front
-    → Between sizes (far_of sizes reads) (live_of reads) answer₀ m' (expand (to_frontier (far_of sizes reads)) (record { seen = seen; front = front }) (lists_of sizes reads u)).seen
-    (expand (to_frontier (far_of sizes reads)) (record { seen = seen; front = front }) (lists_of sizes reads u)).front
+abbrev pub Expanding : Reads → List ℕ → ℕ → Memory → Memory → Type 0
+Expanding reads links u m m' =
+    Linked reads.sizes.shape.n reads.bridges.now links → u < reads.sizes.shape.n → (answer₀ : List Keyed) (seen front : List ℕ) → Between reads.sizes (far_of reads) (live_of reads) answer₀ m seen front
+    → Between reads.sizes (far_of reads) (live_of reads) answer₀ m' (expand (to_frontier (far_of reads)) (record { seen = seen; front = front }) (lists_of reads u)).seen
+    (expand (to_frontier (far_of reads)) (record { seen = seen; front = front }) (lists_of reads u)).front
 
-pub expanding : (sizes : Sizes) (reads : Reads) (links : Bor (List ℕ)) (u count : ℕ) (between : List ℕ) (m m' : Memory) → words_for sizes.shape.n ≤ length m.words
-    → GatheringList (record { shape = sizes.shape; rows = reads.rows; bridges = reads.bridges; links = links }) u m.words between count
-    → TakingIn sizes (far_of sizes reads) (live_of reads) count (gathered sizes (far_of sizes reads) (live_of reads) count [] between m m') m'
-    → take (frontier_at sizes.shape.n) m'.words ≡ take (frontier_at sizes.shape.n) between → Expanding sizes reads links.now u m m'
-expanding sizes reads links u count between m m' long gather taking frame linked below answer₀ seen front t =
-    gathered_in sizes (far_of sizes reads) (live_of reads) count (list_of (row_lists sizes.shape.degree reads.rows.now) (bridge_list reads.bridges.now) u) between m m' answer₀ (record { seen = seen; front = front })
+pub expanding : (reads : Reads) (links : Bor (List ℕ)) (u count : ℕ) (between : List ℕ) (m m' : Memory) → words_for reads.sizes.shape.n ≤ length m.words
+    → GatheringList (record { shape = reads.sizes.shape; rows = reads.rows; bridges = reads.bridges; links = links }) u m.words between count
+    → TakingIn reads.sizes (far_of reads) (live_of reads) count (gathered reads.sizes (far_of reads) (live_of reads) count [] between m m') m'
+    → take (frontier_at reads.sizes.shape.n) m'.words ≡ take (frontier_at reads.sizes.shape.n) between → Expanding reads links.now u m m'
+expanding reads links u count between m m' long gather taking frame linked below answer₀ seen front t =
+    gathered_in reads.sizes (far_of reads) (live_of reads) count (list_of (row_lists reads.sizes.shape.degree reads.rows.now) (bridge_list reads.bridges.now) u) between m m' answer₀ (record { seen = seen; front = front })
     (omega arith) (gather linked below) taking frame t.marks t.standing t.known t.room

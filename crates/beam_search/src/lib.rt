@@ -13,29 +13,29 @@
 // are any, are linked (`lists::chains`) in a local array of 16 KB, so that an expansion looks at its node's own
 // bridges alone.
 //
-// kept (5): what a walk writes are three slices: with a struct of three `&mut` each clause would also say that each stays the same.
-// kept (6): words are the caller's scratch, since there is no heap, and a count says how many of a part hold.
+// kept (5): a struct of three `&mut` is no plainer: each contract then also has to say that each field still holds the same
+// reference, and one that keeps `HasWords` has to show it again after each write.
+// kept (6): words and floats are the caller's scratch, since there is no heap, and a count says how many of a part hold.
 #![tactic(auto)]
 
 ghost use Rattle.std.specs.Prelude.{◌≡◌, ◌&&◌, ◌||◌, ◌*◌, ◌/◌, ◌≤◌, leb, ltb, length, take};
 ghost use Rattle.std.specs.Float.{binary32};
 ghost use Rattle.std.specs.Float.Ieee.{mul, lt};
-ghost use Rattle.distance.specs.Vectors.{vectors_of};
-ghost use Rattle.def_walk.specs.Beam.{far_from};
-ghost use Rattle.beam_state.specs.Inside.State.{frontier_at, words_for, live_by};
-ghost use Rattle.beam_search.specs.Inside.Steps.{Linking, TakingIn, Stepping, Walking, WalkingLinked, Prepared, Starting, PutDistances, walk_of, is_done};
-ghost use Rattle.beam_search.specs.Inside.Search.{Searching};
+ghost use Rattle.beam_state.specs.Inside.State.{frontier_at};
+ghost use Rattle.beam_search.specs.Inside.Steps.{HasWords, Linking, TakingIn, Stepping, Walking, WalkingLinked, Prepared, Starting, PutDistances, walk_of, is_done};
+ghost use Rattle.beam_search.specs.Inside.Search.{far_of, live_of, Searching};
 
 use beam_state::queues::Popped;
-use beam_state::{Walk, queues, tournament};
+use beam_state::{Beam, Walk, queues, tournament};
 use def_walk::Stops;
-use distance::vectors::Vectors;
 use lists::chains::Lists;
 use lists::{Shape, chains};
-use neighbours::{gathering, scoring};
+use neighbours::gathering;
+use neighbours::scoring::Scorer;
 use sorting::Keyed;
 use std::ops::ControlFlow;
 use words::ids::Node;
+use words::slices;
 
 // The numbers of a walk: how many nodes there are and how many entries a row can have, where the walk starts, how many
 // nodes it keeps, and when it stops.
@@ -47,220 +47,225 @@ pub struct Sizes {
     pub stops: Stops,
 }
 
-// What a walk reads: a scaled query, the nodes' vectors, their rows as words hold them, the bridges, two words each, and
-// a word for each node, 0 where it is live; none where all are.
+// What a walk reads: a scaled query and the nodes' vectors, their rows as words hold them, the bridges, two words each,
+// a word for each node, 0 where it is live, none where all are, and the numbers.
 #[derive(Clone, Copy)]
 pub struct Reads<'a> {
-    pub query: &'a [f32],
-    pub vectors: Vectors<'a>,
+    pub scorer: Scorer<'a>,
     pub rows: &'a [u32],
     pub bridges: &'a [u32],
     pub withdrawn: &'a [u32],
+    pub sizes: Sizes,
+}
+
+// The same, with the chains that link the ends of the bridges.
+#[derive(Clone, Copy)]
+struct Walker<'a> {
+    reads: Reads<'a>,
+    links: &'a [u32],
 }
 
 // How many nodes the answer has, and how many were scored.
-#[derive(Clone, Copy)]
+#[derive(Clone, Copy, Default)]
 pub struct Walked {
     pub count: u32,
     pub scored: u32,
 }
 
 // Links the ends of bridges whose links are all zero.
-fn link_bridges(links: &mut [u32], n: u32, bridges: &[u32])
-    requires { length bridges.now / 2 ≤ n }
+fn link_bridges(links: &mut [u32], n: usize, bridges: &[u32])
+    requires { (n ≤ 1024) × (length bridges.now / 2 ≤ n) }
     ensures { Linking n bridges.now links.old links.new }
 {
-    let many = bridges.len() / 2;
-    for j in 0..many {
-        let near = Node(bridges[2 * j]);
-        let far = Node(bridges[2 * j + 1]);
-        chains::chain_bridge(links, n, j as u32, near, far);
+    for (j, ends) in bridges.chunks_exact(2).enumerate() {
+        chains::chain_bridge(links, n, j as u32, Node(ends[0]), Node(ends[1]));
     }
 }
 
-// Scores the fresh nodes, and pushes them.
-fn take_in(
-    words: &mut [u32],
-    floats: &mut [f32],
-    answer: &mut [Keyed],
-    reads: Reads,
-    sizes: Sizes,
-    walk: Walk,
-    count: usize,
-) -> Walk
-    requires { words_for sizes.shape.n ≤ length words.old }
-    ensures marks { take (frontier_at sizes.shape.n) words.new ≡ take (frontier_at sizes.shape.n) words.old }
-    ensures pushed { TakingIn sizes (far_from reads.entry.query.now (vectors_of reads.entry.vectors))
-        (live_by reads.entry.withdrawn.now) count
-        (record { words = words.old; floats = floats.old; answer = answer.old; walk = walk })
-        (record { words = words.new; floats = floats.new; answer = answer.new; walk = result }) }
-{
-    let n = sizes.shape.n as usize;
-    let many = count.min(n);
-    let end = n + many;
-    scoring::score(floats, reads.query, reads.vectors, &words[n..end]);
-    beam_state::push_all(
-        words,
-        floats,
-        answer,
-        reads.withdrawn,
-        n,
-        sizes.places,
-        walk,
-        many,
-    )
-}
-
-// Before a node is expanded: all places are taken, and it lies farther than the cutoff times the factor.
-fn too_far(walk: Walk, sizes: Sizes, distance: f32) -> bool
-    ensures { result ≡ (leb sizes.places walk.held && lt (mul binary32 walk.cutoff sizes.stops.factor) distance) }
-{
-    (sizes.places <= walk.held) & (walk.cutoff * sizes.stops.factor < distance)
-}
-
-// After a node is expanded: many nodes are scored, or all of them, so that nothing is left to be found.
-fn ends_after(walk: Walk, sizes: Sizes) -> bool
-    ensures { result ≡ (ltb (sizes.stops.multiplier * sizes.places) walk.scored || leb sizes.shape.n walk.scored) }
-{
-    ((sizes.stops.multiplier as u64) * (sizes.places as u64) < (walk.scored as u64))
-        | (sizes.shape.n <= walk.scored)
-}
-
-// Takes the nearest node from the frontier and expands it, which is to look at its list, unless the walk ends
-// before. Answers whether the walk goes on.
-fn step(
-    words: &mut [u32],
-    floats: &mut [f32],
-    answer: &mut [Keyed],
-    reads: Reads,
-    links: &[u32],
-    sizes: Sizes,
-    walk: Walk,
-) -> ControlFlow<Walk, Walk>
-    requires { words_for sizes.shape.n ≤ length words.old }
-    ensures { Stepping sizes reads.entry links.now
-        (record { words = words.old; floats = floats.old; answer = answer.old; walk = walk })
-        (record { words = words.new; floats = floats.new; answer = answer.new; walk = walk_of result })
-        (is_done result) }
-{
-    let n = sizes.shape.n as usize;
-    let frontier = beam_state::FRONTIER * n;
-    let held = beam_state::HELD * n;
-    let Popped::At(distance, node) = queues::pop(&mut words[frontier..held], floats) else {
-        return ControlFlow::Break(walk);
-    };
-    if too_far(walk, sizes, distance) {
-        return ControlFlow::Break(walk);
+impl Sizes {
+    // No node is marked, in the frontier or held.
+    fn prepare(self, words: &mut [u32])
+        requires { HasWords self words.old }
+        ensures { Prepared self.shape.n self.places words.new }
+    {
+        let n = self.shape.n;
+        let frontier = beam_state::FRONTIER * n;
+        let held = beam_state::HELD * n;
+        let held_end = held + 4 * (self.places as usize).min(n);
+        words[..n].fill(0);
+        tournament::clear(&mut words[frontier..held]);
+        tournament::clear(&mut words[held..held_end]);
     }
-    let lists = Lists {
-        shape: sizes.shape,
-        rows: reads.rows,
-        bridges: reads.bridges,
-        links,
-    };
-    let count = gathering::gather(words, lists, node);
-    let next = take_in(words, floats, answer, reads, sizes, walk, count);
-    if ends_after(next, sizes) {
-        return ControlFlow::Break(next);
+
+    // Before a node is expanded: all places are taken, and it lies farther than the cutoff times the factor.
+    fn too_far(self, walk: Walk, distance: f32) -> bool
+        ensures { result ≡ (leb self.places walk.held && lt (mul binary32 walk.cutoff self.stops.factor) distance) }
+    {
+        (self.places <= walk.held) & (walk.cutoff * self.stops.factor < distance)
     }
-    ControlFlow::Continue(next)
+
+    // After a node is expanded: many nodes are scored, or all of them, so that nothing is left to be found.
+    fn ends_after(self, walk: Walk) -> bool
+        ensures { result ≡ (ltb (self.stops.multiplier * self.places) walk.scored || leb self.shape.n walk.scored) }
+    {
+        ((self.stops.multiplier as u64) * (self.places as u64) < (walk.scored as u64))
+            | (self.shape.n <= walk.scored as usize)
+    }
 }
 
-// The walk from where it stands, by n steps at most.
-fn walk_on(
-    words: &mut [u32],
-    floats: &mut [f32],
-    answer: &mut [Keyed],
-    reads: Reads,
-    links: &[u32],
-    sizes: Sizes,
-    walk: Walk,
-) -> Walk
-    requires { words_for sizes.shape.n ≤ length words.old }
-    ensures { Walking sizes reads.entry links.now
-        (record { words = words.old; floats = floats.old; answer = answer.old; walk = walk })
-        (record { words = words.new; floats = floats.new; answer = answer.new; walk = result }) }
-{
-    let mut now = walk;
-    'steps: for _ in 0..sizes.shape.n {
-        match step(words, floats, answer, reads, links, sizes, now) {
-            ControlFlow::Break(last) => return last,
-            ControlFlow::Continue(next) => now = next,
+impl<'a> Reads<'a> {
+    // The entry node is the first that the walk sees.
+    fn start(&self, words: &mut [u32], floats: &mut [f32], answer: &mut [Keyed]) -> Walk
+        requires { HasWords self.now.sizes words.old }
+        ensures { Starting self.now.sizes (far_of self.now) (live_of self.now)
+            floats.old answer.old
+            (record { words = words.new; floats = floats.new; answer = answer.new; walk = result }) }
+    {
+        let sizes = self.sizes;
+        sizes.prepare(words);
+        let none = Walk {
+            scored: 0,
+            held: 0,
+            cutoff: f32::INFINITY,
+            kept: 0,
+        };
+        let count = gathering::begin(words, sizes.shape.n, sizes.entry);
+        self.take_in(words, floats, answer, none, count)
+    }
+
+    // Scores the fresh nodes, and pushes them.
+    fn take_in(
+        &self,
+        words: &mut [u32],
+        floats: &mut [f32],
+        answer: &mut [Keyed],
+        walk: Walk,
+        count: usize,
+    ) -> Walk
+        requires { HasWords self.now.sizes words.old }
+        ensures marks { take (frontier_at self.now.sizes.shape.n) words.new ≡ take (frontier_at self.now.sizes.shape.n) words.old }
+        ensures pushed { TakingIn self.now.sizes (far_of self.now) (live_of self.now) count
+            (record { words = words.old; floats = floats.old; answer = answer.old; walk = walk })
+            (record { words = words.new; floats = floats.new; answer = answer.new; walk = result }) }
+    {
+        let n = self.sizes.shape.n;
+        let many = count.min(n);
+        let end = n + many;
+        self.scorer.score(floats, &words[n..end]);
+        let beam = Beam {
+            floats,
+            withdrawn: self.withdrawn,
+            size: n,
+            places: self.sizes.places,
+        };
+        beam.push_all(words, answer, walk, many)
+    }
+
+    // The walk from where it stands, over rows and bridges, which are linked first. Where there are none there is
+    // nothing to link, and no links are cleared.
+    fn walk_linked(
+        &self,
+        words: &mut [u32],
+        floats: &mut [f32],
+        answer: &mut [Keyed],
+        walk: Walk,
+    ) -> Walk
+        requires n_in_bounds { HasWords self.now.sizes words.old }
+        requires n_bound { (self.now.sizes.shape.n ≤ 1024) × (length self.now.bridges.now / 2 ≤ self.now.sizes.shape.n) }
+        ensures { WalkingLinked self.now
+            (record { words = words.old; floats = floats.old; answer = answer.old; walk = walk })
+            (record { words = words.new; floats = floats.new; answer = answer.new; walk = result }) }
+    {
+        if self.bridges.len() < 2 {
+            let walker = Walker {
+                reads: *self,
+                links: &[],
+            };
+            return walker.walk_on(words, floats, answer, walk);
         }
+        let mut links = [0u32; 4096];
+        link_bridges(&mut links, self.sizes.shape.n, self.bridges);
+        let walker = Walker {
+            reads: *self,
+            links: &links,
+        };
+        walker.walk_on(words, floats, answer, walk)
     }
-    now
 }
 
-// The walk from where it stands, over rows and bridges, which are linked first. Where there are none there is
-// nothing to link, and no links are cleared.
-fn walk_linked(
-    words: &mut [u32],
-    floats: &mut [f32],
-    answer: &mut [Keyed],
-    reads: Reads,
-    sizes: Sizes,
-    walk: Walk,
-) -> Walk
-    requires n_in_bounds { words_for sizes.shape.n ≤ length words.old }
-    requires n_bound { (sizes.shape.n ≤ 1024) × (length reads.bridges.now / 2 ≤ sizes.shape.n) }
-    ensures { WalkingLinked sizes reads.entry
-        (record { words = words.old; floats = floats.old; answer = answer.old; walk = walk })
-        (record { words = words.new; floats = floats.new; answer = answer.new; walk = result }) }
-{
-    if reads.bridges.len() < 2 {
-        return walk_on(words, floats, answer, reads, &[], sizes, walk);
+impl<'a> Walker<'a> {
+    // The walk from where it stands, by n steps at most.
+    fn walk_on(
+        &self,
+        words: &mut [u32],
+        floats: &mut [f32],
+        answer: &mut [Keyed],
+        walk: Walk,
+    ) -> Walk
+        requires { HasWords self.now.reads.sizes words.old }
+        ensures { Walking self.now.reads self.now.links.now
+            (record { words = words.old; floats = floats.old; answer = answer.old; walk = walk })
+            (record { words = words.new; floats = floats.new; answer = answer.new; walk = result }) }
+    {
+        let mut now = walk;
+        'steps: for _ in 0..self.reads.sizes.shape.n {
+            match self.step(words, floats, answer, now) {
+                ControlFlow::Break(last) => return last,
+                ControlFlow::Continue(next) => now = next,
+            }
+        }
+        now
     }
-    let mut links = [0u32; 4096];
-    link_bridges(&mut links, sizes.shape.n, reads.bridges);
-    walk_on(words, floats, answer, reads, &links, sizes, walk)
-}
 
-// No node is marked, in the frontier or held.
-fn prepare(words: &mut [u32], n: usize, places: u32)
-    requires { words_for n ≤ length words.old }
-    ensures { Prepared n places words.new }
-{
-    let frontier = beam_state::FRONTIER * n;
-    let held = beam_state::HELD * n;
-    let held_end = held + 4 * (places as usize).min(n);
-    words[..n].fill(0);
-    tournament::clear(&mut words[frontier..held]);
-    tournament::clear(&mut words[held..held_end]);
-}
-
-// The entry node is the first that the walk sees.
-fn start(
-    words: &mut [u32],
-    floats: &mut [f32],
-    answer: &mut [Keyed],
-    reads: Reads,
-    sizes: Sizes,
-) -> Walk
-    requires { words_for sizes.shape.n ≤ length words.old }
-    ensures { Starting sizes (far_from reads.entry.query.now (vectors_of reads.entry.vectors))
-        (live_by reads.entry.withdrawn.now)
-        floats.old answer.old
-        (record { words = words.new; floats = floats.new; answer = answer.new; walk = result }) }
-{
-    prepare(words, sizes.shape.n as usize, sizes.places);
-    let none = Walk {
-        scored: 0,
-        held: 0,
-        cutoff: f32::INFINITY,
-        kept: 0,
-    };
-    let count = gathering::begin(words, sizes.shape.n, sizes.entry);
-    take_in(words, floats, answer, reads, sizes, none, count)
+    // Takes the nearest node from the frontier and expands it, which is to look at its list, unless the walk ends
+    // before. Returns the walk as it stands then: to continue with, or to break off with where it ends.
+    fn step(
+        &self,
+        words: &mut [u32],
+        floats: &mut [f32],
+        answer: &mut [Keyed],
+        walk: Walk,
+    ) -> ControlFlow<Walk, Walk>
+        requires { HasWords self.now.reads.sizes words.old }
+        ensures { Stepping self.now.reads self.now.links.now
+            (record { words = words.old; floats = floats.old; answer = answer.old; walk = walk })
+            (record { words = words.new; floats = floats.new; answer = answer.new; walk = walk_of result })
+            (is_done result) }
+    {
+        let reads = &self.reads;
+        let n = reads.sizes.shape.n;
+        let frontier = beam_state::FRONTIER * n;
+        let held = beam_state::HELD * n;
+        let Popped::At(distance, node) = queues::pop(&mut words[frontier..held], floats) else {
+            return ControlFlow::Break(walk);
+        };
+        if reads.sizes.too_far(walk, distance) {
+            return ControlFlow::Break(walk);
+        }
+        let lists = Lists {
+            shape: reads.sizes.shape,
+            rows: reads.rows,
+            bridges: reads.bridges,
+            links: self.links,
+        };
+        let count = gathering::gather(words, lists, node);
+        let next = reads.take_in(words, floats, answer, walk, count);
+        if reads.sizes.ends_after(next) {
+            return ControlFlow::Break(next);
+        }
+        ControlFlow::Continue(next)
+    }
 }
 
 // The distances of the answer's nodes go to the output.
-// kept (2): it shares with `finding::put_docs` a loop of one line, and a closure for it would need a law.
+// kept (2): one function for this and `finding::put_docs` would be public and take a closure, which needs a `requires`; a public
+// function has none.
 fn put_distances(distances: &mut [f32], answer: &[Keyed], floats: &[f32], count: usize)
     ensures { PutDistances count answer.now floats.now distances.old distances.new }
 {
-    let many = count.min(answer.len().min(distances.len()));
-    for i in 0..many {
-        distances[i] = queues::distance_of(floats, Node(answer[i].id));
+    let many = count.min(answer.len());
+    for (i, found) in answer[..many].iter().enumerate() {
+        slices::put(distances, i, queues::distance_of(floats, Node(found.id)));
     }
 }
 
@@ -271,25 +276,21 @@ fn put_distances(distances: &mut [f32], answer: &[Keyed], floats: &[f32], count:
 // kept (1): counts of 0, not an Option: a caller has checked the sizes, and has no refusal for the other case.
 pub fn beam_search(
     reads: Reads,
-    sizes: Sizes,
     answer: &mut [Keyed],
     distances: &mut [f32],
     words: &mut [u32],
     floats: &mut [f32],
 ) -> Walked
-    ensures { Searching sizes reads.entry
+    ensures { Searching reads.entry
         answer.old answer.new distances.old distances.new
         (length words.old) (length floats.old) result }
 {
-    let n = sizes.shape.n as usize;
+    let n = reads.sizes.shape.n;
     if (words.len() / beam_state::WORDS < n) | (n > 1024) | (reads.bridges.len() / 2 > n) {
-        return Walked {
-            count: 0,
-            scored: 0,
-        };
+        return Walked::default();
     }
-    let first = start(words, floats, answer, reads, sizes);
-    let last = walk_linked(words, floats, answer, reads, sizes, first);
+    let first = reads.start(words, floats, answer);
+    let last = reads.walk_linked(words, floats, answer, first);
     put_distances(distances, answer, floats, last.kept);
     Walked {
         count: last.kept.min(u32::MAX as usize) as u32,

@@ -15,8 +15,8 @@
 // first, each node with its key: `keep_first` keeps the first of what it is offered, as many as that slice has room for, so that
 // nothing is sorted at the end. Counts and the cutoff are a struct by value.
 //
-// kept (5): words and answer are two slices: with a struct of two `&mut` each clause would also say that each stays the same.
-// kept (6): words are the caller's scratch, since there is no heap, and a count says how many of a part hold.
+// kept (5): a struct of two `&mut`, words and answer, is no plainer: each contract then also has to say that each field still holds the same reference.
+// kept (6): words and floats are the caller's scratch, since there is no heap, and a count says how many of a part hold.
 #![tactic(auto)]
 
 pub mod queues;
@@ -39,6 +39,7 @@ pub const WORDS: usize = 10;
 
 // How many nodes are scored (those seen that are live), how many are held for the cutoff, the cutoff, and how many
 // are in the answer.
+// kept (5): no plainer with a `Closest` in it: two fields, which each clause on a walk would name through a third.
 #[derive(Clone, Copy)]
 pub struct Walk {
     pub scored: u32,
@@ -55,72 +56,68 @@ fn is_live(withdrawn: &[u32], node: Node) -> bool
     slices::word_at(withdrawn, node.0 as usize) == 0
 }
 
-// A node that has its distance goes into the frontier. A live one is offered to the held and to the answer.
-fn push(
-    words: &mut [u32],
-    floats: &[f32],
-    answer: &mut [Keyed],
-    withdrawn: &[u32],
-    size: usize,
-    places: u32,
-    walk: Walk,
-    node: Node,
-) -> Walk
-    requires { words_for size ≤ length words.old }
-    ensures marks { take (frontier_at size) words.new ≡ take (frontier_at size) words.old }
-    ensures pushed { Pushing size places node.0 withdrawn.now
-        (record { words = words.old; floats = floats.now; answer = answer.old; walk = walk })
-        (record { words = words.new; floats = floats.now; answer = answer.new; walk = result }) }
-{
-    let distance = queues::distance_of(floats, node);
-    let key = order::key(distance);
-    let frontier = FRONTIER * size;
-    let held = HELD * size;
-    queues::enter(&mut words[frontier..held], key, node);
-    if !is_live(withdrawn, node) {
-        return walk;
-    }
-    let held_end = held + 4 * (places as usize).min(size);
-    let closest = queues::keep_closest(
-        &mut words[held..held_end],
-        walk.held,
-        places,
-        distance,
-        key,
-    );
-    let kept = sorting::keep_first(answer, walk.kept, Keyed { key, id: node.0 });
-    Walk {
-        scored: walk.scored.saturating_add(1),
-        held: closest.held,
-        cutoff: closest.cutoff,
-        kept,
-    }
+// What nodes are pushed by: the distance of each, a word for each, 0 where it is live, none where all are, how many nodes
+// there are, and how many places a walk has.
+#[derive(Clone, Copy)]
+pub struct Beam<'a> {
+    pub floats: &'a [f32],
+    pub withdrawn: &'a [u32],
+    pub size: usize,
+    pub places: u32,
 }
 
-// The fresh nodes, in their order.
-pub fn push_all(
-    words: &mut [u32],
-    floats: &[f32],
-    answer: &mut [Keyed],
-    withdrawn: &[u32],
-    size: usize,
-    places: u32,
-    walk: Walk,
-    count: usize,
-) -> Walk
-    ensures marks { take (frontier_at size) words.new ≡ take (frontier_at size) words.old }
-    ensures pushed { PushingAll size places count withdrawn.now
-        (record { words = words.old; floats = floats.now; answer = answer.old; walk = walk })
-        (record { words = words.new; floats = floats.now; answer = answer.new; walk = result }) }
-{
-    if words.len() / WORDS < size {
-        return walk;
+impl<'a> Beam<'a> {
+    // A node that has its distance goes into the frontier. A live one is offered to the held and to the answer.
+    fn push(self, words: &mut [u32], answer: &mut [Keyed], walk: Walk, node: Node) -> Walk
+        requires { words_for self.size ≤ length words.old }
+        ensures marks { take (frontier_at self.entry.size) words.new ≡ take (frontier_at self.entry.size) words.old }
+        ensures pushed { Pushing self.entry.size self.entry.places node.0 self.entry.withdrawn.now
+            (record { words = words.old; floats = self.entry.floats.now; answer = answer.old; walk = walk })
+            (record { words = words.new; floats = self.entry.floats.now; answer = answer.new; walk = result }) }
+    {
+        let size = self.size;
+        let distance = queues::distance_of(self.floats, node);
+        let key = order::key(distance);
+        let frontier = FRONTIER * size;
+        let held = HELD * size;
+        queues::enter(&mut words[frontier..held], key, node);
+        if !is_live(self.withdrawn, node) {
+            return walk;
+        }
+        let held_end = held + 4 * (self.places as usize).min(size);
+        let closest = queues::keep_closest(
+            &mut words[held..held_end],
+            walk.held,
+            self.places,
+            distance,
+            key,
+        );
+        let kept = sorting::keep_first(answer, walk.kept, Keyed { key, id: node.0 });
+        Walk {
+            scored: walk.scored.saturating_add(1),
+            held: closest.held,
+            cutoff: closest.cutoff,
+            kept,
+        }
     }
-    let many = count.min(size);
-    let mut now = walk;
-    for i in 0..many {
-        let node = Node(words[size + i]);
-        now = push(words, floats, answer, withdrawn, size, places, now, node);
+
+    // The fresh nodes, in their order.
+    pub fn push_all(self, words: &mut [u32], answer: &mut [Keyed], walk: Walk, count: usize) -> Walk
+        ensures marks { take (frontier_at self.entry.size) words.new ≡ take (frontier_at self.entry.size) words.old }
+        ensures pushed { PushingAll self.entry.size self.entry.places count self.entry.withdrawn.now
+            (record { words = words.old; floats = self.entry.floats.now; answer = answer.old; walk = walk })
+            (record { words = words.new; floats = self.entry.floats.now; answer = answer.new; walk = result }) }
+    {
+        let size = self.size;
+        if words.len() / WORDS < size {
+            return walk;
+        }
+        let many = count.min(size);
+        let mut now = walk;
+        for i in 0..many {
+            let node = Node(words[size + i]);
+            now = self.push(words, answer, now, node);
+        }
+        now
     }
-    now
 }

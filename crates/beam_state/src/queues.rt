@@ -44,10 +44,10 @@ pub struct Closest {
 pub fn distance_of(floats: &[f32], node: Node) -> f32
     ensures { result ≡ get_or floats.now node.0 (inf false) }
 {
-    match floats.get(node.0 as usize) {
-        Some(distance) => *distance,
-        None => f32::INFINITY,
-    }
+    floats
+        .get(node.0 as usize)
+        .copied()
+        .unwrap_or(f32::INFINITY)
 }
 
 // Puts a node into the frontier, by its distance's key.

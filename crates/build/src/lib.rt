@@ -12,7 +12,7 @@
 //   entry node      floats   from 0    dimension  the centroid
 //   repair          words    from 0          4·n  links (`lists::chains`): n heads, n tails, 2·n slots
 //
-// kept (5): stores, outputs and scratch go side by side, as the C functions pass them.
+// kept (5): a struct of the three `&mut` of a store and its scratch is no plainer: each contract then also has to say that each field still holds the same reference.
 #![tactic(auto)]
 
 ghost use Rattle.std.specs.Prelude.{◌≡◌, ◌+◌, ◌≤◌, length, set};
@@ -77,26 +77,33 @@ fn leaf_entries(n: u32, max_leaf_size: u32) -> usize
     2 * n as usize
 }
 
+// The nodes that a graph is built of: n of them, their vectors, and where their rows and bridges stand.
+#[derive(Clone, Copy)]
+struct Stored<'a> {
+    vectors: Vectors<'a>,
+    n: u32,
+    layout: Layout,
+}
+
 // The lists of the leaves that stand in `carved`, as `partition` leaves them, go into the rows.
 fn put_leaves(
     rows: &mut [u32],
-    vectors: Vectors,
-    n: u32,
+    stored: Stored,
     max_leaf_size: u32,
     leaf: LeafParams,
     carved: &[u32],
     count: u32,
     scratch_floats: &mut [f32],
 )
-    requires { LeavesFit n count (length carved.now) }
-    ensures { LeavesPut n max_leaf_size leaf vectors.entry carved.now count
+    requires { LeavesFit stored.n count (length carved.now) }
+    ensures { LeavesPut stored.entry.n max_leaf_size leaf stored.entry.vectors carved.now count
         (length scratch_floats.old) rows.old rows.new }
 {
-    let nodes_end = leaf_entries(n, max_leaf_size);
-    let sizes_at = carving::SIZES_AT * n as usize;
+    let nodes_end = leaf_entries(stored.n, max_leaf_size);
+    let sizes_at = carving::SIZES_AT * stored.n as usize;
     let sizes_end = sizes_at + count as usize;
     build_leaf::build_leaves(
-        vectors,
+        stored.vectors,
         leaf,
         &carved[..nodes_end],
         &carved[sizes_at..sizes_end],
@@ -110,14 +117,13 @@ fn put_leaves(
 // degree (`prune_changes_nothing` of def_graph/proofs/graph_rows).
 fn put_rows(
     rows: &mut [u32],
-    vectors: Vectors,
-    n: u32,
+    stored: Stored,
     p: PipnnParams,
     scratch_words: &mut [u32],
     scratch_floats: &mut [f32],
 )
-    requires { RowsFit n vectors.dimension p rows.old vectors.components.now (length scratch_words.old) (length scratch_floats.old) }
-    ensures { Blocks p.max_degree (rows_of (settings_of vectors.entry.dimension p) (vectors_of vectors.entry)) rows.new }
+    requires { RowsFit stored.n stored.vectors.dimension p rows.old stored.vectors.components.now (length scratch_words.old) (length scratch_floats.old) }
+    ensures { Blocks p.max_degree (rows_of (settings_of stored.entry.vectors.dimension p) (vectors_of stored.entry.vectors)) rows.new }
 {
     let degree = p.max_degree as u16;
     let carve = CarveParams {
@@ -132,11 +138,10 @@ fn put_rows(
         bits: p.num_hash_bits,
     };
     rows.fill(0);
-    let count = carving::partition(vectors, carve, n, scratch_words);
+    let count = carving::partition(stored.vectors, carve, stored.n, scratch_words);
     put_leaves(
         rows,
-        vectors,
-        n,
+        stored,
         p.max_leaf_size,
         leaf,
         scratch_words,
@@ -148,21 +153,20 @@ fn put_rows(
 
 // The entry node and the bridges, for rows that stand in the store: words 0, 9 and 10 and the bridges are
 // written. The bridges are built beside the store, since its rows are read meanwhile.
-// kept (6): arrays are of the largest size, since there is no heap, and a count says how much of one holds.
+// kept (6): `graph_utils` writes bridges into a slice that it is passed, and returns how many there are.
 fn repair(
     words: &mut [u32],
-    vectors: Vectors,
-    n: u32,
-    layout: Layout,
+    stored: Stored,
     bridges: &mut [u32],
     scratch_words: &mut [u32],
     scratch_floats: &mut [f32],
 )
-    requires { RepairFits n layout.capacity layout.degree vectors.dimension words.old vectors.components.now
+    requires { RepairFits stored.n stored.layout.capacity stored.layout.degree stored.vectors.dimension words.old stored.vectors.components.now
         (length bridges.old) (length scratch_words.old) (length scratch_floats.old) }
-    ensures { RepairPut n layout.capacity layout.degree vectors.entry.dimension (vectors_of vectors.entry)
+    ensures { RepairPut stored.entry.n stored.entry.layout.capacity stored.entry.layout.degree stored.entry.vectors.dimension (vectors_of stored.entry.vectors)
         words.old words.new }
 {
+    let Stored { vectors, n, layout } = stored;
     let dimension = vectors.dimension as usize;
     let entry = medoid::compute_medoid(
         vectors.components,
@@ -190,23 +194,19 @@ fn repair(
 // be the same part of the stack.
 fn repair_rows(
     words: &mut [u32],
-    vectors: Vectors,
-    n: u32,
-    layout: Layout,
+    stored: Stored,
     scratch_words: &mut [u32],
     scratch_floats: &mut [f32],
 )
-    requires { RepairFits n layout.capacity layout.degree vectors.dimension words.old vectors.components.now
+    requires { RepairFits stored.n stored.layout.capacity stored.layout.degree stored.vectors.dimension words.old stored.vectors.components.now
         2048 (length scratch_words.old) (length scratch_floats.old) }
-    ensures { RepairPut n layout.capacity layout.degree vectors.entry.dimension (vectors_of vectors.entry)
+    ensures { RepairPut stored.entry.n stored.entry.layout.capacity stored.entry.layout.degree stored.entry.vectors.dimension (vectors_of stored.entry.vectors)
         words.old words.new }
 {
     let mut bridges = [0u32; 2048];
     repair(
         words,
-        vectors,
-        n,
-        layout,
+        stored,
         &mut bridges[..],
         scratch_words,
         scratch_floats,
@@ -235,17 +235,17 @@ fn build_graph(
         components: &floats[..end],
         dimension,
     };
+    let stored = Stored { vectors, n, layout };
     let from = store::rows_at(layout.capacity);
     let to = layout.row_at(Node(n));
     put_rows(
         &mut words[from..to],
-        vectors,
-        n,
+        stored,
         p,
         scratch_words,
         scratch_floats,
     );
-    repair_rows(words, vectors, n, layout, scratch_words, scratch_floats);
+    repair_rows(words, stored, scratch_words, scratch_floats);
 }
 
 // `PipnnIndex::build`: an open store that has nodes becomes a built one. On a built store it is success,

@@ -15,11 +15,10 @@ use Rattle.random.specs.Hyperplanes.{plane_numbers}
 use Rattle.simhash.specs.Inside.Blocks.{plane_blocks}
 use Rattle.simhash.proofs.Blocks.{length_blocks}
 use Rattle.distance.specs.Vectors.{vectors_of}
-use Rattle.distance.specs.declared.vectors.Vectors.{Vectors}
 use Rattle.def_graph.specs.Leaf.{build_leaf, build_leaves}
 use Rattle.def_graph.proofs.leaf.Laws.{build_append}
 use Rattle.lists.specs.Inside.Words.{Blocks}
-use Rattle.build_leaf.specs.declared.LeafParams.{LeafParams}
+use Rattle.build_leaf.specs.declared.Builder.{Builder}
 use Rattle.build_leaf.specs.Inside.Built.{Setting, LeafHeld, LeafBuilt, LeavesIn, LeavesBuilt, PlanesMade}
 use Rattle.build_leaf.proofs.Rows.{places_length}
 
@@ -55,14 +54,14 @@ flatten_more leaves k h =
 
 -- ---- the first k leaves
 
-pub record After (p : LeafParams) (v : Vectors) (rs leaves : List (List ℕ)) (k at : ℕ) (rows : List ℕ) : Type 0 where
+pub record After (b : Builder) (rs leaves : List (List ℕ)) (k at : ℕ) (rows : List ℕ) : Type 0 where
   pub at_is : at ≡ length (flatten (take k leaves))
-  pub rows_are : Blocks p.degree (build_leaves p.degree p.bits v.dimension (vectors_of v) (take k leaves) rs) rows
+  pub rows_are : Blocks b.params.degree (build_leaves b.params.degree b.params.bits b.vectors.dimension (vectors_of b.vectors) (take k leaves) rs) rows
 
-abbrev pub LeavesTo : LeafParams → Vectors → List Float → List ℕ → List ℕ → ℕ → ℕ → ℕ → List ℕ → List ℕ → Type 0
-LeavesTo p v planes nodes sizes room k at rows rows' =
-    (n : ℕ) (rs leaves : List (List ℕ)) → Setting n p v planes → length rs ≡ n → LeavesIn n leaves nodes sizes room
-    → Blocks p.degree rs rows → After p v rs leaves k at rows'
+abbrev pub LeavesTo : Builder → List ℕ → List ℕ → ℕ → ℕ → ℕ → List ℕ → List ℕ → Type 0
+LeavesTo b nodes sizes room k at rows rows' =
+    (n : ℕ) (rs leaves : List (List ℕ)) → Setting n b → length rs ≡ n → LeavesIn n leaves nodes sizes room
+    → Blocks b.params.degree rs rows → After b rs leaves k at rows'
 
 leaf_length : (D bits d : ℕ) (vs : List (List Float)) (leaf : List ℕ) (rs : List (List ℕ)) → length (build_leaf D bits d vs leaf rs) ≡ length rs
 unfolding build_leaf
@@ -81,10 +80,19 @@ one_more D bits d vs leaves k rs h =
     sym (build_append D bits d vs (take k leaves) (get_or leaves k [] ∷ []) rs)
     ∙ ap (λ (l : List (List ℕ)). build_leaves D bits d vs l rs) (sym (take-suc leaves k [] h))
 
-module _ (p : LeafParams) (v : Vectors) (planes : List Float) (nodes sizes : List ℕ) (room : ℕ) (rows : List ℕ) where
-  pub leaves_none : LeavesTo p v planes nodes sizes room 0 0 rows rows
+module _ (b : Builder) (nodes sizes : List ℕ) (room : ℕ) (rows : List ℕ) where
+  abbrev D : ℕ
+  D = b.params.degree
+
+  abbrev bits : ℕ
+  bits = b.params.bits
+
+  abbrev d : ℕ
+  d = b.vectors.dimension
+
+  pub leaves_none : LeavesTo b nodes sizes room 0 0 rows rows
   unfolding build_leaves flatten
-  leaves_none n rs leaves s many held b = record { at_is = refl; rows_are = b }
+  leaves_none n rs leaves s many held blocks = record { at_is = refl; rows_are = blocks }
 
   -- leaf k as the sizes cut it out of the nodes
   module _ (n k at end : ℕ) (leaves : List (List ℕ)) (held : LeavesIn n leaves nodes sizes room) (h : k < length sizes)
@@ -119,35 +127,35 @@ module _ (p : LeafParams) (v : Vectors) (planes : List Float) (nodes sizes : Lis
     }
 
   pub leaves_more : (k at end m : ℕ) (now next : List ℕ) → k < length sizes → end ≡ at + get_or sizes k 0 → m ≡ get_or sizes k 0
-      → LeavesTo p v planes nodes sizes room k at rows now
-      → LeafBuilt p v planes (take m (drop at nodes)) room now next
-      → LeavesTo p v planes nodes sizes room (k + 1) end rows next
-  leaves_more k at end m now next h e q to built n rs leaves s many held b =
-      let vs : List (List Float) = vectors_of v in
-      let after : After p v rs leaves k at now = to n rs leaves s many held b in
+      → LeavesTo b nodes sizes room k at rows now
+      → LeafBuilt b (take m (drop at nodes)) room now next
+      → LeavesTo b nodes sizes room (k + 1) end rows next
+  leaves_more k at end m now next h e q to built n rs leaves s many held blocks =
+      let vs : List (List Float) = vectors_of b.vectors in
+      let after : After b rs leaves k at now = to n rs leaves s many held blocks in
       let inside : k < length leaves = here n k at end leaves held h after.at_is e in
       let leaf : List ℕ = get_or leaves k [] in
       let is : take m (drop at nodes) ≡ leaf = leaf_is n k at end leaves held h after.at_is e m q in
-      let before : List (List ℕ) = build_leaves p.degree p.bits v.dimension vs (take k leaves) rs in
-      let done : Blocks p.degree (build_leaf p.degree p.bits v.dimension vs leaf before) next =
-      subst (λ (l : List ℕ). LeafBuilt p v planes l room now next) is built n before s (leaves_length p.degree p.bits v.dimension vs (take k leaves) rs ∙ many)
+      let before : List (List ℕ) = build_leaves D bits d vs (take k leaves) rs in
+      let done : Blocks D (build_leaf D bits d vs leaf before) next =
+      subst (λ (l : List ℕ). LeafBuilt b l room now next) is built n before s (leaves_length D bits d vs (take k leaves) rs ∙ many)
       (leaf_held n k at end leaves held h after.at_is e) after.rows_are in
       record {
         at_is = omega (arith, after.at_is, size_is n k at end leaves held h after.at_is e, flatten_more leaves k inside, ap (λ (i : ℕ). length (flatten (take i leaves))) (add-one k));
-        rows_are = subst (λ (l : List (List ℕ)). Blocks p.degree l next) (one_more p.degree p.bits v.dimension vs leaves k rs inside ∙ ap (λ (i : ℕ). build_leaves p.degree p.bits v.dimension vs (take i leaves) rs) (sym (add-one k))) done;
+        rows_are = subst (λ (l : List (List ℕ)). Blocks D l next) (one_more D bits d vs leaves k rs inside ∙ ap (λ (i : ℕ). build_leaves D bits d vs (take i leaves) rs) (sym (add-one k))) done;
       }
 
   -- sizes that run past the nodes are not those of leaves
   pub leaves_cut : (k at end : ℕ) (now : List ℕ) → k < length sizes → end ≡ at + get_or sizes k 0 → length nodes < end
-      → LeavesTo p v planes nodes sizes room k at rows now → LeavesBuilt p v planes nodes sizes room rows now
-  leaves_cut k at end now h e past to n rs leaves s many held b =
-      absurd (omega (arith, leaf_there n k at end leaves held h (to n rs leaves s many held b).at_is e))
+      → LeavesTo b nodes sizes room k at rows now → LeavesBuilt b nodes sizes room rows now
+  leaves_cut k at end now h e past to n rs leaves s many held blocks =
+      absurd (omega (arith, leaf_there n k at end leaves held h (to n rs leaves s many held blocks).at_is e))
 
-  pub leaves_last : (k at : ℕ) (now : List ℕ) → length sizes ≤ k → LeavesTo p v planes nodes sizes room k at rows now
-      → LeavesBuilt p v planes nodes sizes room rows now
-  leaves_last k at now h to n rs leaves s many held b =
+  pub leaves_last : (k at : ℕ) (now : List ℕ) → length sizes ≤ k → LeavesTo b nodes sizes room k at rows now
+      → LeavesBuilt b nodes sizes room rows now
+  leaves_last k at now h to n rs leaves s many held blocks =
       let all : take k leaves ≡ leaves = take_all k leaves (omega (arith, ap length held.sizes_are, length-map leaves length)) in
-      subst (λ (l : List (List ℕ)). Blocks p.degree (build_leaves p.degree p.bits v.dimension (vectors_of v) l rs) now) all (to n rs leaves s many held b).rows_are
+      subst (λ (l : List (List ℕ)). Blocks D (build_leaves D bits d (vectors_of b.vectors) l rs) now) all (to n rs leaves s many held blocks).rows_are
 
 -- ---- the hyperplanes
 

@@ -2,24 +2,30 @@
 use mathlib.Core.Path.{◌≡◌, refl, sym, ap, ap₂, ◌∙◌, subst}
 use mathlib.Core.Bool.{true}
 use mathlib.Core.List.{List, [], ◌∷◌, ◌++◌, map, flatten, append-nil, append_assoc}
-use Prim.Native.Nat.{ℕ, ◌+◌, ◌-◌, ◌*◌, ◌≤◌, ◌<◌, min}
+use Prim.Native.Nat.{ℕ, ◌-◌, ◌*◌, ◌/◌, ◌≤◌, ◌<◌, min}
+use native.Mathlib.Nat.{mul-le-mul_right}
 use native.Mathlib.Omega.{arith}
+use native.Mathlib.Decide.{dec_le}
 use lib.Dec.{leb, eqb}
-use lib.ListN.{length, take, drop, length-append, length-drop, drop_of_length-le}
+use lib.ListN.{length, get_or, take, drop, length-append, drop_of_length-le, take-append-drop, get_or-append}
 use borrow.Rule.Slice.PartMut.{put_mid}
 use lib.Seq.{take_at, drop_at, take_all, take-append-le, length-take-le}
-use lib.Ieee.{Float}
 use borrow.Author.Tests.{eq-eqb, ne_eqb, le-leb, lt-leb}
 use Rattle.basics.specs.Choice.{pick, pick_true, pick_false, pick_ind}
 use Rattle.random.specs.Leaders.{up_to}
 use Rattle.random.proofs.leaders.Draws.{length-up_to}
-use Rattle.def_graph.specs.Partition.{fanout, is_leaf, buckets_of, carve_segment, carve_buckets, leaves_of, each_by, segment_equation}
+use Rattle.distance.specs.Vectors.{vectors_of}
+use Rattle.distance.specs.declared.vectors.Vectors.{Vectors}
+use Rattle.def_graph.specs.Partition.{fanout, is_leaf, carve_buckets, leaves_of, each_by, segment_equation}
 use Rattle.dealing.specs.Inside.Marks.{run, marks_of}
 use Rattle.dealing.specs.Inside.Deal.{Fitting, Holding}
-use Rattle.dealing.proofs.Marks.{marks_one, flatten_one, length_run}
+use Rattle.dealing.specs.declared.Segment.{Segment}
+use Rattle.dealing.proofs.Marks.{marks_one, flatten_one, length-marks}
 use Rattle.carving.specs.Inside.Carving.{non_empty, Laid}
-use Rattle.carving.specs.Inside.Steps.{first_size, Dealing, CarvesSegment}
-use Rattle.carving.proofs.Leaves.{First, first_of, first_size_lem, none_left, flatten-full}
+use Rattle.carving.specs.Inside.Steps.{below, dealt_in, leaves_in, leaves_under, segment_size, Dealing, CarvesSegment}
+use Rattle.carving.specs.declared.CarveParams.{CarveParams}
+use Rattle.carving.specs.declared.Carve.{Carve}
+use Rattle.carving.proofs.Leaves.{Last, last_of, one_first, none_left, flatten-full}
 
 -- ---- the fanout
 
@@ -37,186 +43,240 @@ fan_some level =
     pick_ind (λ (k : ℕ). (k ≡ 0 → ⊥) → level ≤ 20) (eqb level 0) (λ t _. omega (arith, lib.Dec.eqb→eq level 0 t))
     (λ _. pick_ind (λ (k : ℕ). (k ≡ 0 → ⊥) → level ≤ 20) (leb level 20) (λ t _. lib.Dec.leb→le level 20 t) (λ _ f. absurd (f refl)))
 
--- a segment below the top fits over its own place
-pub fitting-down : (level : ℕ) (part nodes marks : List ℕ) → Dealing level nodes marks → part ≡ nodes
-    → (room cards : ℕ) → 2048 ≤ room → cards ≡ length nodes → Fitting level part nodes marks room cards
-fitting-down level part nodes marks d e room cards r f =
-    let one = fan_one level d.below d.levels in
-    let same = ap length e in
+-- ---- a segment that is dealt over a slice
+
+-- it is no longer than the slice
+pub segment_within : (c : Carve) (nodes marks : List ℕ) → Dealing c nodes marks → segment_size c nodes ≤ length nodes
+segment_within c nodes marks d = let m = mul-le-mul_right (segment_size c nodes) d.deals in omega (arith, d.whole)
+
+-- below the top it is the slice
+pub size_down : (c : Carve) (nodes : List ℕ) → fanout c.level ≡ 1 → segment_size c nodes ≡ length nodes
+size_down c nodes e = ap (λ (k : ℕ). length nodes / k) e ∙ omega arith
+
+-- at the top half of it
+pub size_top : (c : Carve) (nodes : List ℕ) (n : ℕ) → fanout c.level ≡ 2 → length nodes ≡ 2 * n → segment_size c nodes ≡ n
+size_top c nodes n e h = ap (λ (k : ℕ). length nodes / k) e ∙ omega arith
+
+-- so it is dealt
+pub dealing : (c : Carve) (nodes marks : List ℕ) (k n : ℕ) → fanout c.level ≡ k → segment_size c nodes ≡ n → 1 ≤ k → 2 ≤ n → length nodes ≡ k * n
+    → length nodes ≤ 2048 → length marks ≡ length nodes → Dealing c nodes marks
+dealing c nodes marks k n e f deals two whole few marked = record {
+  deals = omega arith;
+  two = omega arith;
+  whole = whole ∙ ap₂ (λ (a : ℕ) (b : ℕ). a * b) (sym e) (sym f);
+  few = few;
+  marked = marked;
+}
+
+-- and fits
+pub fitting : (c : Carve) (s : Segment) (nodes marks : List ℕ) → Dealing c nodes marks → s.level ≡ c.level → s.ids.now ≡ take (segment_size c nodes) nodes
+    → (room cards : ℕ) → 2048 ≤ room → cards ≡ segment_size c nodes → Fitting s nodes marks room cards
+fitting c s nodes marks d l e room cards r f =
+    let size = ap length e ∙ length-take-le (segment_size c nodes) nodes (segment_within c nodes marks d) in
     record {
-      deals = omega arith;
-      two = omega (arith, d.two);
-      nodes_size = omega (arith, ap (λ (k : ℕ). k * length part) one);
+      deals = rw l d.deals;
+      two = omega (arith, size, d.two);
+      nodes_size = d.whole ∙ ap₂ (λ (k : ℕ) (n : ℕ). k * n) (ap fanout (sym l)) (sym size);
       marks_size = d.marked;
       few = d.few;
       room_size = omega (arith, d.few);
-      cards_size = f ∙ sym same;
+      cards_size = f ∙ sym size;
     }
 
--- ---- a part of a slice, passed on and returned
+-- ---- the end of a front part: what stands before it, and behind
 
-module _ (xs part : List ℕ) (at end : ℕ) (starts : at ≤ end) (ends : end ≤ length xs) (same : length part ≡ length (take (end - at) (drop at xs))) where
-  part-size : length part ≡ end - at
-  part-size = same ∙ length-take-le (end - at) (drop at xs) (omega (arith, length-drop at xs))
+module _ (xs front part : List ℕ) (at end : ℕ) (within : end ≤ length xs) (before : at ≤ end) (size : length front ≡ at) (is : take end xs ≡ front ++ part) where
+  part_size : length part ≡ end - at
+  part_size = omega (arith, ap length is, length-append front part, length-take-le end xs within)
 
-  front_size : length (take at xs ++ part) ≡ end
-  front_size = let h : at ≤ length xs = omega arith in omega (arith, length-append (take at xs) part, length-take-le at xs h, part-size)
+  whole : xs ≡ front ++ (part ++ drop end xs)
+  whole = sym (take-append-drop end xs) ∙ ap (λ (r : List ℕ). r ++ drop end xs) is ∙ append_assoc front part (drop end xs)
 
-  joined : put_mid at (end - at) xs part ≡ (take at xs ++ part) ++ drop (end - at) (drop at xs)
-  joined = sym (append_assoc (take at xs) part (drop (end - at) (drop at xs)))
+  behind_front : drop at xs ≡ part ++ drop end xs
+  behind_front = ap (drop at) whole ∙ drop_at front (part ++ drop end xs) at size
 
-  pub back_front : take end (put_mid at (end - at) xs part) ≡ take at xs ++ part
-  back_front = ap (take end) joined ∙ take_at (take at xs ++ part) (drop (end - at) (drop at xs)) end front_size
+  pub front_is : take at xs ≡ front
+  front_is = ap (take at) whole ∙ take_at front (part ++ drop end xs) at size
 
-  pub back_rest : drop end (put_mid at (end - at) xs part) ≡ drop (end - at) (drop at xs)
-  back_rest = ap (drop end) joined ∙ drop_at (take at xs ++ part) (drop (end - at) (drop at xs)) end front_size
+  pub part_is : take (end - at) (drop at xs) ≡ part
+  part_is = ap (take (end - at)) behind_front ∙ take_at part (drop end xs) (end - at) part_size
 
-module _ (maxLeaf minLeaf : ℕ) (fraction : Float) (vs : List (List Float)) where
+  -- something else is put in place of the part
+  pub put_front : (x : List ℕ) → take at (put_mid at (end - at) xs x) ≡ front
+  put_front x = take_at (take at xs) (x ++ drop (end - at) (drop at xs)) at (ap length front_is ∙ size) ∙ front_is
+
+  pub put_behind : (x : List ℕ) → drop at (put_mid at (end - at) xs x) ≡ x ++ drop end xs
+  put_behind x =
+      drop_at (take at xs) (x ++ drop (end - at) (drop at xs)) at (ap length front_is ∙ size)
+      ∙ ap (λ (r : List ℕ). x ++ r) (ap (drop (end - at)) behind_front ∙ drop_at part (drop end xs) (end - at) part_size)
+
+module _ (c : Carve) where
   -- ---- a leaf, and what is none
 
-  abbrev carved : ℕ → List ℕ → List (List ℕ)
-  carved level ids = carve_segment maxLeaf minLeaf fraction vs level ids
+  leaf_or : (ids : List ℕ) → is_leaf c.p.max_leaf c.level ids ≡ true → leaves_in c ids ≡ ids ∷ []
+  leaf_or ids e = segment_equation c.p.max_leaf c.p.dealing.min_leaf c.p.dealing.leader_fraction (vectors_of c.vectors) c.level ids ∙ pick_true _ _ e
 
-  leaf_or : (level : ℕ) (ids : List ℕ) → is_leaf maxLeaf level ids ≡ true → carved level ids ≡ ids ∷ []
-  leaf_or level ids e = segment_equation maxLeaf minLeaf fraction vs level ids ∙ pick_true _ _ e
-
-  pub leaf_small : (level : ℕ) (ids : List ℕ) → length ids ≤ maxLeaf → carved level ids ≡ ids ∷ []
+  pub leaf_small : (ids : List ℕ) → length ids ≤ c.p.max_leaf → leaves_in c ids ≡ ids ∷ []
   unfolding is_leaf
-  leaf_small level ids h = leaf_or level ids (ap (λ (b : mathlib.Core.Bool.Bool). mathlib.Core.Bool.◌||◌ b (eqb (fanout level) 0)) (le-leb (length ids) maxLeaf h))
+  leaf_small ids h = leaf_or ids (ap (λ (b : mathlib.Core.Bool.Bool). mathlib.Core.Bool.◌||◌ b (eqb (fanout c.level) 0)) (le-leb (length ids) c.p.max_leaf h))
 
-  pub leaf_deep : (level : ℕ) (ids : List ℕ) → fanout level ≡ 0 → carved level ids ≡ ids ∷ []
+  pub leaf_deep : (ids : List ℕ) → fanout c.level ≡ 0 → leaves_in c ids ≡ ids ∷ []
   unfolding is_leaf
-  leaf_deep level ids e =
-      leaf_or level ids
-      (ap (λ (b : mathlib.Core.Bool.Bool). mathlib.Core.Bool.◌||◌ (leb (length ids) maxLeaf) b) (eq-eqb (fanout level) 0 e) ∙ mathlib.Core.Bool.or-true (leb (length ids) maxLeaf))
+  leaf_deep ids e =
+      leaf_or ids
+      (ap (λ (b : mathlib.Core.Bool.Bool). mathlib.Core.Bool.◌||◌ (leb (length ids) c.p.max_leaf) b) (eq-eqb (fanout c.level) 0 e) ∙ mathlib.Core.Bool.or-true (leb (length ids) c.p.max_leaf))
 
-  pub dealt_down : (level : ℕ) (ids : List ℕ) → maxLeaf < length ids → (fanout level ≡ 0 → ⊥)
-      → carved level ids ≡ carve_buckets maxLeaf minLeaf fraction vs (level + 1) (buckets_of minLeaf fraction vs level ids)
+  pub dealt_down : (ids : List ℕ) → c.p.max_leaf < length ids → (fanout c.level ≡ 0 → ⊥) → leaves_in c ids ≡ leaves_under (below c) (dealt_in c ids)
   unfolding is_leaf
-  dealt_down level ids h f =
-      segment_equation maxLeaf minLeaf fraction vs level ids
-      ∙ pick_false _ _ (ap₂ mathlib.Core.Bool.◌||◌ (lt-leb (length ids) maxLeaf h) (ne_eqb (fanout level) 0 f))
+  dealt_down ids h f =
+      segment_equation c.p.max_leaf c.p.dealing.min_leaf c.p.dealing.leader_fraction (vectors_of c.vectors) c.level ids
+      ∙ pick_false _ _ (ap₂ mathlib.Core.Bool.◌||◌ (lt-leb (length ids) c.p.max_leaf h) (ne_eqb (fanout c.level) 0 f))
 
   -- a leaf stays as it is
-  pub leaf_stays : (level : ℕ) (nodes marks : List ℕ) → carved level nodes ≡ nodes ∷ [] → CarvesSegment maxLeaf minLeaf fraction vs level nodes marks nodes marks
-  leaf_stays level nodes marks e m = (sym (ap flatten e ∙ flatten_one nodes), m ∙ sym (ap marks_of e))
+  pub leaf_stays : (nodes marks : List ℕ) → leaves_in c nodes ≡ nodes ∷ [] → CarvesSegment c nodes marks nodes marks
+  leaf_stays nodes marks e m = (sym (ap flatten e ∙ flatten_one nodes), m ∙ sym (ap marks_of e))
 
-  -- ---- buckets, one after the other
+  -- ---- buckets, one after the other, the last first
 
-  empty_leaf : (level : ℕ) → carved level [] ≡ [] ∷ []
-  empty_leaf level = leaf_small level [] (omega arith)
+  empty_leaf : leaves_in c [] ≡ [] ∷ []
+  empty_leaf = leaf_small [] (omega arith)
 
-  -- in front of `at` stand the leaves of some buckets, from there on the other buckets
-  pub record Partly (level : ℕ) (buckets : List (List ℕ)) (nodes marks : List ℕ) (at : ℕ) : Type 0 where
-    pub rest : List (List ℕ)
-    pub left : Holding rest (drop at nodes) (drop at marks)
-    pub nodes_done : flatten (carve_buckets maxLeaf minLeaf fraction vs level buckets) ≡ take at nodes ++ flatten (carve_buckets maxLeaf minLeaf fraction vs level rest)
-    pub marks_done : marks_of (carve_buckets maxLeaf minLeaf fraction vs level buckets) ≡ take at marks ++ marks_of (carve_buckets maxLeaf minLeaf fraction vs level rest)
+  -- in front of `end` stand some buckets, from there on the leaves of the others; from `at` on no bucket in front begins
+  pub record Partly (buckets : List (List ℕ)) (nodes marks : List ℕ) (at end : ℕ) : Type 0 where
+    pub front : List (List ℕ)
+    pub left : Holding front (take end nodes) (take end marks)
+    pub nodes_done : flatten (leaves_under c buckets) ≡ flatten (leaves_under c front) ++ drop end nodes
+    pub marks_done : marks_of (leaves_under c buckets) ≡ marks_of (leaves_under c front) ++ drop end marks
+    pub zeroes : (i : ℕ) → at ≤ i → i < end → get_or marks i 0 ≡ 0
 
-  pub partly_none : (level : ℕ) (bs : List (List ℕ)) (nodes marks : List ℕ) → Holding bs nodes marks → Partly level bs nodes marks 0
-  partly_none level bs nodes marks h = record { rest = bs; left = h; nodes_done = refl; marks_done = refl }
+  module _ (bs : List (List ℕ)) (nodes marks : List ℕ) (even : length marks ≡ length nodes) where
+    pub partly_none : Holding bs nodes marks → Partly bs nodes marks (length nodes) (length nodes)
+    partly_none h =
+        let under : List (List ℕ) = leaves_under c bs in
+        record {
+          front = bs;
+          left = (take_all (length nodes) nodes (omega arith) ∙ h.0, take_all (length nodes) marks (omega arith) ∙ h.1);
+          nodes_done = sym (ap (λ (r : List ℕ). flatten under ++ r) (drop_of_length-le nodes {i = length nodes} (omega arith)) ∙ append-nil (flatten under));
+          marks_done = sym (ap (λ (r : List ℕ). marks_of under ++ r) (drop_of_length-le marks {i = length nodes} (omega arith)) ∙ append-nil (marks_of under));
+          zeroes = λ i h k. absurd (omega arith);
+        }
 
-  pub partly_done : (level : ℕ) (bs : List (List ℕ)) (nodes marks : List ℕ) (at : ℕ) → length nodes ≤ at → length marks ≡ length nodes → Partly level bs nodes marks at
-      → Holding (carve_buckets maxLeaf minLeaf fraction vs level bs) nodes marks
-  unfolding carve_buckets
-  partly_done level bs nodes marks at h e p =
-      let none = (none_left p.rest (omega (arith, ap length p.left.0, length-drop at nodes))).1 (carved level) (empty_leaf level) in (
-        sym (p.nodes_done ∙ ap₂ (λ (a : List ℕ) (b : List ℕ). a ++ b) (take_all at nodes h) none.0 ∙ append-nil nodes),
-        sym (p.marks_done ∙ ap₂ (λ (a : List ℕ) (b : List ℕ). a ++ b) (take_all at marks (omega arith)) none.1 ∙ append-nil marks),
+    module _ (at end : ℕ) (within : end ≤ length nodes) (p : Partly bs nodes marks at end) where
+      front_long : length (marks_of p.front) ≡ end
+      front_long = ap length (sym p.left.1) ∙ length-take-le end marks (omega arith)
+
+      front_mark : (i : ℕ) → i < end → get_or (marks_of p.front) i 0 ≡ get_or marks i 0
+      front_mark i h = ap (λ (r : List ℕ). get_or r i 0) (sym p.left.1)
+          ∙ sym (get_or-append (take end marks) (drop end marks) 0 i (omega (arith, length-take-le end marks (omega arith))))
+          ∙ ap (λ (r : List ℕ). get_or r i 0) (take-append-drop end marks)
+
+      pub partly_done : at ≡ 0 → Holding (leaves_under c bs) nodes marks
+      unfolding carve_buckets
+      partly_done e = (
+        sym (p.nodes_done ∙ ap₂ (λ (a : List ℕ) (k : ℕ). a ++ drop k nodes) none.0 ended),
+        sym (p.marks_done ∙ ap₂ (λ (a : List ℕ) (k : ℕ). a ++ drop k marks) none.1 ended),
       )
+        where
+          ended : end ≡ 0
+          ended = elim (dec_le end 0) [
+            | yes h ↦ omega arith
+            | no h ↦ absurd (omega (arith, one_first p.front 0 (omega (arith, front_long)), front_mark 0 (omega arith), p.zeroes 0 (omega arith) (omega arith)))
+          ]
 
-  -- the next bucket is carved
-  module _ (level : ℕ) (bs : List (List ℕ)) (nodes marks n₁ m₁ : List ℕ) (at end : ℕ) (some : at < length nodes) (even : length marks ≡ length nodes)
-      (is : end ≡ at + first_size (drop at marks)) (within : end ≤ length nodes)
-      (n-same : length n₁ ≡ length (take (end - at) (drop at nodes))) (m-same : length m₁ ≡ length (take (end - at) (drop at marks)))
-      (one : CarvesSegment maxLeaf minLeaf fraction vs level (take (end - at) (drop at nodes)) (take (end - at) (drop at marks)) n₁ m₁)
-      (p : Partly level bs nodes marks at) where
-    pub partly_more : Partly level bs (put_mid at (end - at) nodes n₁) (put_mid at (end - at) marks m₁) end
-    unfolding carve_buckets
-    partly_more = record {
-      rest = f.others;
-      left = (
-        back_rest nodes n₁ at end starts within n-same ∙ ap (drop (end - at)) (p.left.0 ∙ f.nodes_are) ∙ drop_at f.bucket (flatten f.others) (end - at) (sym size_is),
-        back_rest marks m₁ at end starts (omega arith) m-same ∙ ap (drop (end - at)) (p.left.1 ∙ f.marks_are)
-            ∙ drop_at (run 1 (length f.bucket)) (marks_of f.others) (end - at) (length_run 1 (length f.bucket) ∙ sym size_is),
-      );
-      nodes_done = p.nodes_done
-          ∙ ap (λ (r : List ℕ). take at nodes ++ r) ((f.each (carved level) (empty_leaf level)).0 ∙ ap (λ (r : List ℕ). r ++ flatten (each_by (carved level) f.others)) (sym held.0))
-          ∙ sym (append_assoc (take at nodes) n₁ (flatten (each_by (carved level) f.others)))
-          ∙ ap (λ (r : List ℕ). r ++ flatten (each_by (carved level) f.others)) (sym (back_front nodes n₁ at end starts within n-same));
-      marks_done = p.marks_done
-          ∙ ap (λ (r : List ℕ). take at marks ++ r) ((f.each (carved level) (empty_leaf level)).1 ∙ ap (λ (r : List ℕ). r ++ marks_of (each_by (carved level) f.others)) (sym held.1))
-          ∙ sym (append_assoc (take at marks) m₁ (marks_of (each_by (carved level) f.others)))
-          ∙ ap (λ (r : List ℕ). r ++ marks_of (each_by (carved level) f.others)) (sym (back_front marks m₁ at end starts (omega arith) m-same));
-    }
-      where
-        f : First p.rest
-        f = first_of p.rest (omega (arith, ap length p.left.0, length-drop at nodes))
+          none : (flatten (each_by (leaves_in c) p.front) ≡ []) × (marks_of (each_by (leaves_in c) p.front) ≡ [])
+          none = (none_left p.front (omega (arith, ended, front_long, length-marks p.front))).1 (leaves_in c) empty_leaf
 
-        starts : at ≤ end
-        starts = omega arith
+      -- no bucket begins at the node before
+      pub partly_same : 0 < at → get_or marks (at - 1) 0 ≡ 0 → Partly bs nodes marks (at - 1) end
+      partly_same h e = record {
+        front = p.front;
+        left = p.left;
+        nodes_done = p.nodes_done;
+        marks_done = p.marks_done;
+        zeroes = λ i j k. elim (dec_le at i) [
+          | yes m ↦ p.zeroes i m k
+          | no m ↦ let same : i ≡ at - 1 = omega arith in ap (λ (n : ℕ). get_or marks n 0) same ∙ e
+        ];
+      }
 
-        size_is : end - at ≡ length f.bucket
-        size_is = omega (arith, is, ap first_size p.left.1 ∙ first_size_lem p.rest f)
+      -- a bucket begins there, and is carved
+      module _ (j : ℕ) (is : j ≡ at - 1) (some : 0 < at) (before : at ≤ end) (begins : get_or marks j 0 ≡ 0 → ⊥) (n₁ m₁ : List ℕ)
+          (one : CarvesSegment c (take (end - j) (drop j nodes)) (take (end - j) (drop j marks)) n₁ m₁) where
+        l : Last p.front j
+        l = last_of p.front j (omega (arith, front_long)) (λ e. begins (sym (front_mark j (omega arith)) ∙ e))
+            (λ i h k. front_mark i (omega (arith, front_long)) ∙ p.zeroes i (omega arith) (omega (arith, front_long)))
 
-        bucket_nodes : take (end - at) (drop at nodes) ≡ f.bucket
-        bucket_nodes = ap (take (end - at)) (p.left.0 ∙ f.nodes_are) ∙ take_at f.bucket (flatten f.others) (end - at) (sym size_is)
+        nodes_in : take end nodes ≡ flatten l.others ++ l.bucket
+        nodes_in = p.left.0 ∙ l.nodes_are
 
-        bucket_marks : take (end - at) (drop at marks) ≡ marks_of (take (end - at) (drop at nodes) ∷ [])
+        marks_in : take end marks ≡ marks_of l.others ++ run 1 (length l.bucket)
+        marks_in = p.left.1 ∙ l.marks_are
+
+        marks_long : length (marks_of l.others) ≡ j
+        marks_long = length-marks l.others ∙ l.begins
+
+        bucket_nodes : take (end - j) (drop j nodes) ≡ l.bucket
+        bucket_nodes = part_is nodes (flatten l.others) l.bucket j end within (omega arith) l.begins nodes_in
+
+        bucket_marks : take (end - j) (drop j marks) ≡ marks_of (take (end - j) (drop j nodes) ∷ [])
         bucket_marks =
-            ap (take (end - at)) (p.left.1 ∙ f.marks_are)
-            ∙ take_at (run 1 (length f.bucket)) (marks_of f.others) (end - at) (length_run 1 (length f.bucket) ∙ sym size_is)
-            ∙ ap (λ (l : List ℕ). run 1 (length l)) (sym bucket_nodes) ∙ sym (marks_one (take (end - at) (drop at nodes)))
+            part_is marks (marks_of l.others) (run 1 (length l.bucket)) j end (omega arith) (omega arith) marks_long marks_in
+            ∙ ap (λ (b : List ℕ). run 1 (length b)) (sym bucket_nodes) ∙ sym (marks_one (take (end - j) (drop j nodes)))
 
-        held : Holding (carved level f.bucket) n₁ m₁
-        held = subst (λ (l : List ℕ). Holding (carved level l) n₁ m₁) bucket_nodes (one bucket_marks)
+        held : Holding (leaves_in c l.bucket) n₁ m₁
+        held = subst (λ (b : List ℕ). Holding (leaves_in c b) n₁ m₁) bucket_nodes (one bucket_marks)
+
+        pub partly_more : Partly bs (put_mid j (end - j) nodes n₁) (put_mid j (end - j) marks m₁) j j
+        unfolding carve_buckets
+        partly_more = record {
+          front = l.others;
+          left = (
+            put_front nodes (flatten l.others) l.bucket j end within (omega arith) l.begins nodes_in n₁,
+            put_front marks (marks_of l.others) (run 1 (length l.bucket)) j end (omega arith) (omega arith) marks_long marks_in m₁,
+          );
+          nodes_done = p.nodes_done
+              ∙ ap (λ (r : List ℕ). r ++ drop end nodes) ((l.each (leaves_in c) empty_leaf).0 ∙ ap (λ (r : List ℕ). flatten (each_by (leaves_in c) l.others) ++ r) (sym held.0))
+              ∙ append_assoc (flatten (each_by (leaves_in c) l.others)) n₁ (drop end nodes)
+              ∙ ap (λ (r : List ℕ). flatten (each_by (leaves_in c) l.others) ++ r)
+              (sym (put_behind nodes (flatten l.others) l.bucket j end within (omega arith) l.begins nodes_in n₁));
+          marks_done = p.marks_done
+              ∙ ap (λ (r : List ℕ). r ++ drop end marks) ((l.each (leaves_in c) empty_leaf).1 ∙ ap (λ (r : List ℕ). marks_of (each_by (leaves_in c) l.others) ++ r) (sym held.1))
+              ∙ append_assoc (marks_of (each_by (leaves_in c) l.others)) m₁ (drop end marks)
+              ∙ ap (λ (r : List ℕ). marks_of (each_by (leaves_in c) l.others) ++ r)
+              (sym (put_behind marks (marks_of l.others) (run 1 (length l.bucket)) j end (omega arith) (omega arith) marks_long marks_in m₁));
+          zeroes = λ i h k. absurd (omega arith);
+        }
 
 -- ---- the first segment
-
--- all positions, where there is room for them
-pub positions_all : (n : ℕ) (to x : List ℕ) → length to ≡ n → x ≡ up_to (min n (length to)) ++ drop (min n (length to)) to → x ≡ up_to n
-positions_all n to x e p =
-    let m : min n (length to) ≡ n = omega arith in
-    p ∙ rw (m, drop_of_length-le to {i = n} (omega arith), append-nil)
 
 pub positions_front : (n : ℕ) (to x : List ℕ) → n ≤ length to → x ≡ up_to (min n (length to)) ++ drop (min n (length to)) to → take n x ≡ up_to n
 positions_front n to x h p =
     let m : min n (length to) ≡ n = omega arith in
     ap (take n) (p ∙ ap (λ (k : ℕ). up_to k ++ drop k to) m) ∙ take_at (up_to n) (drop n to) n (length-up_to n)
 
-module _ (maxLeaf minLeaf : ℕ) (fraction : Float) (vs : List (List Float)) (n : ℕ) (many : length vs ≡ n) where
-  -- it is one leaf
-  pub top_leaf : n ≤ maxLeaf → (nodes marks : List ℕ) → nodes ≡ up_to n → marks ≡ run 1 n → Holding (leaves_of maxLeaf minLeaf fraction vs) nodes marks
+module _ (vectors : Vectors) (p : CarveParams) (n : ℕ) (many : length (vectors_of vectors) ≡ n) where
+  abbrev top : Carve
+  top = record { vectors = vectors; p = p; level = 0 }
+
+  abbrev leaves : List (List ℕ)
+  leaves = leaves_of p.max_leaf p.dealing.min_leaf p.dealing.leader_fraction (vectors_of vectors)
+
+  all_in : leaves ≡ leaves_in top (up_to n)
   unfolding leaves_of
+  all_in = ap (λ (k : ℕ). leaves_in top (up_to k)) many
+
+  -- it is one leaf
+  pub top_leaf : n ≤ p.max_leaf → (nodes marks : List ℕ) → nodes ≡ up_to n → marks ≡ run 1 n → Holding leaves nodes marks
   top_leaf h nodes marks a b =
-      let one : leaves_of maxLeaf minLeaf fraction vs ≡ up_to n ∷ [] =
-      ap (λ (k : ℕ). carve_segment maxLeaf minLeaf fraction vs 0 (up_to k)) many ∙ leaf_small maxLeaf minLeaf fraction vs 0 (up_to n) (omega (arith, length-up_to n)) in
+      let one : leaves ≡ up_to n ∷ [] = all_in ∙ leaf_small top (up_to n) (omega (arith, length-up_to n)) in
       (a ∙ sym (ap flatten one ∙ flatten_one (up_to n)), b ∙ ap (run 1) (sym (length-up_to n)) ∙ sym (ap marks_of one ∙ marks_one (up_to n)))
 
   -- it is dealt
-  pub top_dealt : maxLeaf < n → (part : List ℕ) → part ≡ up_to n
-      → leaves_of maxLeaf minLeaf fraction vs ≡ carve_buckets maxLeaf minLeaf fraction vs 1 (buckets_of minLeaf fraction vs 0 part)
-  unfolding leaves_of
+  pub top_dealt : p.max_leaf < n → (part : List ℕ) → part ≡ up_to n → leaves ≡ leaves_under (below top) (dealt_in top part)
   top_dealt h part e =
-      ap (λ (k : ℕ). carve_segment maxLeaf minLeaf fraction vs 0 (up_to k)) many
-      ∙ dealt_down maxLeaf minLeaf fraction vs 0 (up_to n) (omega (arith, length-up_to n)) (λ z. omega (arith, fan_top))
-      ∙ ap (λ (l : List ℕ). carve_buckets maxLeaf minLeaf fraction vs 1 (buckets_of minLeaf fraction vs 0 l)) (sym e)
-
--- the first segment fits twice
-pub fitting-top : (n : ℕ) (part nodes marks : List ℕ) (room cards : ℕ) → 2048 ≤ room → n ≤ 1024 → 2 ≤ n → length nodes ≡ 2 * n → length marks ≡ 2 * n → part ≡ up_to n → cards ≡ n
-    → Fitting 0 part nodes marks room cards
-fitting-top n part nodes marks room cards r h k a b e f =
-    let top = fan_top in
-    let size : length part ≡ n = ap length e ∙ length-up_to n in
-    record {
-      deals = omega arith;
-      two = omega arith;
-      nodes_size = a ∙ ap₂ (λ (f : ℕ) (m : ℕ). f * m) (sym top) (sym size);
-      marks_size = b ∙ sym a;
-      few = omega arith;
-      room_size = omega arith;
-      cards_size = f ∙ sym size;
-    }
+      all_in
+      ∙ dealt_down top (up_to n) (omega (arith, length-up_to n)) (λ z. omega (arith, fan_top))
+      ∙ ap (λ (l : List ℕ). leaves_under (below top) (dealt_in top l)) (sym e)
 
 -- ---- what is left in the words
 

@@ -22,19 +22,15 @@ empty : (xs : List ℕ) → length xs ≡ 0 → xs ≡ []
 empty [] e = refl
 empty (x ∷ xs) e = absurd (omega arith)
 
--- of all nodes and cards these are left; the nodes found among the others stand behind the first `held`, up to `at`
-pub record Appended (l : ℕ) (all_ids all_cards before : List ℕ) (held : ℕ) (ids cards : List ℕ) (at : ℕ) (to : List ℕ) : Type 0 where
+-- of all nodes and cards these are left; the nodes found among the others stand at the front, up to `count`
+pub record Taken (l : ℕ) (all_ids all_cards before : List ℕ) (ids cards : List ℕ) (count : ℕ) (to : List ℕ) : Type 0 where
   pub same : length cards ≡ length ids
-  pub at_is : at + length (bucket_at l ids cards) ≡ held + length (bucket_at l all_ids all_cards)
-  pub found : take at to ++ bucket_at l ids cards ≡ take held before ++ bucket_at l all_ids all_cards
-  pub behind : drop at to ≡ drop at before
+  pub count_is : count + length (bucket_at l ids cards) ≡ length (bucket_at l all_ids all_cards)
+  pub found : take count to ++ bucket_at l ids cards ≡ bucket_at l all_ids all_cards
+  pub behind : drop count to ≡ drop count before
 
-module _ {l : ℕ} {all_ids all_cards before : List ℕ} {held : ℕ} where
-  pub appended_none : {ids cards : List ℕ} → ids ≡ all_ids → cards ≡ all_cards → length all_cards ≡ length all_ids
-      → Appended l all_ids all_cards before held ids cards held before
-  appended_none p q h = rw (p, q) record { same = h; at_is = refl; found = refl; behind = refl }
-
-  module _ {ids cards : List ℕ} {at : ℕ} {to : List ℕ} (a : Appended l all_ids all_cards before held ids cards at to) where
+module _ {l : ℕ} {all_ids all_cards before : List ℕ} where
+  module _ {ids cards : List ℕ} {count : ℕ} {to : List ℕ} (a : Taken l all_ids all_cards before ids cards count to) where
     module _ {x card : ℕ} {xs rest : List ℕ} (p : ids ≡ x ∷ xs) (q : cards ≡ card ∷ rest) where
       as-long : length rest ≡ length xs
       as-long = omega (arith, a.same, ap length p, ap length q)
@@ -43,32 +39,32 @@ module _ {l : ℕ} {all_ids all_cards before : List ℕ} {held : ℕ} where
       named t = ap₂ (bucket_at l) p q ∙ bucket_named l x card xs rest t
 
       -- room for the next
-      pub appended_room : length to ≡ length before → held + length (bucket_at l all_ids all_cards) ≤ length before → true ≡ names l card → at < length to
-      appended_room k h t = omega (arith, a.at_is, ap length (named t))
+      pub taken_room : length to ≡ length before → length (bucket_at l all_ids all_cards) ≤ length before → true ≡ names l card → count < length to
+      taken_room k h t = omega (arith, a.count_is, ap length (named t))
 
-      pub appended_more : at < length to → true ≡ names l card → Appended l all_ids all_cards before held xs rest (at + 1) (set to at x)
-      appended_more h t = record {
+      pub taken_more : count < length to → true ≡ names l card → Taken l all_ids all_cards before xs rest (count + 1) (set to count x)
+      taken_more h t = record {
         same = as-long;
-        at_is = omega (arith, a.at_is, ap length (named t));
+        count_is = omega (arith, a.count_is, ap length (named t));
         found =
-            rw add-one (ap (λ (r : List ℕ). r ++ bucket_at l xs rest) (take-suc-set to at x h) ∙ append_snoc (take at to) x (bucket_at l xs rest))
-            ∙ ap (λ (r : List ℕ). take at to ++ r) (sym (named t)) ∙ a.found;
+            rw add-one (ap (λ (r : List ℕ). r ++ bucket_at l xs rest) (take-suc-set to count x h) ∙ append_snoc (take count to) x (bucket_at l xs rest))
+            ∙ ap (λ (r : List ℕ). take count to ++ r) (sym (named t)) ∙ a.found;
         behind =
-            drop-set-lt (at + 1) to at x (omega arith) ∙ sym (drop-drop 1 at to) ∙ ap (drop 1) a.behind ∙ drop-drop 1 at before;
+            drop-set-lt (count + 1) to count x (omega arith) ∙ sym (drop-drop 1 count to) ∙ ap (drop 1) a.behind ∙ drop-drop 1 count before;
       }
 
-      pub appended_same : false ≡ names l card → Appended l all_ids all_cards before held xs rest at to
-      appended_same t =
+      pub taken_same : false ≡ names l card → Taken l all_ids all_cards before xs rest count to
+      taken_same t =
           let e : bucket_at l ids cards ≡ bucket_at l xs rest = ap₂ (bucket_at l) p q ∙ bucket_other l x card xs rest t in
-          record { same = as-long; at_is = rw e at a.at_is; found = rw e at a.found; behind = a.behind }
+          record { same = as-long; count_is = rw e at a.count_is; found = rw e at a.found; behind = a.behind }
 
     -- none is left
-    pub appended_done : length ids ≡ 0
-        → (at ≡ held + length (bucket_at l all_ids all_cards)) × (to ≡ (take held before ++ bucket_at l all_ids all_cards) ++ drop at before)
+    pub taken_done : length ids ≡ 0
+        → (count ≡ length (bucket_at l all_ids all_cards)) × (to ≡ bucket_at l all_ids all_cards ++ drop count before)
     unfolding bucket_at
-    appended_done p =
+    taken_done p =
         let none : bucket_at l ids cards ≡ [] = ap (λ (r : List ℕ). bucket_at l r cards) (empty ids p) in (
-          omega (arith, a.at_is, ap length none),
-          sym (take-append-drop at to)
-              ∙ (λ i. (sym (append-nil (take at to)) ∙ ap (λ (r : List ℕ). take at to ++ r) (sym none) ∙ a.found) i ++ a.behind i),
+          omega (arith, a.count_is, ap length none),
+          sym (take-append-drop count to)
+              ∙ (λ i. (sym (append-nil (take count to)) ∙ ap (λ (r : List ℕ). take count to ++ r) (sym none) ∙ a.found) i ++ a.behind i),
         )

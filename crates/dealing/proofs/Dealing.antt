@@ -25,7 +25,9 @@ use Rattle.random.proofs.leaders.Positions.{length_positions}
 use Rattle.def_graph.specs.Partition.{nearest_leaders, dealt, leaders_of, gathered, buckets_of, fanout}
 use Rattle.def_graph.specs.Inside.Occurrences.{entries}
 use Rattle.def_graph.proofs.partition.Dealing.{nearest_below, nearest_length, dealt_weight}
-use Rattle.dealing.specs.Inside.Deal.{Fitting}
+use Rattle.dealing.specs.declared.Segment.{Segment}
+use Rattle.dealing.specs.Inside.Deal.{Fitting, buckets_for}
+use Rattle.distance.specs.Vectors.{vectors_of}
 use Rattle.dealing.specs.Inside.Cards.{card_of, names, bucket_at, buckets_by}
 use Rattle.def_graph.proofs.partition.Laws.{weight_length}
 
@@ -143,38 +145,40 @@ pub fan_most : (level : ℕ) → fanout level ≤ 2
 unfolding fanout
 fan_most level = pick_ind (λ (k : ℕ). k ≤ 2) (eqb level 0) (λ _. omega arith) (λ _. pick_ind (λ (k : ℕ). k ≤ 2) (leb level 20) (λ _. omega arith) (λ _. omega arith))
 
-module _ (minLeaf : ℕ) (fraction : Float) (vs : List (List Float)) (level fan k : ℕ) (ids leaders cards : List ℕ)
-    (fan-is : fan ≡ fanout level) (some : 1 ≤ fan) (two : 2 ≤ length ids) (few : length ids ≤ 2048) (count : k ≡ leader_count (length ids) fraction)
-    (leaders_are : leaders ≡ map (λ (p : ℕ). get_or ids p 0) (drawn k (draw_start level) (up_to (length ids))))
-    (cards_are : cards ≡ map (λ (id : ℕ). card_of (nearest_leaders vs fan leaders id)) ids) where
-  pub leaders_of_lem : leaders ≡ leaders_of fraction level ids
+module _ (s : Segment) (k : ℕ) (leaders cards : List ℕ)
+    (some : 1 ≤ fanout s.level) (two : 2 ≤ length s.ids.now) (few : length s.ids.now ≤ 2048) (count : k ≡ leader_count (length s.ids.now) s.p.leader_fraction)
+    (leaders_are : leaders ≡ map (λ (p : ℕ). get_or s.ids.now p 0) (drawn k (draw_start s.level) (up_to (length s.ids.now))))
+    (cards_are : cards ≡ map (λ (id : ℕ). card_of (nearest_leaders (vectors_of s.vectors) (fanout s.level) leaders id)) s.ids.now) where
+  leaders_of_lem : leaders ≡ leaders_of s.p.leader_fraction s.level s.ids.now
   unfolding leaders_of leader_positions
-  leaders_of_lem = leaders_are ∙ ap (λ (m : ℕ). map (λ (p : ℕ). get_or ids p 0) (drawn m (draw_start level) (up_to (length ids)))) count
+  leaders_of_lem = leaders_are ∙ ap (λ (m : ℕ). map (λ (p : ℕ). get_or s.ids.now p 0) (drawn m (draw_start s.level) (up_to (length s.ids.now)))) count
 
   leaders_size : length leaders ≡ k
   unfolding leaders_of
-  leaders_size = ap length leaders_of_lem ∙ length-map (leader_positions level (length ids) fraction) _ ∙ length_positions level (length ids) fraction ∙ sym count
+  leaders_size =
+      ap length leaders_of_lem ∙ length-map (leader_positions s.level (length s.ids.now) s.p.leader_fraction) _
+      ∙ length_positions s.level (length s.ids.now) s.p.leader_fraction ∙ sym count
 
-  cards_deal : buckets_by k ids cards ≡ dealt vs fan leaders ids
+  cards_deal : buckets_by k s.ids.now cards ≡ dealt (vectors_of s.vectors) (fanout s.level) leaders s.ids.now
   cards_deal =
-      let m = fan_most level in
+      let m = fan_most s.level in
       let size = leaders_size in
-      ap₂ (λ (j : ℕ) (c : List ℕ). buckets_by j ids c) (sym size) cards_are
-      ∙ by_cards vs fan leaders some (omega arith) (omega arith) (omega arith) ids
+      ap₂ (λ (j : ℕ) (c : List ℕ). buckets_by j s.ids.now c) (sym size) cards_are
+      ∙ by_cards (vectors_of s.vectors) (fanout s.level) leaders some (omega arith) (omega arith) (omega arith) s.ids.now
 
-  pub deal_is : gathered minLeaf (buckets_by k ids cards) ≡ buckets_of minLeaf fraction vs level ids
+  pub deal_is : gathered s.p.min_leaf (buckets_by k s.ids.now cards) ≡ buckets_for s
   unfolding buckets_of
-  deal_is = ap (gathered minLeaf) (cards_deal ∙ ap₂ (λ (f : ℕ) (l : List ℕ). dealt vs f l ids) fan-is leaders_of_lem)
+  deal_is = ap (gathered s.p.min_leaf) (cards_deal ∙ ap (λ (l : List ℕ). dealt (vectors_of s.vectors) (fanout s.level) l s.ids.now) leaders_of_lem)
 
-  pub deal_entries : entries (buckets_by k ids cards) ≡ fan * length ids
+  pub deal_entries : entries (buckets_by k s.ids.now cards) ≡ fanout s.level * length s.ids.now
   deal_entries =
-      let m = fan_most level in
+      let m = fan_most s.level in
       let size = leaders_size in
-      ap₂ (λ (j : ℕ) (c : List ℕ). entries (buckets_by j ids c)) (sym size) cards_are
-      ∙ all_dealt vs fan leaders some (omega arith) (omega arith) (omega arith) ids
+      ap₂ (λ (j : ℕ) (c : List ℕ). entries (buckets_by j s.ids.now c)) (sym size) cards_are
+      ∙ all_dealt (vectors_of s.vectors) (fanout s.level) leaders some (omega arith) (omega arith) (omega arith) s.ids.now
 
 -- a segment that fits has few nodes
-pub few_ids : {level : ℕ} {ids nodes marks : List ℕ} {room cards : ℕ} → Fitting level ids nodes marks room cards → (length ids ≤ 2048) × (length ids ≤ length nodes)
-few_ids {level} {ids} f =
-    let m = mul-le-mul_right (length ids) f.deals in
+pub few_ids : {s : Segment} {nodes marks : List ℕ} {room cards : ℕ} → Fitting s nodes marks room cards → (length s.ids.now ≤ 2048) × (length s.ids.now ≤ length nodes)
+few_ids {s} f =
+    let m = mul-le-mul_right (length s.ids.now) f.deals in
     (omega (arith, f.nodes_size, f.few), omega (arith, f.nodes_size))

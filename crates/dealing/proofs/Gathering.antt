@@ -1,7 +1,7 @@
 -- Gathering as the slices hold it: one bucket more, and what remains at the end. Assumes nothing.
 use mathlib.Core.Path.{◌≡◌, refl, sym, ap, ap₂, ◌∙◌}
 use mathlib.Core.List.{List, [], ◌∷◌, ◌++◌, map-append, flatten, append_assoc, append-nil}
-use Prim.Native.Nat.{ℕ, zero, suc, ◌+◌, ◌-◌, ◌≤◌, ◌<◌}
+use Prim.Native.Nat.{ℕ, zero, suc, ◌+◌, ◌≤◌, ◌<◌}
 use native.Mathlib.Numerals.{add-one}
 use native.Mathlib.Omega.{arith}
 use native.Mathlib.Decide.{dec_le}
@@ -54,25 +54,22 @@ holds_more {g} {w} {small} {nodes} {marks} h part nodes' marks' put size kept_is
 
 -- ---- the bucket found, behind what has gathered
 
-module _ (bucket small small' : List ℕ) (held end : ℕ) (within : held ≤ length small) (size : end ≡ held + length bucket)
-    (found : small' ≡ (take held small ++ bucket) ++ drop end small) where
+module _ (bucket small small' : List ℕ) (held size : ℕ) (within : held ≤ length small) (size_is : size ≡ length bucket)
+    (found : small' ≡ take held small ++ (bucket ++ drop (held + size) small)) where
   small_front : length (take held small) ≡ held
   small_front = length-take-le held small within
 
-  apart : small' ≡ take held small ++ (bucket ++ drop end small)
-  apart = found ∙ append_assoc (take held small) bucket (drop end small)
-
-  pub found_bucket : take (end - held) (drop held small') ≡ bucket
-  found_bucket =
-      ap (λ (r : List ℕ). take (end - held) (drop held r)) apart
-      ∙ ap (take (end - held)) (drop_at (take held small) (bucket ++ drop end small) held small_front)
-      ∙ take_at bucket (drop end small) (end - held) (omega arith)
+  pub found_bucket : (k : ℕ) → k ≡ size → take k (drop held small') ≡ bucket
+  found_bucket k e =
+      ap (λ (r : List ℕ). take k (drop held r)) found
+      ∙ ap (take k) (drop_at (take held small) (bucket ++ drop (held + size) small) held small_front)
+      ∙ take_at bucket (drop (held + size) small) k (omega arith)
 
   pub found_before : take held small' ≡ take held small
-  found_before = ap (take held) apart ∙ take_at (take held small) (bucket ++ drop end small) held small_front
+  found_before = ap (take held) found ∙ take_at (take held small) (bucket ++ drop (held + size) small) held small_front
 
-  pub found_joined : take end small' ≡ take held small ++ bucket
-  found_joined = ap (take end) found ∙ take_at (take held small ++ bucket) (drop end small) end (omega (arith, length-append (take held small) bucket, small_front))
+  pub found_joined : take (held + size) small' ≡ take held small ++ bucket
+  found_joined = ap (take (held + size)) found ∙ put_front_lem (take held small) bucket (drop (held + size) small) (held + size) (omega (arith, small_front))
 
 -- ---- the three ways of a bucket
 
@@ -89,37 +86,37 @@ module _ (minLeaf : ℕ) (g : Gathered) (bucket : List ℕ) where
   unfolding gather_one
   one_small h k = pick_false _ _ (lt-leb minLeaf (length bucket) h) ∙ pick_false _ _ (lt-leb minLeaf (length (g.small ++ bucket)) k)
 
-module _ (minLeaf : ℕ) {bucket : List ℕ} {w : Held} {carded : Carded} {small nodes marks small' : List ℕ} {end : ℕ}
-    (room : Roomy bucket w carded small nodes marks) (size : end ≡ w.held + length bucket)
-    (found : small' ≡ (take w.held small ++ bucket) ++ drop end small) where
+module _ (minLeaf : ℕ) {bucket : List ℕ} {w : Held} {carded : Carded} {small nodes marks small' : List ℕ} {size : ℕ}
+    (room : Roomy bucket w carded small nodes marks) (size_is : size ≡ length bucket)
+    (found : small' ≡ take w.held small ++ (bucket ++ drop (w.held + size) small)) where
   within : w.held ≤ length small
   within = omega (arith, room.small_room)
 
-  joined_is : (g : Gathered) → Holds g w small nodes marks → take end small' ≡ g.small ++ bucket
-  joined_is g h = found_joined bucket small small' w.held end within size found ∙ ap (λ (r : List ℕ). r ++ bucket) h.small_nodes
+  joined_is : (g : Gathered) → Holds g w small nodes marks → take (w.held + size) small' ≡ g.small ++ bucket
+  joined_is g h = found_joined bucket small small' w.held size within size_is found ∙ ap (λ (r : List ℕ). r ++ bucket) h.small_nodes
 
-  joined_size : (g : Gathered) → Holds g w small nodes marks → end ≡ length (g.small ++ bucket)
+  joined_size : (g : Gathered) → Holds g w small nodes marks → w.held + size ≡ length (g.small ++ bucket)
   joined_size g h = omega (arith, length-append g.small bucket, h.small_size)
 
   -- placed: its own place
-  pub gathers_large : {part nodes' marks' : List ℕ} → part ≡ take (end - w.held) (drop w.held small') → minLeaf ≤ end - w.held
-      → Put part w.at nodes marks nodes' marks' → Gathers minLeaf bucket w small nodes marks (record { at = w.at + (end - w.held); held = w.held }) small' nodes' marks'
-  gathers_large {part} {nodes'} {marks'} p large put g h =
-      let is : part ≡ bucket = p ∙ found_bucket bucket small small' w.held end within size found in
-      let ends : end - w.held ≡ length part = omega (arith, ap length is) in
+  pub gathers_large : {k : ℕ} {part nodes' marks' : List ℕ} → part ≡ take k (drop w.held small') → k ≡ size → minLeaf ≤ size
+      → Put part w.at nodes marks nodes' marks' → Gathers minLeaf bucket w small nodes marks (record { at = w.at + size; held = w.held }) small' nodes' marks'
+  gathers_large {k} {part} {nodes'} {marks'} p many large put g h =
+      let is : part ≡ bucket = p ∙ found_bucket bucket small small' w.held size within size_is found k many in
+      let ends : size ≡ length part = omega (arith, ap length is) in
       rw (one_large minLeaf g bucket (omega arith), ← is, ends)
-      (holds_more h part nodes' marks' put h.small_size (found_before bucket small small' w.held end within size found ∙ h.small_nodes))
+      (holds_more h part nodes' marks' put h.small_size (found_before bucket small small' w.held size within size_is found ∙ h.small_nodes))
 
   -- placed with those before it
-  pub gathers_joined : {part nodes' marks' : List ℕ} → part ≡ take end small' → end - w.held < minLeaf → minLeaf ≤ end
-      → Put part w.at nodes marks nodes' marks' → Gathers minLeaf bucket w small nodes marks (record { at = w.at + end; held = 0 }) small' nodes' marks'
+  pub gathers_joined : {part nodes' marks' : List ℕ} → part ≡ take (w.held + size) small' → size < minLeaf → minLeaf ≤ w.held + size
+      → Put part w.at nodes marks nodes' marks' → Gathers minLeaf bucket w small nodes marks (record { at = w.at + (w.held + size); held = 0 }) small' nodes' marks'
   gathers_joined {part} {nodes'} {marks'} p few enough put g h =
       let is : part ≡ g.small ++ bucket = p ∙ joined_is g h in
-      let ends : end ≡ length part = omega (arith, ap length is, joined_size g h) in
+      let ends : w.held + size ≡ length part = omega (arith, ap length is, joined_size g h) in
       rw (one_joined minLeaf g bucket (omega arith) (omega (arith, joined_size g h)), ← is, ends) (holds_more h part nodes' marks' put refl refl)
 
   -- it stays with them
-  pub gathers_small : end - w.held < minLeaf → end < minLeaf → Gathers minLeaf bucket w small nodes marks (record { at = w.at; held = end }) small' nodes marks
+  pub gathers_small : size < minLeaf → w.held + size < minLeaf → Gathers minLeaf bucket w small nodes marks (record { at = w.at; held = w.held + size }) small' nodes marks
   gathers_small few small-yet g h = rw (one_small minLeaf g bucket (omega arith) (omega (arith, joined_size g h))) record {
     placed_size = h.placed_size;
     small_size = joined_size g h;

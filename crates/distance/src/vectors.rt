@@ -1,10 +1,13 @@
 // The vectors of an index, node by node, and the distance of two nodes. Carving, leaf lists, pruning and
-// repair all use it; they sort by it, in the order of part 1.
+// repair all use it; they sort by it, in the order of part 1. The entry node and the start of a bridge are the
+// nearest of some nodes (`Nearest`), by the comparison of numbers.
 //
 // specs/Vectors   the vectors, the distance of two nodes, the number that orders nodes by it
 // proofs/Laws     a distance is the same both ways
 ghost use Rattle.std.specs.Prelude.{◌≡◌};
 ghost use Rattle.std.specs.Float.{binary32};
+ghost use Rattle.std.specs.Float.Ieee.{lt};
+ghost use Rattle.basics.specs.Choice.{pick};
 ghost use Rattle.distance.specs.Distance.{distance_of};
 ghost use Rattle.distance.specs.Vectors.{vectors_of, vector_of, between};
 
@@ -42,5 +45,24 @@ impl<'a> Vectors<'a> {
         ensures { result ≡ between (vectors_of self.entry) a.0 b.0 }
     {
         self.distance_from(self.get(a), b)
+    }
+}
+
+// A node, and how far it is: the nearest so far, or one that may be nearer.
+#[derive(Clone, Copy)]
+pub struct Nearest {
+    pub node: Node,
+    pub distance: f32,
+}
+
+impl Nearest {
+    // The nearer of two: the other where its distance is below this one's, as numbers.
+    pub fn nearer(self, other: Nearest) -> Nearest
+        ensures { result ≡ pick (lt other.distance self.distance) other self }
+    {
+        if other.distance < self.distance {
+            return other;
+        }
+        self
     }
 }

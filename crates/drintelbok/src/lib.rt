@@ -10,7 +10,7 @@
 // included. What C adds has a definition in specs/: `new_from` (final_prune is a number), the structs
 // returned (specs/Given), and sizes of 0 for what `pipnn_new` refuses (specs/Sizes).
 //
-// kept: numbers of refusals, structs of numbers, and slices that stand beside each other, since they cross to C.
+// kept: each function is one of C's, with numbers of refusals, structs of numbers and slices beside each other.
 #![tactic(auto)]
 
 ghost use Rattle.std.specs.Prelude.{◌≡◌, length};

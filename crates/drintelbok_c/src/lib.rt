@@ -4,7 +4,7 @@
 // Each export passes its arguments on and returns what it gets, and its clause is that of the function that it calls. What
 // crosses to C is said there: slices as a pointer and a length, structs by their fields in order.
 //
-// kept: numbers of refusals, and slices that stand beside each other, since they cross to C.
+// kept: each function is one of C's, with numbers of refusals and slices beside each other.
 #![tactic(auto)]
 
 ghost use Rattle.std.specs.Prelude.{◌≡◌, length};

@@ -7,8 +7,6 @@
 ghost use Rattle.std.specs.Prelude.{◌≡◌, false};
 ghost use Rattle.error.specs.Inside.Refused.{number_of, answer_of};
 
-use std::fmt;
-
 #[derive(Clone, Copy, PartialEq, Eq, Debug)]
 pub enum Refusal {
     // The dimension is not 1 to 64.
@@ -43,17 +41,11 @@ pub enum Refusal {
 
 impl Refusal {
     // The number that C gets.
+    // kept (4): a `From` would not say which number it is.
     pub fn number(self) -> u32
         ensures { result ≡ number_of self }
     {
         self as u32
-    }
-}
-
-impl fmt::Display for Refusal {
-    fn fmt<W: fmt::Write>(&self, f: &mut fmt::Formatter<W>) -> fmt::Result {
-        let number = self.number();
-        write!(f, "refusal {number}")
     }
 }
 

@@ -13,8 +13,10 @@
 //
 // It uses `store` for the layout, `norm` for scaling, and `beam_search` for the walk, which it calls in one place.
 //
-// kept (5): stores, outputs and scratch go side by side, as the C functions pass them.
-// kept (6): doc ids and distances are two outputs, as the C functions pass them.
+// kept (5): a struct of four `&mut`, outputs and scratch, is no plainer: each contract then also has to say that each field still
+// holds the same reference.
+// kept (6): doc ids and distances go to two outputs of a C caller, and what a walk returns says how many of the nodes hold; the
+// scaled query is a buffer of the largest size, cut at a length that is known before, and no count grows.
 #![tactic(auto)]
 
 ghost use Rattle.std.specs.Prelude.{◌≡◌, true, map, ◌++◌, ℕ, ◌≤◌, min, max, length, take, drop};
@@ -32,9 +34,21 @@ use beam_search::{Reads, Sizes, Walked};
 use def_walk::Stops;
 use distance::vectors::Vectors;
 use lists::Shape;
+use neighbours::scoring::Scorer;
 use sorting::Keyed;
 use store::Layout;
 use words::ids::Node;
+use words::slices;
+
+// What is asked for: of the stores of an index, the nearest k nodes to a query, and when a walk stops.
+#[derive(Clone, Copy)]
+pub struct Request<'a> {
+    pub words: &'a [u32],
+    pub floats: &'a [f32],
+    pub query: &'a [f32],
+    pub k: u32,
+    pub stops: Stops,
+}
 
 // Where the parts of a built store stand that a walk reads, how many nodes an answer can have, and the numbers of
 // the store's header that a walk needs.
@@ -72,9 +86,9 @@ fn put_docs(words: &[u32], nodes: &[Keyed], docs: &mut [u32], count: usize)
     ensures { count ≤ length nodes.now → count ≤ length docs.old
         → docs.new ≡ map (doc_of words.now) (take count nodes.now) ++ drop count docs.old }
 {
-    let many = count.min(nodes.len().min(docs.len()));
-    for i in 0..many {
-        docs[i] = store::doc_of(words, Node(nodes[i].id)).0;
+    let many = count.min(nodes.len());
+    for (i, found) in nodes[..many].iter().enumerate() {
+        slices::put(docs, i, store::doc_of(words, Node(found.id)).0);
     }
 }
 
@@ -96,7 +110,10 @@ fn parts_of(words: &[u32], k: u32) -> Parts
         bridges_to: layout.bridge_at(store::word_at(words, store::BRIDGE_COUNT)),
         vectors_end: store::floats_size(n, dimension),
         answer: wanted(words, k),
-        shape: Shape { n, degree },
+        shape: Shape {
+            n: n as usize,
+            degree,
+        },
         dimension,
         entry: Node(store::word_at(words, store::ENTRY)),
     }
@@ -115,146 +132,129 @@ fn lies_in(parts: Parts, words: usize, floats: usize, nodes: usize, distances: u
         & (parts.answer <= distances)
 }
 
-// The walk of a scaled query over parts that lie in the stores. All nodes are live, so no words are needed to
-// say which are not.
-fn walk(
-    words: &[u32],
-    floats: &[f32],
-    scaled: &[f32],
-    parts: Parts,
-    places: u32,
-    stops: Stops,
-    answer: &mut [Keyed],
-    distances: &mut [f32],
-    scratch_words: &mut [u32],
-    scratch_floats: &mut [f32],
-) -> Walked
-    requires { lies_in parts (length words.now) (length floats.now) (length answer.old) (length distances.old) ≡ true }
-    ensures { (k : ℕ) → PartsIn words.now k parts
-        → Checked (length scratch_words.old) (length scratch_floats.old)
-        words.now floats.now scaled.now k (length answer.old) (length distances.old)
-        → nodes_with result answer.new distances.new
-        ≡ nodes_by stops (far_from scaled.now (view words.now floats.now).vectors)
-        (view words.now floats.now) k places answer.old distances.old }
-{
-    let reads = Reads {
-        query: scaled,
-        vectors: Vectors {
-            components: &floats[..parts.vectors_end],
-            dimension: parts.dimension,
-        },
-        rows: &words[parts.rows_from..parts.rows_to],
-        bridges: &words[parts.bridges_from..parts.bridges_to],
-        withdrawn: &[],
-    };
-    let sizes = Sizes {
-        shape: parts.shape,
-        entry: parts.entry,
-        places,
-        stops,
-    };
-    let room = parts.answer;
-    beam_search::beam_search(
-        reads,
-        sizes,
-        &mut answer[..room],
-        &mut distances[..room],
-        scratch_words,
-        scratch_floats,
-    )
-}
-
-// The nearest k of the nodes that a walk with `places` places and these stop numbers scores, all if fewer. They, each with
-// its key, and their distances go to the front of the two outputs, nearest first; what lies past them stays. A
-// checked query has at most 64 components.
-// kept (1): counts of 0, not an Option: a caller has checked the store, and has no refusal for the other case.
-pub fn find_nodes(
-    words: &[u32],
-    floats: &[f32],
-    query: &[f32],
-    k: u32,
-    places: u32,
-    stops: Stops,
-    answer: &mut [Keyed],
-    distances: &mut [f32],
-    scratch_words: &mut [u32],
-    scratch_floats: &mut [f32],
-) -> Walked
-    ensures { Checked (length scratch_words.old) (length scratch_floats.old)
-        words.now floats.now query.now k (length answer.old) (length distances.old)
-        → nodes_with result answer.new distances.new
-        ≡ nodes_found stops (view words.now floats.now) query.now k places answer.old distances.old }
-{
-    let components = query.len();
-    if components > params::MOST_DIMENSION as usize {
-        return Walked {
-            count: 0,
-            scored: 0,
+impl<'a> Request<'a> {
+    // The walk of a scaled query over parts that lie in the stores. All nodes are live, so no words are needed to
+    // say which are not.
+    fn walk(
+        self,
+        parts: Parts,
+        places: u32,
+        answer: &mut [Keyed],
+        distances: &mut [f32],
+        scratch_words: &mut [u32],
+        scratch_floats: &mut [f32],
+    ) -> Walked
+        requires { lies_in parts (length self.words.now) (length self.floats.now) (length answer.old) (length distances.old) ≡ true }
+        ensures { (k : ℕ) → PartsIn self.entry.words.now k parts
+            → Checked (length scratch_words.old) (length scratch_floats.old)
+            self.entry.words.now self.entry.floats.now self.entry.query.now k (length answer.old) (length distances.old)
+            → nodes_with result answer.new distances.new
+            ≡ nodes_by self.entry.stops (far_from self.entry.query.now (view self.entry.words.now self.entry.floats.now).vectors)
+            (view self.entry.words.now self.entry.floats.now) k places answer.old distances.old }
+    {
+        let scorer = Scorer {
+            query: self.query,
+            vectors: Vectors {
+                components: &self.floats[..parts.vectors_end],
+                dimension: parts.dimension,
+            },
         };
-    }
-    let parts = parts_of(words, k);
-    let lies = lies_in(
-        parts,
-        words.len(),
-        floats.len(),
-        answer.len(),
-        distances.len(),
-    );
-    if !lies {
-        return Walked {
-            count: 0,
-            scored: 0,
+        let sizes = Sizes {
+            shape: parts.shape,
+            entry: parts.entry,
+            places,
+            stops: self.stops,
         };
+        let reads = Reads {
+            scorer,
+            rows: &self.words[parts.rows_from..parts.rows_to],
+            bridges: &self.words[parts.bridges_from..parts.bridges_to],
+            withdrawn: &[],
+            sizes,
+        };
+        let room = parts.answer;
+        beam_search::beam_search(
+            reads,
+            &mut answer[..room],
+            &mut distances[..room],
+            scratch_words,
+            scratch_floats,
+        )
     }
-    let mut room = [0.0f32; 64];
-    scale_into(&mut room[..components], query);
-    walk(
-        words,
-        floats,
-        &room[..components],
-        parts,
-        places,
-        stops,
-        answer,
-        distances,
-        scratch_words,
-        scratch_floats,
-    )
-}
 
-// The same with max(ef, k) places, and with the doc ids of the nodes. The nodes stand in a local array of 8 KB, and
-// the output never holds a node.
-pub fn find(
-    words: &[u32],
-    floats: &[f32],
-    query: &[f32],
-    k: u32,
-    ef: u32,
-    stops: Stops,
-    docs: &mut [u32],
-    distances: &mut [f32],
-    scratch_words: &mut [u32],
-    scratch_floats: &mut [f32],
-) -> Walked
-    ensures { Checked (length scratch_words.old) (length scratch_floats.old)
-        words.now floats.now query.now k (length docs.old) (length distances.old)
-        → docs_with result docs.new distances.new
-        ≡ reply_of stops (view words.now floats.now) query.now k ef docs.old distances.old }
-{
-    let places = ef.max(k);
-    let mut nodes = [Keyed { key: 0, id: 0 }; 1024];
-    let walked = find_nodes(
-        words,
-        floats,
-        query,
-        k,
-        places,
-        stops,
-        &mut nodes[..],
-        distances,
-        scratch_words,
-        scratch_floats,
-    );
-    put_docs(words, &nodes[..], docs, walked.count as usize);
-    walked
+    // The nearest k of the nodes that a walk with `places` places scores, all if fewer. They, each with its key, and
+    // their distances go to the front of the two outputs, nearest first; what lies past them stays. A checked query
+    // has at most 64 components.
+    // kept (1): counts of 0, not an Option: a caller has checked the store, and has no refusal for the other case.
+    pub fn find_nodes(
+        self,
+        places: u32,
+        answer: &mut [Keyed],
+        distances: &mut [f32],
+        scratch_words: &mut [u32],
+        scratch_floats: &mut [f32],
+    ) -> Walked
+        ensures { Checked (length scratch_words.old) (length scratch_floats.old)
+            self.entry.words.now self.entry.floats.now self.entry.query.now self.entry.k (length answer.old) (length distances.old)
+            → nodes_with result answer.new distances.new
+            ≡ nodes_found self.entry.stops (view self.entry.words.now self.entry.floats.now) self.entry.query.now self.entry.k places answer.old distances.old }
+    {
+        let components = self.query.len();
+        if components > params::MOST_DIMENSION as usize {
+            return Walked::default();
+        }
+        let parts = parts_of(self.words, self.k);
+        let lies = lies_in(
+            parts,
+            self.words.len(),
+            self.floats.len(),
+            answer.len(),
+            distances.len(),
+        );
+        if !lies {
+            return Walked::default();
+        }
+        let mut room = [0.0f32; 64];
+        scale_into(&mut room[..components], self.query);
+        let scaled = Request {
+            query: &room[..components],
+            ..self
+        };
+        scaled.walk(
+            parts,
+            places,
+            answer,
+            distances,
+            scratch_words,
+            scratch_floats,
+        )
+    }
+
+    // The same with max(ef, k) places, and with the doc ids of the nodes. The nodes stand in a local array of 8 KB, and
+    // the output never holds a node.
+    pub fn find(
+        self,
+        ef: u32,
+        docs: &mut [u32],
+        distances: &mut [f32],
+        scratch_words: &mut [u32],
+        scratch_floats: &mut [f32],
+    ) -> Walked
+        ensures { Checked (length scratch_words.old) (length scratch_floats.old)
+            self.entry.words.now self.entry.floats.now self.entry.query.now self.entry.k (length docs.old) (length distances.old)
+            → docs_with result docs.new distances.new
+            ≡ reply_of self.entry.stops (view self.entry.words.now self.entry.floats.now) self.entry.query.now self.entry.k ef docs.old distances.old }
+    {
+        let places = ef.max(self.k);
+        let mut nodes = [Keyed { key: 0, id: 0 }; 1024];
+        let walked = self.find_nodes(
+            places,
+            &mut nodes[..],
+            distances,
+            scratch_words,
+            scratch_floats,
+        );
+        put_docs(self.words, &nodes[..], docs, walked.count as usize);
+        walked
+    }
 }

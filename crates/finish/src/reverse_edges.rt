@@ -37,6 +37,7 @@ fn add_backs(rows: &mut [u32], degree: u16, node: Node)
 }
 
 // The node goes to the row of one neighbour. A neighbour that is not there is passed over.
+// kept (2): `build_leaf` cuts a row so too; a function that returns the part is no plainer: its contract also says what the rows are once it is written.
 fn add_back(rows: &mut [u32], degree: u16, node: Node, nb: Node)
     ensures { BackAdded degree node.0 nb.0 rows.old rows.new }
 {

@@ -86,7 +86,7 @@ fn leaves_are_same(mut answer: Tokens<'_>, found: Leaves<'_>) -> bool {
 pub fn leaves_is_same(line: Line<'_>, room: &mut [f32]) -> bool {
     let mut question = line.question();
     let asked = Asked::read(&mut question);
-    let components = question.read_into(line.asked().saturating_sub(5), room);
+    let components = question.read_into(line.asked.saturating_sub(5), room);
     let mut words = histories::patterns::scattered::<u32, 65536>();
     let found = carve(&asked, components, &mut words);
     leaves_are_same(line.answer(), found)

@@ -40,11 +40,7 @@ fn found_is_same(
     docs: &[u32],
     distances: &[f32],
 ) -> bool {
-    let nothing = Walked {
-        count: 0,
-        scored: 0,
-    };
-    let walked = found.unwrap_or(nothing);
+    let walked = found.unwrap_or_default();
     let count = walked.count as usize;
     answer.is(found.map(|_| ()))
         && answer.is(walked.count)

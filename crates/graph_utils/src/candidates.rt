@@ -10,16 +10,9 @@ ghost use Rattle.lists.specs.Inside.Lists.{list_in};
 ghost use Rattle.distance.specs.Vectors.{vectors_of};
 ghost use Rattle.graph_utils.specs.Inside.Candidates.{seeking, considered, considered_all, start_of};
 
-use distance::vectors::Vectors;
+use distance::vectors::{Nearest, Vectors};
 use lists::chains::Lists;
 use words::ids::Node;
-
-// The nearest node so far, and how far it is.
-#[derive(Clone, Copy)]
-pub struct Nearest {
-    pub node: Node,
-    pub distance: f32,
-}
 
 // What candidates for a bridge to a node are found and compared by: the nodes' lists, their marks, their vectors, and
 // the node's own vector, the query.
@@ -72,18 +65,17 @@ impl<'a> Seeker<'a> {
             .fold(best, |near, c| self.consider(near, c))
     }
 
-    // A candidate is the nearest where it is reached and its distance is below the distance so far, as numbers.
+    // A candidate that is reached is the nearest where it is nearer than the nearest so far.
     fn consider(self, best: Nearest, c: Node) -> Nearest
         ensures { result ≡ considered (seeking self.entry) c.0 best }
     {
         let mark = store::word_at(self.marks, c.0 as usize);
-        if (self.lists.shape.n <= c.0) | (mark == 0) {
+        if (self.lists.shape.n <= c.0 as usize) | (mark == 0) {
             return best;
         }
-        let distance = self.vectors.distance_from(self.query, c);
-        if distance < best.distance {
-            return Nearest { node: c, distance };
-        }
-        best
+        best.nearer(Nearest {
+            node: c,
+            distance: self.vectors.distance_from(self.query, c),
+        })
     }
 }

@@ -28,6 +28,7 @@ use words::slices;
 
 // Builds the bridges that make every node reachable from the entry, and returns how many there are. `words`
 // is scratch for four words a node.
+// kept (1): a count of 0, not an Option: a caller has checked the sizes, and has no refusal for the other case.
 pub fn ensure_connectivity(
     rows: &[u32],
     degree: u16,
@@ -43,10 +44,7 @@ pub fn ensure_connectivity(
     if n > 1024 {
         return 0;
     }
-    let shape = Shape {
-        n: n as u32,
-        degree,
-    };
+    let shape = Shape { n, degree };
     let mut state = [0u32; 2048];
     let index = Index {
         shape,
@@ -68,7 +66,7 @@ struct Index<'a> {
 
 impl<'a> Index<'a> {
     // The bridges, with links and marks passed in.
-    // kept (6): links and marks are scratch; a struct of three `&mut` is no plainer: each method then says what of it stays.
+    // kept (6): links and marks are words of the caller's scratch and of a local array, as `lists::chains` and `marking` take them; a struct of three `&mut` is no plainer: each contract then also has to say that each field still holds the same reference.
     fn repair(self, bridges: &mut [u32], links: &mut [u32], state: &mut [u32]) -> u32
         requires { self.shape.n ≤ 1024 }
         ensures { work result bridges.new links.new state.new ≡ repaired_in self.entry bridges.old links.old state.old }
@@ -82,7 +80,7 @@ impl<'a> Index<'a> {
         };
         marking::mark_reachable(lists, state, self.entry);
         let mut count: u32 = 0;
-        for i in 0..self.shape.n {
+        for i in 0..self.shape.n as u32 {
             count = self.turn(bridges, links, state, count, i);
         }
         count

@@ -22,19 +22,20 @@ pub fn mark_reachable(lists: Lists, state: &mut [u32], start: Node)
     let n = lists.shape.n;
     let mut top = visit(state, n, 0, start.0);
     // no node comes onto the stack twice, so n turns are enough
+    // kept (3): a stack, which grows in between.
     'turns: for _ in 0..n {
         if top == 0 {
             return;
         }
         top -= 1;
-        let u = Node(store::word_at(state, n as usize + top as usize));
+        let u = Node(store::word_at(state, n.saturating_add(top)));
         top = visit_list(lists, state, top, u);
     }
 }
 
 // Visits the nodes of a node's list.
-// kept (6): a struct of `state`, n and top is no plainer, here and in `visit`: each method then says what of it stays.
-fn visit_list(lists: Lists, state: &mut [u32], top: u32, u: Node) -> u32
+// kept (6): a struct of `state`, n and top is no plainer, here and in `visit`: each contract then also has to say that the field still holds the same reference.
+fn visit_list(lists: Lists, state: &mut [u32], top: usize, u: Node) -> usize
     ensures { marks state.new result
         ≡ visited_all lists.entry.shape.n (list_in lists.entry u.0) (marks state.old top) }
 {
@@ -46,13 +47,13 @@ fn visit_list(lists: Lists, state: &mut [u32], top: u32, u: Node) -> u32
 }
 
 // Marks a node and puts it on the stack, if it is not marked. The number of nodes on the stack is returned.
-fn visit(state: &mut [u32], n: u32, top: u32, v: u32) -> u32
+fn visit(state: &mut [u32], n: usize, top: usize, v: u32) -> usize
     ensures { marks state.new result ≡ visited n v (marks state.old top) }
 {
     let mark = store::word_at(state, v as usize);
-    if (v < n) & (mark == 0) & (top < n) {
+    if ((v as usize) < n) & (mark == 0) & (top < n) {
         slices::put(state, v as usize, 1);
-        slices::put(state, n as usize + top as usize, v);
+        slices::put(state, n.saturating_add(top), v);
         return top + 1;
     }
     top

@@ -10,21 +10,22 @@
 // `hashprune_insert` is total. That its row is `merged .. (selected ..)` of `def_graph` holds where the
 // caller prepared what `Turn` of specs/Inside/Hashprune says, planes among it. specs/Inside/Steps has what the steps say of
 // each other.
-//
-// kept (6): arrays are of the largest size, since there is no heap, and a count says how much of one holds.
 #![tactic(auto)]
 
 ghost use Rattle.std.specs.Prelude.{◌≡◌, map, ◌+◌, ◌-◌, ◌≤◌, ◌<◌, leb, length, get_or, set, take, drop};
 ghost use Rattle.std.specs.List.{position};
+ghost use Rattle.basics.specs.Sum.{+zero};
 ghost use Rattle.distance.specs.Vectors.{vectors_of, vector_of};
 ghost use Rattle.sorting.specs.Inside.Pairs.{id_in, put_front};
 ghost use Rattle.def_graph.specs.Leaf.{put_cell, dedup, starts_with};
 ghost use Rattle.store.specs.View.{row_block};
+ghost use Rattle.arrayvec.specs.ArrayVec.{array_vec_len};
 ghost use Rattle.hashprune.specs.Inside.Steps.{no_cell, place_in, cell_in, cells_in, far_at, winner, ContestRoom, hash_by, cells_of};
-ghost use Rattle.hashprune.specs.Inside.Steps.{CellRoom, PlaceRoom, RowRoom, SelectRoom, Selected, MergeRoom, TurnRoom, row_after};
+ghost use Rattle.hashprune.specs.Inside.Steps.{PlaceRoom, RowRoom, SelectRoom, Selected, MergeRoom, TurnRoom, row_after};
 ghost use Rattle.hashprune.specs.Inside.Steps.{ranked_place, selected_pairs, old_pairs, merged_pairs};
 ghost use Rattle.hashprune.specs.Inside.Hashprune.{Inserted};
 
+use arrayvec::ArrayVec;
 use distance::order;
 use distance::vectors::Vectors;
 use sorting::Keyed;
@@ -44,6 +45,18 @@ pub struct Candidate {
     pub far: f32,
 }
 
+// What fills a place of an array that no candidate has.
+impl Default for Candidate {
+    fn default() -> Self
+        ensures { result ≡ record { node = record { 0 = 0 }; far = +zero } }
+    {
+        Candidate {
+            node: Node(0),
+            far: 0.0,
+        }
+    }
+}
+
 // What comes to a node's row in its turn: the candidates, at most 64 nodes in their order; the vectors of the index and the
 // blocks of hyperplanes, by which they are hashed.
 #[derive(Clone, Copy)]
@@ -55,13 +68,14 @@ pub struct Offer<'a> {
 }
 
 // A hash, and the place of the candidate that holds its cell.
-#[derive(Clone, Copy)]
+#[derive(Clone, Copy, Default)]
 struct Cell {
     hash: u32,
     place: u32,
 }
 
 // The hash of a candidate's residual, seen from p.
+// kept (6): a buffer of the largest size, cut at a length that is known before; no count grows.
 fn hash_of(p: &[f32], c: &[f32], planes: &[f32], bits: u32) -> u32
     ensures { result ≡ hash_by planes.now bits p.now c.now }
 {
@@ -90,31 +104,28 @@ fn contest(cells: &mut [Cell], at: usize, place: u32, candidates: &[Candidate])
     }
 }
 
-// A candidate comes to its cell. Returns how many cells are taken then.
-fn put_cell(cells: &mut [Cell], held: usize, new: Cell, candidates: &[Candidate]) -> usize
-    requires { ContestRoom held new cells.old candidates.now }
-    ensures { (result ≤ held + 1)
-        × (cells_in result cells.new ≡ put_cell (far_at candidates.now) (cell_in new) (cells_in held cells.old)) }
+// A candidate comes to its cell.
+fn put_cell(cells: &mut ArrayVec<Cell, 64>, new: Cell, candidates: &[Candidate])
+    requires { ContestRoom new cells.old.items candidates.now }
+    ensures { (array_vec_len cells.new ≤ array_vec_len cells.old + 1)
+        × (cells_in cells.new.items ≡ put_cell (far_at candidates.now) (cell_in new) (cells_in cells.old.items)) }
 {
-    let at = place_of(&cells[..held], new.hash).unwrap_or(held);
-    if at < held && cells[at].hash == new.hash {
-        contest(cells, at, new.place, candidates);
-        return held;
+    let at = place_of(cells.as_slice(), new.hash).unwrap_or(cells.len());
+    if at < cells.len() && cells.as_slice()[at].hash == new.hash {
+        contest(cells.as_mut_slice(), at, new.place, candidates);
+        return;
     }
-    cells.copy_within(at..held, at + 1);
-    cells[at] = new;
-    held + 1
+    cells.insert(at, new);
 }
 
-// The cells after all candidates have come, in their order, at the front of a slice. Returns how many
-// there are.
-fn fill_cells(offer: Offer, cells: &mut [Cell]) -> usize
-    requires { CellRoom (length offer.candidates.now) cells.old }
-    ensures { (result ≤ length offer.entry.candidates.now) × (cells_in result cells.new
+// The cells after all candidates have come, in their order.
+fn cells_after(offer: Offer) -> ArrayVec<Cell, 64>
+    requires { length offer.candidates.now ≤ 64 }
+    ensures { (array_vec_len result ≤ length offer.entry.candidates.now) × (cells_in result.items
         ≡ cells_of offer.entry.point offer.entry.vectors offer.entry.planes.now offer.entry.candidates.now) }
 {
     let p = offer.vectors.get(offer.point.node);
-    let mut held = 0;
+    let mut cells = ArrayVec::new();
     for (i, candidate) in offer.candidates.iter().enumerate() {
         let hash = hash_of(
             p,
@@ -126,9 +137,9 @@ fn fill_cells(offer: Offer, cells: &mut [Cell]) -> usize
             hash,
             place: i as u32,
         };
-        held = put_cell(cells, held, cell, offer.candidates);
+        put_cell(&mut cells, cell, offer.candidates);
     }
-    held
+    cells
 }
 
 // The nodes of the candidates that hold cells, with the keys of their distances, at the front of a slice.
@@ -170,7 +181,7 @@ fn begins_with(pairs: &[Keyed], id: u32) -> bool
 
 // Of neighbours with equal ids one stays: what is left stands at the end, from the place returned on. From
 // the end, as the definition goes; which of equals stays makes no difference.
-// kept: std's `dedup_by_key` is of a Vec, and there is none here
+// kept (3): std's `dedup_by_key` is of a Vec, which takes its memory from an allocator, and there is none here.
 fn dedup(pairs: &mut [Keyed]) -> usize
     ensures { (result ≤ length pairs.old) × (map id_in (drop result pairs.new) ≡ dedup (map id_in pairs.old)) }
 {
@@ -205,9 +216,9 @@ fn select(offer: Offer, pairs: &mut [Keyed], spare: &mut [Keyed]) -> usize
     ensures { Selected (selected_pairs offer.entry.point offer.entry.vectors offer.entry.planes.now offer.entry.candidates.now)
         (length offer.entry.candidates.now) result pairs.old pairs.new }
 {
-    let mut cells = [Cell { hash: 0, place: 0 }; 64];
-    let held = fill_cells(offer, &mut cells);
-    rank_places(offer.candidates, &cells[..held], pairs);
+    let cells = cells_after(offer);
+    rank_places(offer.candidates, cells.as_slice(), pairs);
+    let held = cells.len();
     sorting::sort_pairs(&mut pairs[..held], spare);
     held
 }
@@ -223,6 +234,8 @@ fn merge_row(pairs: &mut [Keyed], spare: &mut [Keyed], row: &mut [u32])
 }
 
 // The turn of a node, where sizes fit: the row's entries come first, then what is selected.
+// kept (6): an ArrayVec of pairs is no plainer: where the row's pairs end is still needed, to sort those behind them alone,
+// and its `truncate` also writes over each pair that is cut off.
 fn insert_fitting(offer: Offer, row: &mut [u32])
     requires { TurnRoom offer.candidates.now row.old }
     ensures { row.new ≡ row_after offer.entry.point offer.entry.vectors offer.entry.planes.now offer.entry.candidates.now row.old }

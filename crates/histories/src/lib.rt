@@ -5,8 +5,8 @@
 // Here are the lines that prepare, those of `new` and add, and those that ask for what the stores hold; the
 // crate graph_histories has those of builds and searches, and of leaves. Each method below is for one kind of
 // line, which is shown above it; those whose names end in `_is_same` compute the answer by this project's calls
-// and say whether it is the recorded one. All are proved safe on lines and stores of any content, and nothing
-// more.
+// and say whether it is the recorded one. All are proved safe on lines and stores of any content, and contracts
+// say which tokens are read and what is passed to calls.
 //
 // memory     memory of which a part is passed to calls
 // patterns   what `fill` puts into the stores, and the scratch of a call
@@ -53,16 +53,18 @@ fn params_asked(question: &mut Tokens<'_>) -> PipnnParams {
     }
 }
 
-impl Stores {
-    // Before the first `fill`.
-    pub fn new() -> Self {
+// Before the first `fill`.
+impl Default for Stores {
+    fn default() -> Self {
         Stores {
             words: Memory::new(),
             floats: Memory::new(),
             nan: None,
         }
     }
+}
 
+impl Stores {
     // fill W F seed
     // kept (2): it shares with `set_word` the reading of a question, and no step.
     pub fn fill(&mut self, line: Line<'_>) {

@@ -1,4 +1,6 @@
 // Memory of which a part is passed to calls: a store, or scratch.
+ghost use Rattle.std.specs.Prelude.{◌≡◌, min, length, take};
+
 use crate::patterns;
 use crate::patterns::Patterned;
 
@@ -12,7 +14,7 @@ pub struct Memory<T, const N: usize> {
 
 impl<T: Patterned, const N: usize> Memory<T, N> {
     // All of it zero, and nothing passed to calls.
-    pub fn new() -> Self {
+    pub(crate) fn new() -> Self {
         Memory {
             all: patterns::zeros(),
             made: 0,
@@ -21,7 +23,9 @@ impl<T: Patterned, const N: usize> Memory<T, N> {
     }
 
     // What a call must not depend on: patterns, of which n elements are passed to it.
-    pub fn scratch(n: usize) -> Self {
+    pub(crate) fn scratch(n: usize) -> Self
+        ensures { result.lent ≡ n }
+    {
         Memory {
             all: patterns::scattered(),
             made: 0,
@@ -29,38 +33,46 @@ impl<T: Patterned, const N: usize> Memory<T, N> {
         }
     }
 
-    // Makes n elements anew, from a seed on, and passes them to calls.
-    pub fn fill(&mut self, n: usize, seed: u64) {
+    // Fills n elements from a seed on, and passes them to calls.
+    pub fn fill(&mut self, n: usize, seed: u64)
+        ensures { (self.new.made ≡ n) × (self.new.lent ≡ n) }
+    {
         self.made = n;
-        self.lent = n;
-        patterns::scatter(self.lent_mut(), seed);
+        self.lend(n);
+        patterns::scatter(&mut self.all[..n.min(N)], seed);
     }
 
     // Passes n elements to the calls that follow, or all if there are fewer.
-    pub fn lend(&mut self, n: usize) {
+    pub fn lend(&mut self, n: usize)
+        ensures { self.new ≡ record self.old { lent = n } }
+    {
         self.lent = n;
     }
 
-    pub fn set(&mut self, i: usize, x: T) {
+    pub(crate) fn set(&mut self, i: usize, x: T) {
         if let Some(place) = self.all.get_mut(i) {
             *place = x;
         }
     }
 
-    pub fn all(&self) -> &[T] {
+    pub(crate) fn all(&self) -> &[T] {
         &self.all
     }
 
     // kept (2): one call of `front`, here and in `lent`.
-    pub fn made(&self) -> &[T] {
+    pub(crate) fn made(&self) -> &[T] {
         replay::front(&self.all, self.made)
     }
 
-    pub fn lent(&self) -> &[T] {
+    pub fn lent(&self) -> &[T]
+        ensures { result.now ≡ take self.now.lent self.now.all }
+    {
         replay::front(&self.all, self.lent)
     }
 
-    pub fn lent_mut(&mut self) -> &mut [T] {
+    pub fn lent_mut(&mut self) -> &mut [T]
+        ensures { length result.now ≡ min self.old.lent N }
+    {
         let n = self.lent.min(N);
         let all = &mut self.all;
         &mut all[..n]

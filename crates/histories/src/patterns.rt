@@ -1,5 +1,8 @@
 // What `fill` puts into the stores, and what scratch and outputs hold before a call: patterns that are not zero,
 // so that what a call finds in them is not, and what it must leave alone shows.
+ghost use Rattle.std.specs.Prelude.{◌≡◌, ◌≤◌, true, length};
+ghost use Rattle.replay.specs.Inside.Reading.{next_of, moved};
+
 use crate::memory::Memory;
 use replay::tokens::{Recorded, Token, Tokens};
 
@@ -47,7 +50,9 @@ pub(crate) fn zeros<T: Patterned, const N: usize>() -> [T; N] {
 }
 
 // Whether all past the first `count` are as `scattered` made them.
-pub fn are_kept<T: Patterned>(xs: &[T], count: usize) -> bool {
+pub fn are_kept<T: Patterned>(xs: &[T], count: usize) -> bool
+    ensures { length xs.now ≤ count → result ≡ true }
+{
     xs.iter()
         .enumerate()
         .skip(count)
@@ -68,7 +73,10 @@ pub struct Scratch {
 
 impl Scratch {
     // As much as a question's next tokens, SW SF, say.
-    pub fn asked(question: &mut Tokens<'_>) -> Self {
+    pub fn asked(question: &mut Tokens<'_>) -> Self
+        ensures lent { (result.words.lent ≡ next_of question.old) × (result.floats.lent ≡ next_of (moved 1 question.old)) }
+        ensures moved { question.new ≡ moved 2 question.old }
+    {
         Scratch {
             words: Memory::scratch(question.read()),
             floats: Memory::scratch(question.read()),

@@ -1,4 +1,7 @@
 // The vectors that a seed and a style determine (recorded/README.md, "Generated vectors").
+ghost use Rattle.std.specs.Prelude.{◌≡◌};
+ghost use Rattle.replay.specs.Inside.Reading.{moved};
+
 use random::lcg;
 use replay::tokens::{Token, Tokens};
 
@@ -67,7 +70,9 @@ pub struct Vectors {
 
 impl Vectors {
     // Those of a question's next tokens, SEED STYLE.
-    pub fn asked(question: &mut Tokens<'_>) -> Self {
+    pub fn asked(question: &mut Tokens<'_>) -> Self
+        ensures { question.new ≡ moved 2 question.old }
+    {
         let seed = question.read();
         Vectors {
             seed,

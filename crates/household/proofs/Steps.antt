@@ -4,15 +4,16 @@ use mathlib.Core.Path.{◌≡◌, refl, sym, ap, ◌∙◌}
 use mathlib.Core.Bool.{Bool, true, false, not, ◌||◌, or_assoc, or-false}
 use mathlib.Core.List.{List, [], ◌∷◌, ◌++◌, append-nil}
 use mathlib.Core.Logic.{◌⊎◌, inl, inr}
-use Prim.Native.Nat.{ℕ, ◌+◌, ◌≤◌, ◌<◌}
-use native.Mathlib.Nat.{add-zero}
+use Prim.Native.Nat.{ℕ, ◌+◌, ◌-◌, ◌≤◌, ◌<◌}
 use native.Mathlib.Numerals.{add-one}
 use native.Mathlib.Omega.{arith}
 use lib.Dec.{eqb}
-use lib.ListN.{length, get_or, take, drop, set, drop_of_length-le}
-use lib.Seq.{drop-cons, append_snoc, take-set-le, take-suc-set}
+use lib.ListN.{length, get_or, take, drop, length-drop, drop_of_length-le}
+use lib.Seq.{take-length, drop-cons, append_snoc}
 use mir.Val.{bool_byte}
-use Rattle.basics.specs.Choice.{pick}
+use Rattle.std.specs.List.{fold}
+use borrow.Author.Tests.{eq-eqb, ne_eqb}
+use Rattle.basics.specs.Choice.{pick, pick_true, pick_false}
 use Rattle.basics.specs.Nodes.{has}
 use Rattle.household.specs.Day.{day_of}
 use Rattle.household.specs.Household.{docs_on, different}
@@ -23,19 +24,19 @@ at_most_one false = omega arith
 
 -- ---- gathering: what is gathered, then the doc ids of the sightings that are left, are those of all
 
-stored : (b : Bool) (today rest : List ℕ) (n doc : ℕ) → n < length today
-    → take (n + bool_byte b) (set today n doc) ++ rest ≡ take n today ++ pick b (doc ∷ rest) rest
-unfolding pick
-stored true today rest n doc h = ap (λ (k : ℕ). take k (set today n doc) ++ rest) (add-one n) ∙ ap (λ (l : List ℕ). l ++ rest) (take-suc-set today n doc h) ∙ append_snoc (take n today) doc rest
-stored false today rest n doc h = ap (λ (k : ℕ). take k (set today n doc) ++ rest) (add-zero n) ∙ ap (λ (l : List ℕ). l ++ rest) (take-set-le n today n doc (omega arith))
+module _ (day second doc its : ℕ) (front ss ds seconds docs all : List ℕ) (day_is : its ≡ day_of second) (s : ss ≡ second ∷ seconds) (d : ds ≡ doc ∷ docs)
+    (so : front ++ docs_on day ss ds ≡ all) where
+  pub gathered : its ≡ day → (front ++ (doc ∷ [])) ++ docs_on day seconds docs ≡ all
+  unfolding docs_on
+  gathered h =
+      let here : docs_on day ss ds ≡ doc ∷ docs_on day seconds docs = rw (s, d, ← day_is) (pick_true _ _ (eq-eqb its day h)) in
+      append_snoc front doc (docs_on day seconds docs) ∙ ap (λ (r : List ℕ). front ++ r) (sym here) ∙ so
 
-pub gather_step : (day second doc its more n : ℕ) (today ss ds seconds docs all : List ℕ) → n < length today → its ≡ day_of second → more ≡ bool_byte (eqb its day)
-    → ss ≡ second ∷ seconds → ds ≡ doc ∷ docs → take n today ++ docs_on day ss ds ≡ all → take (n + more) (set today n doc) ++ docs_on day seconds docs ≡ all
-unfolding docs_on
-gather_step day second doc its more n today ss ds seconds docs all h q m s d e =
-    let here : pick (eqb its day) (doc ∷ docs_on day seconds docs) (docs_on day seconds docs) ≡ docs_on day ss ds = rw (q, s, d) in
-    ap (λ (k : ℕ). take (n + k) (set today n doc) ++ docs_on day seconds docs) m
-    ∙ stored (eqb its day) today (docs_on day seconds docs) n doc h ∙ ap (λ (r : List ℕ). take n today ++ r) here ∙ e
+  pub passed_over : (its ≡ day → ⊥) → front ++ docs_on day seconds docs ≡ all
+  unfolding docs_on
+  passed_over h =
+      let here : docs_on day ss ds ≡ docs_on day seconds docs = rw (s, d, ← day_is) (pick_false _ _ (ne_eqb its day h)) in
+      ap (λ (r : List ℕ). front ++ r) (sym here) ∙ so
 
 none_left : (day : ℕ) (seconds docs : List ℕ) → (length seconds ≡ 0) ⊎ (length docs ≡ 0) → docs_on day seconds docs ≡ []
 unfolding docs_on
@@ -54,23 +55,22 @@ unfolding pick
 counted true x rest = omega arith
 counted false x rest = omega arith
 
-pub count_one : (x : ℕ) (rest others : List ℕ) (again : Bool) → rest ≡ x ∷ others → again ≡ has x others
-    → length (different rest) ≡ bool_byte (not again) + length (different others)
+pub count_one : (xs : List ℕ) (i : ℕ) (again : Bool) → i < length xs → again ≡ has (get_or xs i 0) (take (length xs - (i + 1)) (drop (i + 1) xs))
+    → length (different (drop i xs)) ≡ bool_byte (not again) + length (different (drop (i + 1) xs))
 unfolding different
-count_one x rest others again s e = rw (s, e) (counted (has x others) x (different others))
+count_one xs i again h e =
+    let rest : List ℕ = drop (i + 1) xs in
+    let here : again ≡ has (get_or xs i 0) rest = e ∙ rw (← (length-drop (i + 1) xs), take-length rest) in
+    let first : drop i xs ≡ get_or xs i 0 ∷ rest = rw (add-one i) (drop-cons xs i 0 h) in
+    rw (first, here) (counted (has (get_or xs i 0) rest) (get_or xs i 0) (different rest))
 
-pub none_different : (xs : List ℕ) → length xs ≡ 0 → length (different xs) ≡ 0
+pub none_different : (xs : List ℕ) (i : ℕ) → length xs ≤ i → length (different (drop i xs)) ≡ 0
 unfolding different
-none_different [] h = refl
-none_different (x ∷ xs) h = absurd (omega (arith, h))
+none_different xs i h = rw (drop_of_length-le xs h) refl
 
--- ---- looking for a number: found so far, or from i on
+-- ---- looking for a number
 
-pub look_step : (x : ℕ) (xs : List ℕ) (i : ℕ) (found all : Bool) → i < length xs → (found || has x (drop i xs)) ≡ all
-    → (found || eqb x (get_or xs i 0) || has x (drop (i + 1) xs)) ≡ all
+pub fold_of_looks : (x : ℕ) (found : Bool) (xs : List ℕ) → fold (λ (b : Bool) (y : ℕ). b || eqb x y) found xs ≡ (found || has x xs)
 unfolding has
-look_step x xs i found all h e = or_assoc found (eqb x (get_or xs i 0)) (has x (drop (i + 1) xs)) ∙ rw (add-one i) (rw (drop-cons xs i 0) at e)
-
-pub look_end : (x : ℕ) (xs : List ℕ) (i : ℕ) (found all : Bool) → length xs ≤ i → (found || has x (drop i xs)) ≡ all → found ≡ all
-unfolding has
-look_end x xs i found all h e = sym (or-false found) ∙ (rw (drop_of_length-le xs h) at e)
+fold_of_looks x found [] = sym (or-false found)
+fold_of_looks x found (y ∷ ys) = fold_of_looks x (found || eqb x y) ys ∙ or_assoc found (eqb x y) (has x ys)

@@ -6,8 +6,7 @@
 // `household_count` equals `household_of` of specs/Household, for lists of any length; that this is the
 // number of different doc ids is `counts_each_once` of proofs/Laws.
 //
-// kept (5): a day, its seconds and doc ids go side by side, as the C function passes them.
-// kept (6): seconds and doc ids are two lists, as the C function passes them.
+// kept (5, 6): no plainer: C passes seconds and doc ids as two lists, and a struct of them would be made for one call and taken apart in it.
 #![tactic(auto)]
 
 ghost use Rattle.std.specs.Prelude.{◌≡◌, ◌≤◌, length, take};
@@ -15,6 +14,7 @@ ghost use Rattle.basics.specs.Nodes.{has};
 ghost use Rattle.household.specs.Day.{day_of};
 ghost use Rattle.household.specs.Household.{docs_on, different, household_values, household_of};
 
+use arrayvec::ArrayVec;
 use error::Refusal;
 
 // How many sightings a call may have.
@@ -27,9 +27,8 @@ pub fn household_count(day: u64, seconds: &[u64], docs: &[u32]) -> Result<u32, R
     if (seconds.len() > MOST_SIGHTINGS) | (seconds.len() != docs.len()) {
         return Err(Refusal::BadSightings);
     }
-    let mut today = [0u32; MOST_SIGHTINGS];
-    let sighted = gather(day, seconds, docs, &mut today);
-    Ok(count_different(&today[..sighted]) as u32)
+    let today = sighted_on(day, seconds, docs);
+    Ok(count_different(today.as_slice()) as u32)
 }
 
 // The day that a second lies in.
@@ -39,42 +38,35 @@ fn day_of(second: u64) -> u64
     second / 86_400
 }
 
-// Puts the doc ids of the day's sightings at the front of `today`, in their order. Answers how many there
-// are. Each is stored at the next free place, which moves on only past one of that day.
-fn gather(day: u64, seconds: &[u64], docs: &[u32], today: &mut [u32]) -> usize
-    requires { (length seconds.now ≡ length docs.now) × (length docs.now ≤ length today.old) }
-    ensures { (take result today.new ≡ docs_on day seconds.now docs.now)
-        × (result ≤ length docs.now) × (length today.new ≡ length today.old) }
+// The doc ids of the day's sightings, in their order.
+fn sighted_on(day: u64, seconds: &[u64], docs: &[u32]) -> ArrayVec<u32, MOST_SIGHTINGS>
+    requires { (length seconds.now ≡ length docs.now) × (length docs.now ≤ 512) }
+    ensures { result.items ≡ docs_on day seconds.now docs.now }
 {
-    let mut sighted = 0;
+    let mut today = ArrayVec::new();
     for (second, doc) in seconds.iter().zip(docs) {
-        today[sighted] = *doc;
-        sighted += usize::from(day_of(*second) == day);
+        if day_of(*second) == day {
+            today.push(*doc);
+        }
     }
-    sighted
+    today
 }
 
 // How many different numbers there are: each counts unless it stands again further on.
-// kept (3): std has no iterator over what is left of a slice.
 fn count_different(docs: &[u32]) -> usize
     ensures { result ≡ length (different docs.now) }
 {
     let mut count = 0;
-    let mut rest = docs;
-    while let Some((doc, others)) = rest.split_first() {
-        count += usize::from(!occurs(*doc, others));
-        rest = others;
+    for (i, doc) in docs.iter().enumerate() {
+        count += usize::from(!occurs(*doc, &docs[i + 1..]));
     }
     count
 }
 
-// Whether a number stands in a list.
+// Whether a number stands in a list. Each is read, whatever came before it.
 fn occurs(doc: u32, docs: &[u32]) -> bool
     ensures { result ≡ has doc docs.now }
 {
-    let mut found = false;
-    for other in docs {
-        found = found | (doc == *other);
-    }
-    found
+    docs.iter()
+        .fold(false, |found, other| found | (doc == *other))
 }

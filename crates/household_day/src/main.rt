@@ -15,6 +15,7 @@ use std::io;
 const MOST_KEPT: usize = household::MOST_SIGHTINGS + 1;
 
 // The sightings, and how many other lines there were.
+// kept (6): the count takes seconds and doc ids as two lists, for C.
 #[derive(Drop)]
 struct Sightings {
     seconds: ArrayVec<u64, MOST_KEPT>,
@@ -27,7 +28,7 @@ fn sighting(line: &[u8]) -> Option<(u64, u32)> {
     let blank = line.iter().position(|b| *b == b' ')?;
     let second = replay::decimal(&line[..blank])?;
     let doc = replay::decimal(&line[blank + 1..])?;
-    Some((second, u32::try_from(doc).ok()?))
+    Some((second, doc))
 }
 
 impl Sightings {

@@ -6,8 +6,9 @@
 // steps each.
 //
 // A reader goes along a node's whole list with `Entries`: over the row's entries, then from link to link with `Ends`.
+// A word holds a link as its slot plus 1, or 0 where there is none; a reader has an `Option`.
 //
-// Every function is total. On any content each link leads to a larger one, so that a chain ends.
+// Every function is total, for any number of nodes. On any content each link leads to a larger one, so that a chain ends.
 //
 // specs/Inside/Chains  what is read from a link on, how a bridge is appended, and when chains are those of bridges
 // specs/Inside/Lists   a node's list, and what is left of it
@@ -15,25 +16,33 @@
 // proofs/Laws          chains with one bridge more; what a reader finds is the other ends, in order
 //
 // kept (6): links are words of the caller's scratch, since there is no heap; n is how many nodes they are of.
-ghost use Rattle.std.specs.Prelude.{◌≡◌, ◌-◌, ◌<◌, ◌^◌};
+ghost use Rattle.std.specs.Prelude.{◌≡◌, ◌+◌, ◌*◌, ◌<◌, ◌^◌, get_or, drop};
 ghost use Rattle.std.specs.Iterator.{YieldsFirstBy, item_count};
-ghost use Rattle.lists.specs.Inside.Chains.{other_end_at, first_link, next_link, cleared_links, link_place, append_slot, chain_bridge};
+ghost use Rattle.lists.specs.Inside.Chains.{other_end_at, link_above, next_link, capped, cleared_links, link_place, append_slot, chain_bridge, as_link};
 ghost use Rattle.lists.specs.Inside.Lists.{ends_of, list_in, ends_left, entries_left};
 
 use super::Shape;
 use words::ids::Node;
 use words::slices;
 
+// Where a slot's next link stands, behind the heads and tails of n nodes. The largest number is past the end of every
+// slice, and stands for all larger ones.
+fn next_place(n: usize, slot: u32) -> usize
+    ensures { result ≡ capped (2 * n + slot) }
+{
+    n.saturating_mul(2).saturating_add(slot as usize)
+}
+
 // No node has a link: the heads and tails of n nodes are zero.
-pub fn clear_links(links: &mut [u32], n: u32)
+pub fn clear_links(links: &mut [u32], n: usize)
     ensures { links.new ≡ cleared_links n links.old }
 {
-    let end = (2 * n as usize).min(links.len());
+    let end = next_place(n, 0).min(links.len());
     links[..end].fill(0);
 }
 
 // Bridge j comes to the end of both its ends' chains, once where they are one node.
-pub fn chain_bridge(links: &mut [u32], n: u32, j: u32, near: Node, far: Node)
+pub fn chain_bridge(links: &mut [u32], n: usize, j: u32, near: Node, far: Node)
     ensures { links.new ≡ chain_bridge n j near.0 far.0 links.old }
 {
     if j >= 0x4000_0000 {
@@ -46,28 +55,39 @@ pub fn chain_bridge(links: &mut [u32], n: u32, j: u32, near: Node, far: Node)
     append_slot(links, n, far, 2 * j + 1);
 }
 
-// The first link of a node, 0 if there is none.
-// kept (1): links are words of the caller's scratch, here and in `next_link`.
-fn first_link(links: &[u32], n: u32, node: Node) -> u32
-    ensures { result ≡ first_link n links.now node.0 }
+// The next link of each slot, in order.
+fn nexts_of(links: &[u32], n: usize) -> &[u32]
+    ensures { result.now ≡ drop (2 * n) links.now }
 {
-    let link = store::word_at(links, node.0 as usize);
-    if 2 * n as usize + link as usize <= links.len() {
-        return link;
-    }
-    0
+    let from = next_place(n, 0).min(links.len());
+    &links[from..]
 }
 
-// The link after a link, 0 if there is none. It is larger than the link, so that a loop over a chain ends.
-fn next_link(links: &[u32], n: u32, link: u32) -> u32
-    ensures { result ≡ next_link n links.now link }
+// The link that a word is, where it is larger than the link before it and has a place. Links rise, so that a loop over a
+// chain ends.
+fn link_above(nexts: &[u32], before: u32, word: u32) -> Option<u32>
+    ensures { result ≡ as_link (link_above nexts.now before word) }
 {
-    let place = (2 * n as usize + link as usize).saturating_sub(1);
-    let next = store::word_at(links, place);
-    if (link < next) & (2 * n as usize + next as usize <= links.len()) {
-        return next;
+    if word <= before {
+        return None;
     }
-    0
+    (word as usize <= nexts.len()).then_some(word)
+}
+
+// The first link of a node. Where there are no heads there is nothing more to look at.
+fn first_link(links: &[u32], nexts: &[u32], node: Node) -> Option<u32>
+    ensures { result ≡ as_link (link_above nexts.now 0 (get_or links.now node.0 0)) }
+{
+    let head = links.get(node.0 as usize)?;
+    link_above(nexts, 0, *head)
+}
+
+// The link after a link.
+fn next_link(nexts: &[u32], link: u32) -> Option<u32>
+    ensures { result ≡ as_link (next_link 0 nexts.now link) }
+{
+    let place = (link as usize).saturating_sub(1);
+    link_above(nexts, link, store::word_at(nexts, place))
 }
 
 // The node that a link leads to: the other word of the bridge that its slot is a word of.
@@ -82,9 +102,8 @@ fn other_end(bridges: &[u32], link: u32) -> Node
 #[derive(Clone, Copy)]
 pub struct Ends<'a> {
     bridges: &'a [u32],
-    links: &'a [u32],
-    n: u32,
-    link: u32,
+    nexts: &'a [u32],
+    link: Option<u32>,
 }
 
 impl<'a> Iterator for Ends<'a> {
@@ -95,11 +114,8 @@ impl<'a> Iterator for Ends<'a> {
     ghost remaining = { item_count ends_left };
 
     fn next(&mut self) -> Option<Node> {
-        let link = self.link;
-        if link == 0 {
-            return None;
-        }
-        self.link = next_link(self.links, self.n, link);
+        let link = self.link?;
+        self.link = next_link(self.nexts, link);
         Some(other_end(self.bridges, link))
     }
 }
@@ -141,12 +157,11 @@ impl<'a> Lists<'a> {
     pub fn ends(self, node: Node) -> Ends<'a>
         ensures { ends_left result ≡ ends_of self.entry node.0 }
     {
-        let n = self.shape.n;
+        let nexts = nexts_of(self.links, self.shape.n);
         Ends {
             bridges: self.bridges,
-            links: self.links,
-            n,
-            link: first_link(self.links, n, node),
+            nexts,
+            link: first_link(self.links, nexts, node),
         }
     }
 
@@ -162,22 +177,23 @@ impl<'a> Lists<'a> {
 }
 
 // A slot comes to the end of a node's chain.
-fn append_slot(links: &mut [u32], n: u32, node: Node, slot: u32)
+fn append_slot(links: &mut [u32], n: usize, node: Node, slot: u32)
     requires { slot < 2 ^ 31 }
     ensures { links.new ≡ append_slot n node.0 slot links.old }
 {
-    let tail = store::word_at(links, n as usize + node.0 as usize);
+    let tail_place = n.saturating_add(node.0 as usize);
+    let tail = store::word_at(links, tail_place);
     let place = link_place(n, node, tail);
     slices::put(links, place, slot + 1);
-    slices::put(links, 2 * n as usize + slot as usize, 0);
-    slices::put(links, n as usize + node.0 as usize, slot + 1);
+    slices::put(links, next_place(n, slot), 0);
+    slices::put(links, tail_place, slot + 1);
 }
 
-fn link_place(n: u32, node: Node, tail: u32) -> usize
-    ensures { result ≡ link_place n node.0 tail }
+fn link_place(n: usize, node: Node, tail: u32) -> usize
+    ensures { result ≡ capped (link_place n node.0 tail) }
 {
     if tail == 0 {
         return node.0 as usize;
     }
-    2 * n as usize + tail as usize - 1
+    next_place(n, tail - 1)
 }

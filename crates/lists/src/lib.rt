@@ -1,18 +1,19 @@
 // Lists of the graph, as words hold them (scope, Records): rows of a count and D entries, one after the
 // other, and bridges of two words. `Shape` has the sizes that readers of an index go by.
 //
-// One view of the words serves every reader: `ListView`, the slice and the stride, which is how many words a
-// row or a bridge takes. Readers call what stands above it: `row_of` for a node's row, `entry_of` for one entry while
+// `ListView` is a view of the rows: the slice and the stride, which is how many words a row takes. Readers call what
+// stands above it: `row_of` for a node's row, `entry_of` for one entry while
 // other rows change (reverse edges), and `chains` for a node's whole list, with the other ends of its bridges. All are
 // total, whatever the words hold.
 //
 // Elsewhere these words are read only by the check of a store (`store`, which this crate uses), and by what
 // writes them: `add_entry` of reverse_edges, which searches the row that it adds to, `write_row` of
-// hashprune, `put_bridge` of connectivity, and build, which clears rows and copies bridges.
+// hashprune, `put_bridge` of graph_utils, and build, which clears rows and copies bridges.
 //
 // specs/Inside/Words  a block of words, the rows and bridges that words stand for, the words a build makes of rows
 // proofs/Reading      a word of a block, and a row, from its block
 // proofs/Blocks       rows as a build leaves them: how long, what is read back, one row replaced
+// proofs/Places       a place that is too large for a number of 64 bits is past the end
 #![tactic(auto)]
 
 pub mod chains;
@@ -25,11 +26,11 @@ use words::ids::Node;
 // The sizes of an index: n nodes, rows with room for `degree` entries.
 #[derive(Clone, Copy)]
 pub struct Shape {
-    pub n: u32,
+    pub n: usize,
     pub degree: u16,
 }
 
-// Blocks of `stride` words each, one after the other: rows, or bridges.
+// Blocks of `stride` words each, one after the other: rows.
 #[derive(Clone, Copy)]
 pub struct ListView<'a> {
     pub words: &'a [u32],

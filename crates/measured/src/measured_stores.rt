@@ -1,7 +1,7 @@
 // The check of a store, `new` and add behind C, for bench/ alone. Proved safe; the crates that they call
 // say what they compute.
 //
-// kept: numbers of refusals, since they cross to C.
+// kept: numbers of refusals, and slices beside each other, since they cross to C.
 
 use params::PipnnParams;
 use words::ids::DocId;

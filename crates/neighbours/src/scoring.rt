@@ -4,12 +4,18 @@
 ghost use Rattle.std.specs.Prelude.{◌≡◌, ℕ, ◌<◌, ◌≤◌, length, get_or, set};
 ghost use Rattle.simd.specs.Inside.Eight.{none};
 ghost use Rattle.distance.specs.Vectors.{vectors_of, vector_of};
-ghost use Rattle.def_walk.specs.Beam.{far_from};
-ghost use Rattle.neighbours.specs.Inside.Scoring.{scored_at};
+ghost use Rattle.neighbours.specs.Inside.Scoring.{far_by, scored_at};
 
 use distance::vectors::Vectors;
 use words::ids::Node;
 use words::slices;
+
+// What distances are computed of: a scaled query, and the nodes' vectors.
+#[derive(Clone, Copy)]
+pub struct Scorer<'a> {
+    pub query: &'a [f32],
+    pub vectors: Vectors<'a>,
+}
 
 // A distance goes to its node's place, where there is one.
 fn place(floats: &mut [f32], node: Node, distance: f32)
@@ -31,41 +37,43 @@ fn rows_of<'a>(vectors: Vectors<'a>, nodes: &[u32]) -> [&'a [f32]; 8]
     rows
 }
 
-// Up to eight nodes at once.
-fn score_eight(floats: &mut [f32], query: &[f32], vectors: Vectors, nodes: &[u32])
-    requires { (0 < length nodes.now) × (length nodes.now ≤ 8) }
-    ensures { floats.new ≡ scored_at (far_from query.now (vectors_of vectors.entry)) nodes.now floats.old }
-{
-    let rows = rows_of(vectors, nodes);
-    let distances = distance::cosine_distance_normalized8(query, rows);
-    for (k, node) in nodes.iter().enumerate() {
-        place(floats, Node(*node), distances[k]);
-    }
-}
-
-// A few nodes, one by one.
-fn score_each(floats: &mut [f32], query: &[f32], vectors: Vectors, nodes: &[u32])
-    ensures { floats.new ≡ scored_at (far_from query.now (vectors_of vectors.entry)) nodes.now floats.old }
-{
-    for node in nodes {
-        let node = Node(*node);
-        place(floats, node, vectors.distance_from(query, node));
-    }
-}
-
 // Up to this many nodes are scored one by one: their sums do not wait for each other either, and eight at a time would
 // compute sums that no one needs.
 const FEW: usize = 4;
 
-// Works out the distances of all these nodes.
-pub fn score(floats: &mut [f32], query: &[f32], vectors: Vectors, nodes: &[u32])
-    ensures { floats.new ≡ scored_at (far_from query.now (vectors_of vectors.entry)) nodes.now floats.old }
-{
-    for some in nodes.chunks(8) {
-        if some.len() > FEW {
-            score_eight(floats, query, vectors, some);
-        } else {
-            score_each(floats, query, vectors, some);
+impl<'a> Scorer<'a> {
+    // Works out the distances of all these nodes.
+    pub fn score(self, floats: &mut [f32], nodes: &[u32])
+        ensures { floats.new ≡ scored_at (far_by self.entry) nodes.now floats.old }
+    {
+        for some in nodes.chunks(8) {
+            if some.len() > FEW {
+                self.score_eight(floats, some);
+            } else {
+                self.score_each(floats, some);
+            }
+        }
+    }
+
+    // Up to eight nodes at once.
+    fn score_eight(self, floats: &mut [f32], nodes: &[u32])
+        requires { (0 < length nodes.now) × (length nodes.now ≤ 8) }
+        ensures { floats.new ≡ scored_at (far_by self.entry) nodes.now floats.old }
+    {
+        let rows = rows_of(self.vectors, nodes);
+        let distances = distance::cosine_distance_normalized8(self.query, rows);
+        for (k, node) in nodes.iter().enumerate() {
+            place(floats, Node(*node), distances[k]);
+        }
+    }
+
+    // A few nodes, one by one.
+    fn score_each(self, floats: &mut [f32], nodes: &[u32])
+        ensures { floats.new ≡ scored_at (far_by self.entry) nodes.now floats.old }
+    {
+        for node in nodes {
+            let node = Node(*node);
+            place(floats, node, self.vectors.distance_from(self.query, node));
         }
     }
 }

@@ -13,6 +13,7 @@ ghost use Rattle.std.specs.Float.Ieee.{div};
 ghost use Rattle.norm.specs.Norm.{squares_of, length_of, scaled_of};
 
 // The sum of the squares, from the first component on.
+// kept (2): it shares with `params::finite::sum_of` std's `fold` alone.
 fn sum_of_squares(v: &[f32]) -> f32
     ensures { result ≡ squares_of binary32 v.now }
 {

@@ -1,9 +1,10 @@
 // The square root (scope, part 2), where the Rust calls `f32::sqrt`.
 //
-// There is no root among the language's operations, so it is computed on whole numbers: a finite value above
-// zero is q · 2^k with q of 24 binary digits; q is shifted so that k becomes even, the whole root of four
-// times that number is taken digit by digit, and half of it, rounded, is the significand. No tie can occur,
-// since an odd square is no multiple of four. `sqrt` equals `root_of` of specs/Root for every f32.
+// std has `f32::sqrt` and `u64::isqrt`; the scope asks for the root computed on whole numbers and proved
+// against IEEE 754. A finite value above zero is q · 2^k with q of 24 binary digits; q is shifted so that k
+// becomes even, the whole root of four times that number is taken digit by digit, and half of it, rounded, is
+// the significand. No tie can occur, since an odd square is no multiple of four. `sqrt` equals `root_of` of
+// specs/Root for every f32.
 // specs/Part2 states part 2's words over any format: `roots` (proofs/Words) proves that `root_of` is that
 // root, and the code is proved by it, since there is only one (`only_root`).
 ghost use Rattle.std.specs.Prelude.{◌≡◌, ◌*◌, ◌^◌, ◌≤◌, ◌<◌};

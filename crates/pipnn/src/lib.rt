@@ -8,7 +8,7 @@
 // It uses `store` for the layout and the checks that calls begin with, `params` for the limits, and `norm`
 // for scaling.
 //
-// kept (5): stores, outputs and scratch go side by side, as the C functions pass them.
+// kept (5): no plainer: dimension, parameters and capacity are what `new` takes, in the Rust too, and a struct of them would be made there for two calls.
 #![tactic(auto)]
 
 ghost use Rattle.std.specs.Prelude.{◌≡◌, true, ◌++◌, ◌+◌, ◌≤◌, length, take, drop};

@@ -23,9 +23,10 @@ fn tell_lines(rt: &impl Print, text: &[u8], index: &mut Index) -> io::Result<boo
 }
 
 // Takes all lines. The turns are more than any input has bytes.
+// kept (2): `replay::lines::replay_all` reads until its room is full, and here each line is answered as soon as it is read.
 // kept (6): the part of a line at the text's end stays in front of what is read next.
 fn tell_all<R: Read>(rt: &impl Print, input: &mut R) -> io::Result<()> {
-    let mut index = Index::new();
+    let mut index = Index::default();
     let mut text = [0u8; 65536];
     let mut kept = 0;
     'turns: for _ in 0..u64::MAX {

@@ -45,9 +45,9 @@ pub struct Index {
     floats: [f32; FLOATS_SIZE],
 }
 
-impl Index {
-    // Before the first line.
-    pub fn new() -> Self {
+// Before the first line.
+impl Default for Index {
+    fn default() -> Self {
         Index {
             headers: 0,
             values: [0; HEADERS],
@@ -55,7 +55,9 @@ impl Index {
             floats: [0.0; FLOATS_SIZE],
         }
     }
+}
 
+impl Index {
     // The value of a header line.
     fn value(&self, header: Header) -> u64 {
         self.values[header as usize]
@@ -140,7 +142,7 @@ impl Index {
     }
 
     // A search: what it found.
-    // kept (5): the parameters of the call, in the order of C.
+    // kept (5): no plainer: a line has the three one by one, and the call takes them so.
     fn find(&self, k: u32, ef: u32, query: &[f32]) -> Result<Answer, Refusal> {
         let mut docs = [0u32; MOST_FOUND];
         let mut distances = [0.0f32; MOST_FOUND];

@@ -5,7 +5,7 @@
 // answer    what is printed for a line
 //
 // Everything here is proved safe on every line and answer, and nothing more: what is printed is compared with
-// recorded runs. It uses `replay` for the digits that it reads, and `bits` for floats.
+// recorded runs. It uses `replay` for the digits that it reads, and std for the bits of floats.
 #![tactic(auto)]
 
 pub mod answer;

@@ -42,7 +42,7 @@ impl Header {
         match self {
             Header::Fraction => hexadecimal(text, 16),
             Header::Alpha => hexadecimal(text, 8),
-            _ => decimal(text).map(u64::from),
+            _ => replay::decimal::<u32>(text).map(u64::from),
         }
     }
 }
@@ -54,11 +54,6 @@ pub enum Read<'a> {
     Add { doc: DocId, vector: &'a [f32] },
     Build,
     Find { k: u32, ef: u32, query: &'a [f32] },
-}
-
-// The decimal number that a text is, if it is one below 2^32.
-fn decimal(text: &[u8]) -> Option<u32> {
-    u32::try_from(replay::decimal(text)?).ok()
 }
 
 // The number of this many hexadecimal digits that a text is.
@@ -80,6 +75,7 @@ fn component(text: &[u8]) -> Option<f32> {
 }
 
 // The components that a text is. They go to `room`, as many as it holds.
+// kept (3): each piece is read, also where there is no room for it, so `zip` does not serve.
 fn components<'a>(text: &[u8], room: &'a mut [f32]) -> Option<&'a [f32]> {
     let mut count = 0;
     for piece in text.chunks(9) {
@@ -102,7 +98,7 @@ fn until_comma(text: &[u8]) -> (&[u8], &[u8]) {
 fn read_add<'a>(text: &[u8], room: &'a mut [f32]) -> Option<Read<'a>> {
     let (doc, rest) = until_comma(text);
     Some(Read::Add {
-        doc: DocId(decimal(doc)?),
+        doc: DocId(replay::decimal(doc)?),
         vector: components(rest, room)?,
     })
 }
@@ -112,8 +108,8 @@ fn read_find<'a>(text: &[u8], room: &'a mut [f32]) -> Option<Read<'a>> {
     let (k, rest) = until_comma(text);
     let (ef, rest) = until_comma(rest.strip_prefix(b",")?);
     Some(Read::Find {
-        k: decimal(k)?,
-        ef: decimal(ef)?,
+        k: replay::decimal(k)?,
+        ef: replay::decimal(ef)?,
         query: components(rest, room)?,
     })
 }

@@ -1043,7 +1043,7 @@ pub fn planes_into(out: &mut [f32])
 {
     let table = PLANES;
     let n = out.len().min(1024);
-    for k in 0..n {
-        out[k] = f32::from_bits(table[k]);
+    for (k, x) in out[..n].iter_mut().enumerate() {
+        *x = f32::from_bits(table[k]);
     }
 }

@@ -1,9 +1,9 @@
 // The generator that the hyperplanes' stream (scope, part 3) and the leaders' draws (part 4) share: a
 // 64-bit linear congruential step.
 //
-// `wrapping_mul` is Rust's `u64::wrapping_mul`, made from halves of 32 bits and the supplied wrapping
-// sum, as the scope asks (Language forms); `next` is one step of the recurrence with the addend of the caller's choice. Both are equal to
-// their definitions in specs/Lcg for all arguments.
+// `wrapping_mul` is Rust's `u64::wrapping_mul`, made from halves of 32 bits and the supplied wrapping sum, as the
+// scope asks (Language forms); `next` is one step of the recurrence with the addend of the caller's choice. Both
+// are equal to their definitions in specs/Lcg for all arguments.
 ghost use Rattle.std.specs.Prelude.{◌≡◌, ◌*◌, ◌%◌, ◌^◌};
 ghost use Rattle.random.specs.Lcg.{next_of, plane_addend, draw_addend};
 
@@ -28,7 +28,7 @@ pub fn next(addend: u64, r: u64) -> u64
 }
 
 // The step of the hyperplanes' stream, and that of the leaders' draws.
-// kept: each says in its contract which definition's addend it has, which a constant could not
+// kept: each says in its contract which definition's addend it has, which a constant could not.
 pub fn next_plane(r: u64) -> u64
     ensures { result ≡ next_of plane_addend r }
 {

@@ -41,7 +41,7 @@ fn draw_segment(level: u32, left: &mut [u32], out: &mut [u32])
 {
     count_up(left);
     let count = out.len().min(left.len());
-    draw(left, out, count, (level as u64) * 2654435761 + 42);
+    draw(left, &mut out[..count], (level as u64) * 2654435761 + 42);
 }
 
 // 0, 1, 2 and so on.
@@ -49,25 +49,24 @@ fn count_up(left: &mut [u32])
     requires { length left.old ≤ 2 ^ 32 }
     ensures { left.new ≡ up_to (length left.old) }
 {
-    for i in 0..left.len() {
-        left[i] = i as u32;
+    for (i, position) in left.iter_mut().enumerate() {
+        *position = i as u32;
     }
 }
 
-// `count` draws: each steps r and takes the position that r determines, and the last of those left moves
-// into its place (`swap_remove`).
-// kept (6): how many are drawn is said beside the slice of those that are left, which are more.
-fn draw(left: &mut [u32], out: &mut [u32], count: usize, start: u64)
-    requires { (count ≤ length left.old) × (count ≤ length out.old) }
-    ensures { out.new ≡ drawn count start left.old ++ drop count out.old }
+// A draw for each place of `out`: it steps r and takes the position that r determines, and the last of those
+// left moves into its place (`swap_remove`).
+fn draw(left: &mut [u32], out: &mut [u32], start: u64)
+    requires { length out.old ≤ length left.old }
+    ensures { out.new ≡ drawn (length out.old) start left.old }
 {
     let mut r = start;
-    for i in 0..count {
+    for (i, position) in out.iter_mut().enumerate() {
         r = lcg::next_draw(r);
         let rest = left.len() - i;
         let p = ((r / 0x2_0000_0000) % (rest as u64)) as usize;
         let last = left[rest - 1];
-        out[i] = left[p];
+        *position = left[p];
         left[p] = last;
     }
 }

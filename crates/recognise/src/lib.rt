@@ -12,7 +12,7 @@
 //
 // It uses `search` for the checks and the walk, and `score` for the answer at a distance.
 //
-// kept (5): stores, outputs and scratch go side by side, as the C functions pass them.
+// kept (5): no plainer: what C passes is passed on to a search as it came.
 #![tactic(auto)]
 
 pub mod score;

@@ -5,18 +5,21 @@
 // tokens   what a token stands for, and a reader of tokens
 // tallies  how many cases of each kind there were, and how many differ
 //
-// Everything here is proved safe on every text, and nothing more: what a replay prints is compared with
-// what it should print. A token that is missing counts as 0.
+// Everything here is proved safe on every text, and contracts say what is read and counted; what a replay prints is
+// compared with what it should print. A token that is missing counts as 0.
 #![tactic(auto)]
 
 pub mod lines;
 pub mod tallies;
 pub mod tokens;
 
-ghost use Rattle.std.specs.Prelude.{◌≡◌, ◌≤◌, length, take, IfOk};
+ghost use Rattle.std.specs.Prelude.{◌≡◌, ◌≤◌, length, take, IfOk, IfSome};
+ghost use Rattle.basics.specs.Lists.{every};
+ghost use Rattle.replay.specs.Inside.Text.{IsFront, WithoutEnd, IsDecimal, is_digit};
 
 use std::io;
 use std::io::Read;
+use std::str::FromStr;
 
 // Reads until `text` is full or the input ends, and answers what was read.
 pub fn read_full<'a, R: Read>(input: &mut R, text: &'a mut [u8]) -> io::Result<&'a [u8]>
@@ -34,9 +37,9 @@ pub fn read_full<'a, R: Read>(input: &mut R, text: &'a mut [u8]) -> io::Result<&
     Ok(&text[..done])
 }
 
-// A text up to the last of these bytes, and with it, and the rest of the text.
+// Two parts of a text: up to and with the last place of this byte, and what follows.
 fn split_after_last(text: &[u8], byte: u8) -> (&[u8], &[u8])
-    ensures { length result.0.now ≤ length text.now }
+    ensures { IsFront result.0.now text.now }
 {
     let last = text.iter().rposition(|b| *b == byte);
     text.split_at(last.map_or(0, |last| last + 1))
@@ -44,31 +47,35 @@ fn split_after_last(text: &[u8], byte: u8) -> (&[u8], &[u8])
 
 // The part of a text that is whole lines, which its last line feed ends.
 pub fn whole_lines(text: &[u8]) -> &[u8]
-    ensures { length result.now ≤ length text.now }
+    ensures { IsFront result.now text.now }
 {
     split_after_last(text, b'\n').0
 }
 
 // A line without its line feed.
 pub fn without_end(line: &[u8]) -> &[u8]
-    ensures { length result.now ≤ length line.now }
+    ensures { WithoutEnd line.now result.now }
 {
     line.strip_suffix(b"\n").unwrap_or(line)
 }
 
-// The decimal number that a text is, if it is one below 2^64.
-pub fn decimal(text: &[u8]) -> Option<u64> {
-    if text.is_empty() {
+// Whether each byte is a digit.
+fn is_digits(text: &[u8]) -> bool
+    ensures { result ≡ every is_digit text.now }
+{
+    text.iter().fold(true, |ok, b| ok & b.is_ascii_digit())
+}
+
+// The decimal number that a text is, if it is digits alone, and the number fits.
+pub fn decimal<N: FromStr>(text: &[u8]) -> Option<N>
+where
+    N::Err: Drop,
+    ensures { IfSome result (λ number. IsDecimal N.from_str_gives text.now number) }
+{
+    if !is_digits(text) {
         return None;
     }
-    let mut value: u64 = 0;
-    for b in text {
-        if !b.is_ascii_digit() {
-            return None;
-        }
-        value = value.checked_mul(10)?.checked_add(u64::from(*b - b'0'))?;
-    }
-    Some(value)
+    str::from_utf8(text).ok()?.parse().ok()
 }
 
 // The first n, or all if there are fewer.

@@ -1,36 +1,37 @@
 // A line that was read, and the loop over an input's lines.
-ghost use Rattle.std.specs.Prelude.{◌≤◌, length};
+ghost use Rattle.std.specs.Prelude.{◌≡◌, ◌≤◌, length, take};
+ghost use Rattle.replay.specs.Inside.Reading.{IsAt};
 
 use crate::tokens;
 use crate::tokens::Tokens;
 use std::io;
 use std::io::Read;
 
-// The name of its kind, if a blank ends it; its tokens, `count` of them, of which the first `asked` are the
-// question. Behind them are tokens of earlier lines.
-// kept (6): a line that is too short reads on into those, and what programs answer to such a line stays.
+// The name of its kind, if a blank ends it. The first `count` tokens are the line's own, and of these the first `asked`
+// are the question; the rest are left from earlier lines.
+// kept (6): no plainer: a program reads past a line that is too short, so that the rest has to be passed too.
 #[derive(Clone, Copy)]
 pub struct Line<'a> {
-    name: Option<&'a [u8]>,
-    tokens: &'a [u64],
-    asked: usize,
-    count: usize,
+    pub name: Option<&'a [u8]>,
+    pub tokens: &'a [u64],
+    pub asked: usize,
+    pub count: usize,
 }
 
 impl<'a> Line<'a> {
-    // The kind that its name has in a table of names.
-    pub fn kind<K: Copy>(&self, names: &[(&str, K)]) -> Option<K> {
+    // The kind that its name has in a table of names, and the place of the name there.
+    pub fn kind<K: Copy>(&self, names: &[(&str, K)]) -> Option<(usize, K)> {
         let name = self.name?;
-        for (other, kind) in names {
-            if other.as_bytes() == name {
-                return Some(*kind);
-            }
-        }
-        None
+        let at = names
+            .iter()
+            .position(|(other, _)| other.as_bytes() == name)?;
+        Some((at, names[at].1))
     }
 
     // The same line with its own tokens alone.
-    pub fn alone(&self) -> Line<'a> {
+    pub fn alone(&self) -> Line<'a>
+        ensures { result.tokens.now ≡ take self.now.count self.now.tokens.now }
+    {
         Line {
             tokens: crate::front(self.tokens, self.count),
             ..*self
@@ -38,26 +39,34 @@ impl<'a> Line<'a> {
     }
 
     // Its tokens from this place on.
-    pub fn tokens_at(&self, at: usize) -> Tokens<'a> {
-        Tokens::starting_at(self.tokens, at)
+    pub fn tokens_at(&self, at: usize) -> Tokens<'a>
+        ensures { IsAt at self.now result }
+    {
+        Tokens {
+            all: self.tokens,
+            at,
+        }
     }
 
-    // How many tokens the question has.
-    pub fn asked(&self) -> usize {
-        self.asked
-    }
-
-    pub fn question(&self) -> Tokens<'a> {
+    // The question's tokens.
+    pub fn question(&self) -> Tokens<'a>
+        ensures { IsAt 0 self.now result }
+    {
         self.tokens_at(0)
     }
 
-    pub fn answer(&self) -> Tokens<'a> {
+    // The answer's tokens.
+    pub fn answer(&self) -> Tokens<'a>
+        ensures { IsAt self.now.asked self.now result }
+    {
         self.tokens_at(self.asked)
     }
 }
 
 // Reads a line, with the byte that ends it. Its tokens go to `tokens`, as far as there is room.
-pub fn read_line<'a>(line: &'a [u8], tokens: &'a mut [u64]) -> Line<'a> {
+pub fn read_line<'a>(line: &'a [u8], tokens: &'a mut [u64]) -> Line<'a>
+    ensures { (result.asked ≤ result.count) × (result.count ≤ length result.tokens.now) }
+{
     let (name, text) = match line.iter().position(|b| *b == b' ') {
         Some(blank) => (Some(&line[..blank]), &line[blank + 1..]),
         None => (None, &line[..0]),

@@ -1,20 +1,20 @@
 // How many cases there were, and how many differ.
+ghost use Rattle.std.specs.Prelude.{◌≡◌, ◌+◌, ◌%◌, ◌^◌};
+ghost use Rattle.basics.specs.Choice.{pick};
+
 use std::{fmt, io};
 
 // Of one kind.
-#[derive(Clone, Copy)]
+#[derive(Clone, Copy, Default)]
 pub struct Tally {
     cases: u64,
     differ: u64,
 }
 
 impl Tally {
-    pub const NONE: Tally = Tally {
-        cases: 0,
-        differ: 0,
-    };
-
-    pub fn count(&mut self, same: bool) {
+    pub fn count(&mut self, same: bool)
+        ensures { (self.new.cases ≡ (self.old.cases + 1) % 2 ^ 64) × (self.new.differ ≡ (self.old.differ + pick same 0 1) % 2 ^ 64) }
+    {
         self.cases = self.cases.wrapping_add(1);
         self.differ = self.differ.wrapping_add(u64::from(!same));
     }
@@ -35,14 +35,16 @@ pub struct Tallies<const N: usize> {
     of_none: Tally,
 }
 
-impl<const N: usize> Tallies<N> {
-    pub fn new() -> Self {
+impl<const N: usize> Default for Tallies<N> {
+    fn default() -> Self {
         Tallies {
-            of_kind: [Tally::NONE; N],
-            of_none: Tally::NONE,
+            of_kind: [Tally::default(); N],
+            of_none: Tally::default(),
         }
     }
+}
 
+impl<const N: usize> Tallies<N> {
     // Counts a case of the kind with this number, or a line of no kind.
     // kept (7): `same` is what is counted, and no step depends on it.
     pub fn count(&mut self, kind: Option<usize>, same: bool) {

@@ -1,5 +1,6 @@
 // The tokens of a line, and what each stands for.
-ghost use Rattle.std.specs.Prelude.{◌≡◌, ◌<◌, ◌≤◌, min, length, IfSome};
+ghost use Rattle.std.specs.Prelude.{◌≡◌, true, ◌<◌, ◌≤◌, eqb, min, length, get_or, drop, IfSome};
+ghost use Rattle.replay.specs.Inside.Reading.{next_of, Stands, moved};
 
 use error::Refusal;
 use std::num::{f32_from_bits_with_nan, f32_to_bits_with_nan, f64_from_bits_with_nan};
@@ -15,6 +16,8 @@ impl From<Token> for u64 {
 }
 
 impl From<Token> for usize {
+    ghost from_gives = { λ token n. n ≡ token.0 };
+
     fn from(token: Token) -> usize {
         token.0 as usize
     }
@@ -67,7 +70,7 @@ impl Recorded for Refusal {
     }
 }
 
-// What a call answers that answers nothing but a refusal: 0 if it was not refused.
+// What a call gives that gives a refusal or nothing: 0 if it was not refused.
 impl Recorded for Result<(), Refusal> {
     fn is_recorded(self, token: Token) -> bool {
         error::number_or_zero(self).is_recorded(token)
@@ -77,24 +80,25 @@ impl Recorded for Result<(), Refusal> {
 // A reader of tokens, one after the other.
 #[derive(Clone, Copy)]
 pub struct Tokens<'a> {
-    all: &'a [u64],
-    at: usize,
+    pub all: &'a [u64],
+    pub at: usize,
 }
 
 impl<'a> Tokens<'a> {
-    // From this place on.
-    pub fn starting_at(all: &'a [u64], at: usize) -> Tokens<'a> {
-        Tokens { all, at }
-    }
-
-    pub fn token(&mut self) -> Token {
+    // The next token.
+    pub fn token(&mut self) -> Token
+        ensures { (result.0 ≡ next_of self.old) × (self.new ≡ moved 1 self.old) }
+    {
         let token = self.all.get(self.at).copied().unwrap_or(0);
         self.skip(1);
         Token(token)
     }
 
     // The next token, as what it stands for.
-    pub fn read<T: From<Token>>(&mut self) -> T {
+    pub fn read<T: From<Token>>(&mut self) -> T
+        ensures value { Stands T.from_gives self.old result }
+        ensures moved { self.new ≡ moved 1 self.old }
+    {
         T::from(self.token())
     }
 
@@ -117,32 +121,50 @@ impl<'a> Tokens<'a> {
     }
 
     // The same, as many as the next token says.
-    pub fn read_counted<'b, T: From<Token> + Copy>(&mut self, out: &'b mut [T]) -> &'b mut [T] {
+    pub fn read_counted<'b, T: From<Token> + Copy>(&mut self, out: &'b mut [T]) -> &'b mut [T]
+        ensures { length result.now ≡ min (next_of self.old) (length out.old) }
+    {
         let n = self.read();
         self.read_into(n, out)
     }
 
-    pub fn skip(&mut self, n: usize) {
+    // The next n tokens are not read.
+    pub fn skip(&mut self, n: usize)
+        ensures { self.new ≡ moved n self.old }
+    {
         self.at = self.at.saturating_add(n);
     }
 
     // Whether the next token is this one.
-    pub fn is<T: Recorded>(&mut self, x: T) -> bool {
+    pub fn is<T: Recorded>(&mut self, x: T) -> bool
+        ensures { self.new ≡ moved 1 self.old }
+    {
         x.is_recorded(self.token())
     }
 
     // Whether the next tokens are these.
-    pub fn are<T: Recorded>(&mut self, xs: &[T]) -> bool {
-        xs.iter().all(|x| self.is(*x))
+    pub fn are<T: Recorded>(&mut self, xs: &[T]) -> bool
+        ensures { result ≡ true → self.new ≡ moved (length xs.now) self.old }
+    {
+        for x in xs {
+            if !self.is(*x) {
+                return false;
+            }
+        }
+        true
     }
 
     // The tokens that are not read yet.
-    pub fn rest(&self) -> &'a [u64] {
+    pub fn rest(&self) -> &'a [u64]
+        ensures { result.now ≡ drop self.now.at self.now.all.now }
+    {
         self.all.get(self.at..).unwrap_or(&[])
     }
 
     // Whether just the last token was read.
-    pub fn is_at_end(&self) -> bool {
+    pub fn is_at_end(&self) -> bool
+        ensures { result ≡ eqb self.now.at (length self.now.all.now) }
+    {
         self.at == self.all.len()
     }
 }
@@ -168,6 +190,7 @@ fn number(digits: &[u8]) -> u64 {
 
 // Puts the tokens of a text at the front of `tokens`, as far as there is room, and answers how many. A token is
 // some digits and the byte that ends them.
+// kept (3): only what passes the test takes a place, so `enumerate` does not give it.
 pub(crate) fn put_tokens(text: &[u8], tokens: &mut [u64]) -> usize
     ensures { result ≤ length tokens.new }
 {

@@ -79,9 +79,9 @@ struct Calls {
 impl Calls {
     fn new() -> Self {
         Calls {
-            stores: Stores::new(),
+            stores: Stores::default(),
             room: [0.0; MOST_COMPONENTS],
-            tallies: Tallies::new(),
+            tallies: Tallies::default(),
             not_compared: 0,
         }
     }
@@ -121,14 +121,14 @@ impl Calls {
 impl Replayed for Calls {
     fn replay(&mut self, line: Line<'_>) {
         let line = line.alone();
-        if let Some(step) = line.kind(&PREPARING) {
+        if let Some((_, step)) = line.kind(&PREPARING) {
             return self.prepare(step, line);
         }
-        let Some(kind) = line.kind(&NAMES) else {
+        let Some((at, kind)) = line.kind(&NAMES) else {
             return self.tallies.count(None, false);
         };
         match self.is_same(kind, line) {
-            Some(same) => self.tallies.count(Some(kind as usize), same),
+            Some(same) => self.tallies.count(Some(at), same),
             None => self.not_compared = self.not_compared.wrapping_add(1),
         }
     }

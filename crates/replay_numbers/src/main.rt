@@ -74,7 +74,7 @@ struct Numbers {
 impl Numbers {
     fn new() -> Self {
         Numbers {
-            tallies: Tallies::new(),
+            tallies: Tallies::default(),
             a: [0.0; 8192],
             b: [0.0; 8192],
             left: [0; 2048],
@@ -165,8 +165,8 @@ impl Numbers {
 impl Replayed for Numbers {
     fn replay(&mut self, line: Line<'_>) {
         let kind = line.kind(&NAMES);
-        let same = kind.is_some_and(|kind| self.is_same(kind, line));
-        self.tallies.count(kind.map(|kind| kind as usize), same);
+        let same = kind.is_some_and(|(_, kind)| self.is_same(kind, line));
+        self.tallies.count(kind.map(|(at, _)| at), same);
     }
 }
 

@@ -26,7 +26,7 @@ fn number_of(r: u64) -> f32 {
 pub fn tally() -> Tally {
     let mut planes = [0.0f32; 1024];
     hyperplanes::planes_into(&mut planes);
-    let mut tally = Tally::NONE;
+    let mut tally = Tally::default();
     let mut r: u64 = 42;
     for plane in &planes {
         r = lcg::next_plane(r);

@@ -38,7 +38,7 @@ struct Run<'a> {
 impl<'a> Run<'a> {
     // Whether the probe on its input prints just its output. The last line may lack its line feed.
     fn holds(&self) -> bool {
-        let mut index = Index::new();
+        let mut index = Index::default();
         let mut expected = Expected { left: self.output };
         for line in self.input.split_inclusive(|b| *b == b'\n') {
             let Some(answer) = index.step(replay::without_end(line)) else {
@@ -76,7 +76,7 @@ fn read_run<'a>(text: &'a [u8], tokens: &mut [u64]) -> Option<(Run<'a>, &'a [u8]
 // Replays all runs of a text. One that is not whole counts as one that differs, and is the last.
 pub fn replay_runs(text: &[u8]) -> Tally {
     let mut tokens = [0u64; 2];
-    let mut tally = Tally::NONE;
+    let mut tally = Tally::default();
     let mut rest = text;
     // kept (3): how long a run is stands in its heading, so that no method of std splits them.
     while !rest.is_empty() {

@@ -71,16 +71,16 @@ impl Replayed for Sorting {
     fn replay(&mut self, line: Line<'_>) {
         let kind = line.kind(&NAMES);
         let same = match kind {
-            Some(Kind::Sort) => sort_is_same(line),
-            Some(Kind::First) => first_is_same(line),
+            Some((_, Kind::Sort)) => sort_is_same(line),
+            Some((_, Kind::First)) => first_is_same(line),
             None => false,
         };
-        self.0.count(kind.map(|kind| kind as usize), same);
+        self.0.count(kind.map(|(at, _)| at), same);
     }
 }
 
 fn main(rt: HostRuntime) -> io::Result<()> {
-    let mut sorting = Sorting(Tallies::new());
+    let mut sorting = Sorting(Tallies::default());
     replay::lines::replay_all(&mut rt.stdin(), &mut sorting, &mut [0; 8192])?;
     sorting.0.write(&rt, &NAMES)
 }

@@ -10,8 +10,8 @@
 //
 // It uses `store` for the checks that calls begin with, and `finding` for the walk over a checked store.
 //
-// kept (5): stores, outputs and scratch go side by side, as the C functions pass them.
-// kept (6): doc ids and distances are two outputs, as the C functions pass them.
+// kept (5): no plainer: what C passes is passed on as it came, and of a struct of the four `&mut` each contract would say that each field still holds the same reference.
+// kept (6): doc ids and distances are two outputs, for C.
 #![tactic(auto)]
 
 ghost use Rattle.std.specs.Prelude.{◌≡◌, length};
@@ -22,6 +22,7 @@ ghost use Rattle.search.specs.Inside.Reply.{found_with};
 
 use beam_search::Walked;
 use error::Refusal;
+use finding::Request;
 use params::finite;
 use store::Scratch;
 
@@ -32,18 +33,22 @@ pub const MOST_BEAM: u32 = 1024;
 
 // The first of a search's checks that fails.
 fn check_search(
-    words: &[u32],
-    floats: &[f32],
-    query: &[f32],
-    k: u32,
+    request: Request,
     ef: u32,
     docs: &[u32],
     distances: &[f32],
     lent: Scratch,
 ) -> Result<(), Refusal>
-    ensures { answer_of result ≡ first_refusal (search_checks words.now query.now k ef
-        docs.now distances.now lent.words lent.floats floats.now) }
+    ensures { answer_of result ≡ first_refusal (search_checks request.entry.words.now request.entry.query.now request.entry.k ef
+        docs.now distances.now lent.words lent.floats request.entry.floats.now) }
 {
+    let Request {
+        words,
+        floats,
+        query,
+        k,
+        ..
+    } = request;
     store::check_opening(words, floats, Some(lent))?;
     if store::word_at(words, store::STATE) != store::BUILT {
         return Err(Refusal::NotBuilt);
@@ -85,19 +90,15 @@ pub fn search_with_ef(
         words: scratch_words.len(),
         floats: scratch_floats.len(),
     };
-    check_search(words, floats, query, k, ef, docs, distances, lent)?;
-    Ok(finding::find(
+    let request = Request {
         words,
         floats,
         query,
         k,
-        ef,
-        def_walk::USUAL,
-        docs,
-        distances,
-        scratch_words,
-        scratch_floats,
-    ))
+        stops: def_walk::USUAL,
+    };
+    check_search(request, ef, docs, distances, lent)?;
+    Ok(request.find(ef, docs, distances, scratch_words, scratch_floats))
 }
 
 // `search`: with the store's ef_search.

@@ -79,6 +79,7 @@ pub fn dot_block(q: &[f32], block: &[f32]) -> [f32; 8]
 }
 
 // The products of one component with those of eight rows, added to eight sums.
+// kept (2): it shares with `finish::medoid::add_row` a loop of one line, and here each sum gets a product.
 pub fn add_column(sums: &mut [f32; 8], x: f32, column: &[f32; 8])
     ensures { (j : ℕ) → j < 8 → get_or sums.new j nan ≡ add binary32 (get_or sums.old j nan) (mul binary32 x (get_or column.now j nan)) }
 {

@@ -18,13 +18,13 @@ pub fn residual_into(c: &[f32], p: &[f32], out: &mut [f32])
     ensures { out.new ≡ put_front (residual binary32 c.now p.now) out.old }
 {
     let n = out.len().min(c.len()).min(p.len());
-    for i in 0..n {
-        out[i] = c[i] - p[i];
+    for (i, x) in out[..n].iter_mut().enumerate() {
+        *x = c[i] - p[i];
     }
 }
 
 // The sums of a block's planes: component i of plane j stands at 8 · i + j.
-// kept: the loop of `simd::dot_block`, so that the sums of distances may change and these stay.
+// kept (2): the loop of `simd::dot_block`, since the sums of distances may change alone (docs/DECISIONS.md, 14).
 fn block_sums(r: &[f32], block: &[f32]) -> [f32; 8]
     ensures { result ≡ map (sum_in r.now block.now) (range_with_len 0 8) }
 {

@@ -1,14 +1,17 @@
 -- What a call that has passed the checks it begins with knows of the stores. Assumes nothing.
-use mathlib.Core.Path.{◌≡◌}
+use mathlib.Core.Path.{◌≡◌, sym, ◌∙◌}
 use mathlib.Core.Bool.{true, false}
-use mathlib.Core.List.{List}
+use mathlib.Core.List.{List, ◌++◌}
 use Prim.Native.Nat.{ℕ, ◌≤◌}
 use native.Mathlib.Omega.{arith}
 use lib.ListN.{length}
 use lib.Ieee.{Float}
 use borrow.Author.Tests.{ltb-false, not-false}
-use Rattle.basics.specs.Refusals.{Numbered, first_refusal}
-use Rattle.basics.proofs.Refusals.{passes}
+use Rattle.error.specs.declared.Refusal.{Refusal}
+use Rattle.error.specs.Inside.Refused.{number_of}
+use Rattle.error.proofs.Laws.{never_zero}
+use Rattle.basics.specs.Refusals.{Check, Numbered, first_refusal}
+use Rattle.basics.proofs.Refusals.{passes, then_first, then_second}
 use Rattle.basics.proofs.Tests.{both_false}
 use Rattle.std.proofs.Common.{Option}
 use Rattle.store.specs.declared.Scratch.{Scratch}
@@ -22,6 +25,14 @@ module _ (lent : Option Scratch) (w : List ℕ) (f : List Float) where
   pub opening_numbered : Numbered (opening lent w f)
   unfolding opening
   opening_numbered = omega arith
+
+  -- where the first checks pass, a call's own decide
+  pub own_decide : (own : List Check) → 0 ≡ first_refusal (opening lent w f) → first_refusal own ≡ first_refusal (opening lent w f ++ own)
+  own_decide own e = sym (then_second (opening lent w f) own opening_numbered (sym e))
+
+  -- and where one of them fails, it is the call's refusal
+  pub first_decide : (own : List Check) (r : Refusal) → number_of r ≡ first_refusal (opening lent w f) → number_of r ≡ first_refusal (opening lent w f ++ own)
+  first_decide own r e = e ∙ sym (then_first (opening lent w f) own (λ z. never_zero r (e ∙ z)))
 
   pub record Opened : Type 0 where
     pub long : header_size ≤ length w

@@ -83,7 +83,7 @@ pub const HEADER_SIZE: usize = 16;
 pub const BRIDGE_SIZE: usize = 2;
 
 // What the state word says.
-// kept (1): a state is a word of the store, here and in `BUILT`, and `header_ok` has judged it.
+// kept (1): a state is a word of the store, here and in `BUILT`; an enum would be made of it by a conversion that can fail, where `header_ok` has ruled the failure out.
 pub const OPEN: u32 = 0;
 
 pub const BUILT: u32 = 1;
@@ -217,11 +217,7 @@ fn header_ok(words: &[u32]) -> bool
 fn all_nodes(entries: &[u32], n: u32) -> bool
     ensures { result ≡ every (is_node n) entries.now }
 {
-    let mut ok = true;
-    for entry in entries {
-        ok = ok & (*entry < n);
-    }
-    ok
+    entries.iter().fold(true, |ok, entry| ok & (*entry < n))
 }
 
 // Whether each entry is, four a turn, one of each quarter: a turn costs little more than one entry does. True
@@ -253,42 +249,51 @@ fn row_ok(row: &[u32], degree: u16, n: u32) -> bool
     all_nodes(&row[1..end], n)
 }
 
-// Whether each of n rows is, row by row.
-// kept (2): what differs from `counts_ok` is the test of a row, and a closure for it would need a law.
-fn each_row_ok(rows: &[u32], degree: u16, n: u32) -> bool
-    requires { length rows.now ≡ n * row_size degree }
-    ensures { result ≡ every (row_ok degree n) (pieces (row_size degree) n rows.now) }
-{
-    let mut ok = true;
-    for row in rows.chunks_exact(1 + degree as usize) {
-        ok = ok & row_ok(row, degree, n);
-    }
-    ok
+// The rows of n nodes, one after the other: a count and D entries each.
+// kept (6): n is also what bounds each entry, and `whole` says that the words are those of n rows.
+#[derive(Clone, Copy)]
+struct Rows<'a> {
+    words: &'a [u32],
+    degree: u16,
+    n: u32,
+    ghost whole: { length words.now ≡ n * row_size degree },
 }
 
-// Whether each of them counts at most D entries.
-fn counts_ok(rows: &[u32], degree: u16, n: u32) -> bool
-    requires { length rows.now ≡ n * row_size degree }
-    ensures { result ≡ every (count_ok degree) (pieces (row_size degree) n rows.now) }
-{
-    let mut ok = true;
-    for row in rows.chunks_exact(1 + degree as usize) {
-        ok = ok & (row[0] <= degree as u32);
+impl<'a> Rows<'a> {
+    // Whether each row is well formed, row by row.
+    // kept (2): one function for this and `counts_ok` is no plainer: it takes a closure, and its contract says on which rows that may be called.
+    fn each_ok(self) -> bool
+        ensures { result ≡ every (row_ok self.entry.degree self.entry.n) (pieces (row_size self.entry.degree) self.entry.n self.entry.words.now) }
+    {
+        let mut ok = true;
+        for row in self.words.chunks_exact(1 + self.degree as usize) {
+            ok = ok & row_ok(row, self.degree, self.n);
+        }
+        ok
     }
-    ok
-}
 
-// Whether each of n rows is well formed. In rows as the calls leave them every word is a valid node number, the counts
-// and what is past them too, if there are more nodes than D: then one pass over all words of the rows is enough. Where
-// it fails, each row is checked by itself.
-fn rows_ok(rows: &[u32], degree: u16, n: u32) -> bool
-    requires { length rows.now ≡ n * row_size degree }
-    ensures { result ≡ every (row_ok degree n) (pieces (row_size degree) n rows.now) }
-{
-    if counts_ok(rows, degree, n) & nodes_by_fours(rows, n) {
-        return true;
+    // Whether each row counts at most D entries.
+    fn counts_ok(self) -> bool
+        ensures { result ≡ every (count_ok self.entry.degree) (pieces (row_size self.entry.degree) self.entry.n self.entry.words.now) }
+    {
+        let mut ok = true;
+        for row in self.words.chunks_exact(1 + self.degree as usize) {
+            ok = ok & (row[0] <= self.degree as u32);
+        }
+        ok
     }
-    each_row_ok(rows, degree, n)
+
+    // Whether each row is well formed. In rows as the calls leave them every word is a valid node number, the counts
+    // and what is past them too, if there are more nodes than D: then one pass over all words of the rows is enough. Where
+    // it fails, each row is checked by itself.
+    fn ok(self) -> bool
+        ensures { result ≡ every (row_ok self.entry.degree self.entry.n) (pieces (row_size self.entry.degree) self.entry.n self.entry.words.now) }
+    {
+        if self.counts_ok() & nodes_by_fours(self.words, self.n) {
+            return true;
+        }
+        self.each_ok()
+    }
 }
 
 // Whether each of some bridges has two different nodes for its ends.
@@ -303,37 +308,6 @@ fn bridges_ok(bridges: &[u32], count: u32, n: u32) -> bool
         ok = ok & ((near < n) & (far < n) & (near != far));
     }
     ok
-}
-
-// Where the header puts rows and bridges. A header that is well formed has a degree of 32 at most.
-fn layout_of(words: &[u32]) -> Layout
-    requires { header_ok words.now ≡ true }
-    ensures { (result.capacity ≡ word words.now capacity_at) × (result.degree ≡ word words.now degree_at) }
-{
-    Layout {
-        capacity: word_at(words, CAPACITY),
-        degree: word_at(words, DEGREE) as u16,
-    }
-}
-
-// Whether the rest of the store is well formed, after a header that is.
-fn rest_ok(words: &[u32], floats: &[f32]) -> bool
-    requires words_value { header_ok words.now ≡ true }
-    requires degree_at_in_bounds { words_size (word words.now capacity_at) (word words.now degree_at) ≤ length words.now }
-    requires dimension_at_in_bounds { floats_size (word words.now capacity_at) (word words.now dimension_at) ≤ length floats.now }
-    ensures { result ≡ rest_ok words.now floats.now }
-{
-    let n = word_at(words, NODES);
-    let bridges = word_at(words, BRIDGE_COUNT);
-    let layout = layout_of(words);
-    let rows_from = rows_at(layout.capacity);
-    let rows_to = layout.row_at(Node(n));
-    let bridges_from = layout.bridges_at();
-    let bridges_to = layout.bridge_at(bridges);
-    let vectors_end = floats_size(n, word_at(words, DIMENSION));
-    rows_ok(&words[rows_from..rows_to], layout.degree, n)
-        & bridges_ok(&words[bridges_from..bridges_to], bridges, n)
-        & finite::all_finite(&floats[..vectors_end])
 }
 
 // Whether a store is shorter than its shape asks.
@@ -362,14 +336,56 @@ fn scratch_short(capacity: u32, lent: Option<Scratch>) -> bool
     }
 }
 
-// Whether what is passed in is shorter than the header's shape asks.
-fn too_short(words: &[u32], floats: &[f32], lent: Option<Scratch>) -> bool
-    requires { header_ok words.now ≡ true }
-    ensures { result ≡ too_short lent words.now floats.now }
-{
-    let layout = layout_of(words);
-    store_short(words, floats, layout, word_at(words, DIMENSION))
-        | scratch_short(layout.capacity, lent)
+// The words of a store whose header is well formed.
+#[derive(Clone, Copy)]
+struct Formed<'a> {
+    words: &'a [u32],
+    ghost header: { header_ok words.now ≡ true },
+}
+
+impl<'a> Formed<'a> {
+    // Where the header puts rows and bridges. Its degree is 32 at most.
+    fn layout(self) -> Layout
+        ensures { (result.capacity ≡ word self.entry.words.now capacity_at) × (result.degree ≡ word self.entry.words.now degree_at) }
+    {
+        Layout {
+            capacity: word_at(self.words, CAPACITY),
+            degree: word_at(self.words, DEGREE) as u16,
+        }
+    }
+
+    // Whether what is passed in is shorter than the header's shape asks.
+    fn too_short(self, floats: &[f32], lent: Option<Scratch>) -> bool
+        ensures { result ≡ too_short lent self.entry.words.now floats.now }
+    {
+        let layout = self.layout();
+        store_short(self.words, floats, layout, word_at(self.words, DIMENSION))
+            | scratch_short(layout.capacity, lent)
+    }
+
+    // Whether the rest of the store is well formed.
+    fn rest_ok(self, floats: &[f32]) -> bool
+        requires degree_at_in_bounds { words_size (word self.words.now capacity_at) (word self.words.now degree_at) ≤ length self.words.now }
+        requires dimension_at_in_bounds { floats_size (word self.words.now capacity_at) (word self.words.now dimension_at) ≤ length floats.now }
+        ensures { result ≡ rest_ok self.entry.words.now floats.now }
+    {
+        let n = word_at(self.words, NODES);
+        let count = word_at(self.words, BRIDGE_COUNT);
+        let layout = self.layout();
+        let rows_from = rows_at(layout.capacity);
+        let rows_to = layout.row_at(Node(n));
+        let bridges_from = layout.bridges_at();
+        let bridges_to = layout.bridge_at(count);
+        let vectors_end = floats_size(n, word_at(self.words, DIMENSION));
+        let rows = Rows {
+            words: &self.words[rows_from..rows_to],
+            degree: layout.degree,
+            n,
+        };
+        rows.ok()
+            & bridges_ok(&self.words[bridges_from..bridges_to], count, n)
+            & finite::all_finite(&floats[..vectors_end])
+    }
 }
 
 // The checks with which every call but `new` begins: the first that fails is the refusal. `lent` is the scratch of a call
@@ -383,10 +399,11 @@ pub fn check_opening(words: &[u32], floats: &[f32], lent: Option<Scratch>) -> Re
     if !header_ok(words) {
         return Err(Refusal::NotWellFormed);
     }
-    if too_short(words, floats, lent) {
+    let formed = Formed { words };
+    if formed.too_short(floats, lent) {
         return Err(Refusal::SliceTooShort);
     }
-    if !rest_ok(words, floats) {
+    if !formed.rest_ok(floats) {
         return Err(Refusal::NotWellFormed);
     }
     Ok(())

@@ -4,10 +4,9 @@ use Rattle.std.specs.Prelude.{◌≡◌, Bool, List, ◌++◌, map, ℕ, ◌*◌
 use Rattle.basics.specs.Lists.{keep}
 use Rattle.basics.specs.Graph.{list_of}
 use Rattle.lists.specs.Inside.Words.{row_lists, bridge_list}
-use Rattle.distance.specs.Vectors.{vectors_of}
-use Rattle.def_walk.specs.Beam.{Network, far_from, beam_search, answer_of}
+use Rattle.neighbours.specs.Inside.Scoring.{far_by}
+use Rattle.def_walk.specs.Beam.{Network, beam_search, answer_of}
 use Rattle.beam_state.specs.Inside.State.{live_by, pair_of}
-use Rattle.beam_search.specs.declared.Sizes.{Sizes}
 use Rattle.beam_search.specs.declared.Reads.{Reads}
 use Rattle.beam_search.specs.declared.Walked.{Walked}
 use Rattle.sorting.specs.declared.Keyed.{Keyed}
@@ -21,20 +20,20 @@ abbrev pub list_in_words : ℕ → ℕ → List ℕ → List ℕ → ℕ → Lis
 list_in_words n degree rows bridges u = within n (list_of (row_lists degree rows) (bridge_list bridges) u)
 
 -- the distance of a node, the list of a node, which nodes are live, what is walked over, and the nodes that a walk scores
-abbrev pub far_of : Sizes → Reads → ℕ → Float
-far_of sizes reads = far_from reads.query.now (vectors_of reads.vectors)
+abbrev pub far_of : Reads → ℕ → Float
+far_of reads = far_by reads.scorer
 
-abbrev pub lists_of : Sizes → Reads → ℕ → List ℕ
-lists_of sizes reads = list_in_words sizes.shape.n sizes.shape.degree reads.rows.now reads.bridges.now
+abbrev pub lists_of : Reads → ℕ → List ℕ
+lists_of reads = list_in_words reads.sizes.shape.n reads.sizes.shape.degree reads.rows.now reads.bridges.now
 
 abbrev pub live_of : Reads → ℕ → Bool
 live_of reads = live_by reads.withdrawn.now
 
-abbrev pub network_of : Sizes → Reads → Network
-network_of sizes reads = record { n = sizes.shape.n; list = lists_of sizes reads; live = live_of reads; entry = sizes.entry.0 }
+abbrev pub network_of : Reads → Network
+network_of reads = record { n = reads.sizes.shape.n; list = lists_of reads; live = live_of reads; entry = reads.sizes.entry.0 }
 
-abbrev pub scored_by : Sizes → Reads → List ℕ
-scored_by sizes reads = beam_search sizes.stops (network_of sizes reads) (far_of sizes reads) sizes.places
+abbrev pub scored_by : Reads → List ℕ
+scored_by reads = beam_search reads.sizes.stops (network_of reads) (far_of reads) reads.sizes.places
 
 -- the sizes fit: bridges between nodes, at most one for each node, and enough words and floats of scratch
 pub record SearchFits (n entry : ℕ) (bridges : List ℕ) (answer : List Keyed) (distances : List Float) (words floats : ℕ) : Type 0 where
@@ -54,8 +53,8 @@ pub record Searched (far : ℕ → Float) (found scored : List ℕ) (answer answ
   pub distances_are : distances' ≡ map far found ++ drop (length found) distances
 
 -- where the sizes fit, as many nodes are found as the output has room for
-abbrev pub Searching : Sizes → Reads → List Keyed → List Keyed → List Float → List Float → ℕ → ℕ → Walked → Type 0
-Searching sizes reads answer answer' distances distances' words floats r =
-    SearchFits sizes.shape.n sizes.entry.0 reads.bridges.now answer distances words floats
-    → Searched (far_of sizes reads) (answer_of (far_of sizes reads) (length answer) (scored_by sizes reads)) (scored_by sizes reads)
+abbrev pub Searching : Reads → List Keyed → List Keyed → List Float → List Float → ℕ → ℕ → Walked → Type 0
+Searching reads answer answer' distances distances' words floats r =
+    SearchFits reads.sizes.shape.n reads.sizes.entry.0 reads.bridges.now answer distances words floats
+    → Searched (far_of reads) (answer_of (far_of reads) (length answer) (scored_by reads)) (scored_by reads)
     answer answer' distances distances' r

@@ -8,7 +8,7 @@ use Rattle.def_walk.specs.Walk.{State}
 use Rattle.def_walk.specs.Beam.{walk_from}
 use Rattle.beam_state.specs.Inside.Queues.{Known}
 use Rattle.neighbours.specs.Inside.Gathering.{Linked}
-use Rattle.beam_state.specs.Inside.State.{Memory, frontier_part, held_part, Standing, pushed}
+use Rattle.beam_state.specs.Inside.State.{Memory, words_for, frontier_part, held_part, Standing, pushed}
 use Rattle.std.specs.declared.ops.ControlFlow.{ControlFlow}
 use Rattle.std.specs.declared.ops.ControlFlow.TheVariants.{Continue, Break}
 use Rattle.sorting.specs.declared.Keyed.{Keyed}
@@ -25,6 +25,10 @@ Linking n bridges links links' =
     → ((i : ℕ) → i < 2 * n → get_or links i 0 ≡ 0)
     → ((i : ℕ) → i < length bridges → get_or bridges i 0 < n)
     → Linked n bridges links'
+
+-- words enough for every part of what a walk keeps
+abbrev pub HasWords : Sizes → List ℕ → Type 0
+HasWords sizes words = words_for sizes.shape.n ≤ length words
 
 -- a walk between two expansions
 pub record Between (sizes : Sizes) (far : ℕ → Float) (live : ℕ → Bool) (answer₀ : List Keyed) (m : Memory) (seen front : List ℕ) : Type 0 where
@@ -53,9 +57,9 @@ TakingIn sizes far live count m m' =
     → TakenIn sizes far live answer₀ m' (pushed far fresh s)
 
 -- the walk of the definition from where it stands, by at most `more` steps
-abbrev pub walk_on : Sizes → Reads → ℕ → List ℕ → List ℕ → List ℕ
-walk_on sizes reads more seen front =
-    walk_from sizes.stops (network_of sizes reads) (far_of sizes reads) sizes.places more seen front
+abbrev pub walk_on : Reads → ℕ → List ℕ → List ℕ → List ℕ
+walk_on reads more seen front =
+    walk_from reads.sizes.stops (network_of reads) (far_of reads) reads.sizes.places more seen front
 
 -- what a step answers: the walk as it leaves it, and whether that is its end
 abbrev pub walk_of : ControlFlow Walk Walk → Walk
@@ -67,39 +71,39 @@ is_done (Break w) = true
 is_done (Continue w) = false
 
 -- one step: the walk ends there, or goes on from there
-pub record Stepped (sizes : Sizes) (reads : Reads) (answer₀ : List Keyed) (m : Memory) (done : Bool) (seen front : List ℕ) : Type 0 where
+pub record Stepped (reads : Reads) (answer₀ : List Keyed) (m : Memory) (done : Bool) (seen front : List ℕ) : Type 0 where
   pub seen' : List ℕ
   pub front' : List ℕ
-  pub stands : Between sizes (far_of sizes reads) (live_of reads) answer₀ m seen' front'
-  pub ends : done ≡ true → (more : ℕ) → walk_on sizes reads (suc more) seen front ≡ seen'
-  pub goes : done ≡ false → (more : ℕ) → walk_on sizes reads (suc more) seen front ≡ walk_on sizes reads more seen' front'
+  pub stands : Between reads.sizes (far_of reads) (live_of reads) answer₀ m seen' front'
+  pub ends : done ≡ true → (more : ℕ) → walk_on reads (suc more) seen front ≡ seen'
+  pub goes : done ≡ false → (more : ℕ) → walk_on reads (suc more) seen front ≡ walk_on reads more seen' front'
 
-abbrev pub Stepping : Sizes → Reads → List ℕ → Memory → Memory → Bool → Type 0
-Stepping sizes reads links m m' done =
-    Linked sizes.shape.n reads.bridges.now links
+abbrev pub Stepping : Reads → List ℕ → Memory → Memory → Bool → Type 0
+Stepping reads links m m' done =
+    Linked reads.sizes.shape.n reads.bridges.now links
     → (answer₀ : List Keyed) (seen front : List ℕ)
-    → Between sizes (far_of sizes reads) (live_of reads) answer₀ m seen front
-    → Stepped sizes reads answer₀ m' done seen front
+    → Between reads.sizes (far_of reads) (live_of reads) answer₀ m seen front
+    → Stepped reads answer₀ m' done seen front
 
 -- all steps
 pub record Rested (sizes : Sizes) (far : ℕ → Float) (live : ℕ → Bool) (answer₀ : List Keyed) (m : Memory) (seen : List ℕ) : Type 0 where
   pub front : List ℕ
   pub stands : Between sizes far live answer₀ m seen front
 
-abbrev pub Walking : Sizes → Reads → List ℕ → Memory → Memory → Type 0
-Walking sizes reads links m m' =
-    Linked sizes.shape.n reads.bridges.now links
+abbrev pub Walking : Reads → List ℕ → Memory → Memory → Type 0
+Walking reads links m m' =
+    Linked reads.sizes.shape.n reads.bridges.now links
     → (answer₀ : List Keyed) (seen front : List ℕ)
-    → Between sizes (far_of sizes reads) (live_of reads) answer₀ m seen front
-    → Rested sizes (far_of sizes reads) (live_of reads) answer₀ m' (walk_on sizes reads sizes.shape.n seen front)
+    → Between reads.sizes (far_of reads) (live_of reads) answer₀ m seen front
+    → Rested reads.sizes (far_of reads) (live_of reads) answer₀ m' (walk_on reads reads.sizes.shape.n seen front)
 
 -- the same of bridges between nodes, which the function links itself
-abbrev pub WalkingLinked : Sizes → Reads → Memory → Memory → Type 0
-WalkingLinked sizes reads m m' =
-    ((i : ℕ) → i < length reads.bridges.now → get_or reads.bridges.now i 0 < sizes.shape.n)
+abbrev pub WalkingLinked : Reads → Memory → Memory → Type 0
+WalkingLinked reads m m' =
+    ((i : ℕ) → i < length reads.bridges.now → get_or reads.bridges.now i 0 < reads.sizes.shape.n)
     → (answer₀ : List Keyed) (seen front : List ℕ)
-    → Between sizes (far_of sizes reads) (live_of reads) answer₀ m seen front
-    → Rested sizes (far_of sizes reads) (live_of reads) answer₀ m' (walk_on sizes reads sizes.shape.n seen front)
+    → Between reads.sizes (far_of reads) (live_of reads) answer₀ m seen front
+    → Rested reads.sizes (far_of reads) (live_of reads) answer₀ m' (walk_on reads reads.sizes.shape.n seen front)
 
 -- nothing is marked, in the frontier or held
 pub record Prepared (n b : ℕ) (words : List ℕ) : Type 0 where

@@ -4,11 +4,10 @@ use mathlib.Core.List.{List}
 use native.Mathlib.Omega.{arith}
 use borrow.Author.Tests.{eq-eqb, ne_eqb}
 use Rattle.std.proofs.lemmas.Result.{err_from_is_err_and}
-use Rattle.error.proofs.Laws.{never_zero}
 use Rattle.basics.specs.Refusals.{Check, first_refusal}
-use Rattle.basics.proofs.Refusals.{turned_at, none_turned, then_first, then_second}
+use Rattle.basics.proofs.Refusals.{turned_at, none_turned}
 use Rattle.store.specs.Opening.{scratch, opening}
-use Rattle.store.proofs.Opened.{opening_numbered}
+use Rattle.store.proofs.Opened.{own_decide, first_decide}
 use Rattle.def_calls.specs.Build.{own_build_checks, build_checks}
 use Rattle.build.proofs.check_build.Goals as goal
 use Rattle.build.proofs.check_build.Goals.{Start}
@@ -22,16 +21,14 @@ Own s = own_build_checks s.args.words.now
 -- where the first checks pass, its own decide
 own : (s : Start) → 0 ≡ first_refusal (First s) → first_refusal (Own s) ≡ first_refusal (build_checks s.args.lent.words s.args.lent.floats s.args.words.now s.args.floats.now)
 unfolding build_checks
-own s e = sym (then_second (First s) (Own s) (opening_numbered (scratch s.args.lent.words s.args.lent.floats) s.args.words.now s.args.floats.now) (sym e))
+own s e = own_decide (scratch s.args.lent.words s.args.lent.floats) s.args.words.now s.args.floats.now (Own s) e
 
 pub returns-in_err-check_opening : goal.returns-in_err-check_opening
 unfolding build_checks
 returns-in_err-check_opening c =
     let p = err_from_is_err_and c.from_residual.result c.from_residual.ensures.1 in
     let s = (goal.at.returns-in_err-check_opening c).Start in
-    rw (p.1, p.2)
-    (c.in_err-check_opening.ensures
-    ∙ sym (then_first (First s) (Own s) (λ e. never_zero _ (c.in_err-check_opening.ensures ∙ e))))
+    rw (p.1, p.2) (first_decide (scratch s.args.lent.words s.args.lent.floats) s.args.words.now s.args.floats.now (Own s) _ c.in_err-check_opening.ensures)
 
 pub returns-then-word_at-eq0 : goal.returns-then-word_at-eq0
 unfolding own_build_checks

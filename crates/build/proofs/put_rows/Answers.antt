@@ -9,7 +9,7 @@ put_leaves-requires c =
     let carve = c.partition-count in
     record {
       most = c.requires.most;
-      counted = carved_count a.n a.vectors a.p a.rows.now a.scratch_words.now _ carve.result _ c.requires carve.ensures;
+      counted = carved_count a.stored.n a.stored.vectors a.p a.rows.now a.scratch_words.now _ carve.result _ c.requires carve.ensures;
       words_room = omega (arith, carve.auto.words, c.requires.words_room);
     }
 
@@ -17,5 +17,5 @@ pub returns : goal.returns
 returns c =
     let a = c.args in
     let carve = c.partition-count in
-    rows_made a.n a.vectors a.p a.rows.now a.scratch_words.now _ carve.result _ c.requires carve.ensures
+    rows_made a.stored.n a.stored.vectors a.p a.rows.now a.scratch_words.now _ carve.result _ c.requires carve.ensures
     _ _ _ (c.fill.ensures.after (λ _ e. e)) c.put_leaves.ensures c.add_reverse_edges.ensures

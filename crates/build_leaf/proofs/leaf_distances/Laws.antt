@@ -15,9 +15,9 @@ use Rattle.basics.proofs.Pieces.{nth_piece, length_pieces}
 use Rattle.simd.specs.Inside.Eight.{lane_of, row_in}
 use Rattle.distance.specs.Distance.{distance_of, block_distances_of}
 use Rattle.distance.specs.Vectors.{vectors_in, vectors_of, vector_of, between}
-use Rattle.distance.specs.declared.vectors.Vectors.{Vectors}
 use Rattle.distance.proofs.vectors.Laws.{between-sym}
-use Rattle.build_leaf.specs.Inside.Lanes.{node_at, LanePut, BlockTurned, LanesFilled, Distances}
+use Rattle.build_leaf.specs.declared.leaf_distances.Leaf.{Leaf}
+use Rattle.build_leaf.specs.Inside.Lanes.{node_at, vector_at, LanePut, BlockTurned, LanesFilled, Distances}
 
 -- ---- a write
 
@@ -70,25 +70,26 @@ module _ (g : ℕ) (v before : List Float) (l : g < 8) (room : 8 * length v ≤ 
 
 -- ---- the block
 
-pub turned_none : (vs : List (List Float)) (leaf : List ℕ) (first : ℕ) (block : List Float) → BlockTurned vs leaf first 0 block
-turned_none vs leaf first block g h = absurd (omega arith)
+module _ (leaf : Leaf) (first : ℕ) where
+  pub turned_none : (block : List Float) → BlockTurned leaf first 0 block
+  turned_none block g h = absurd (omega arith)
 
-pub turned_more : (vs : List (List Float)) (leaf : List ℕ) (first g place : ℕ) (before after v : List Float) → g < 8 → place ≡ min (first + g) (length leaf - 1)
-    → v ≡ vector_of vs (get_or leaf place 0) → BlockTurned vs leaf first g before → LanePut g v before after → BlockTurned vs leaf first (g + 1) after
-turned_more vs leaf first g place before after v l e q turned put k h = go (dec_lt k g)
-  where
-    vec : ℕ → List Float
-    vec i = vector_of vs (node_at leaf (first + i))
+  pub turned_more : (g place : ℕ) (before after v : List Float) → g < 8 → place ≡ min (first + g) (length leaf.nodes.now - 1)
+      → v ≡ vector_of (vectors_of leaf.vectors) (get_or leaf.nodes.now place 0) → BlockTurned leaf first g before → LanePut g v before after → BlockTurned leaf first (g + 1) after
+  turned_more g place before after v l e q turned put k h = go (dec_lt k g)
+    where
+      vec : ℕ → List Float
+      vec i = vector_at leaf (first + i)
 
-    this : v ≡ vec g
-    this = q ∙ ap (λ (i : ℕ). vector_of vs (get_or leaf i 0)) e
+      this : v ≡ vec g
+      this = q ∙ ap (λ (i : ℕ). vector_of (vectors_of leaf.vectors) (get_or leaf.nodes.now i 0)) e
 
-    last : k ≡ g → lane_of after k (length (vec k)) ≡ vec k
-    last w = subst (λ (i : ℕ). lane_of after i (length (vec i)) ≡ vec i) (sym w) (subst (λ (x : List Float). lane_of after g (length x) ≡ x) this put.put)
+      last : k ≡ g → lane_of after k (length (vec k)) ≡ vec k
+      last w = subst (λ (i : ℕ). lane_of after i (length (vec i)) ≡ vec i) (sym w) (subst (λ (x : List Float). lane_of after g (length x) ≡ x) this put.put)
 
-    go : Dec (k < g) → lane_of after k (length (vec k)) ≡ vec k
-    go (yes b) = put.kept k (length (vec k)) (omega arith) (λ w. omega arith) ∙ turned k b
-    go (no n) = last (omega arith)
+      go : Dec (k < g) → lane_of after k (length (vec k)) ≡ vec k
+      go (yes b) = put.kept k (length (vec k)) (omega arith) (λ w. omega arith) ∙ turned k b
+      go (no n) = last (omega arith)
 
 -- ---- eight numbers side by side
 
@@ -104,15 +105,21 @@ eight_at q block (suc (suc (suc (suc (suc (suc zero)))))) h = refl
 eight_at q block (suc (suc (suc (suc (suc (suc (suc zero))))))) h = refl
 eight_at q block (suc (suc (suc (suc (suc (suc (suc (suc g)))))))) h = absurd (omega arith)
 
-module _ (vs : List (List Float)) (leaf : List ℕ) (block : List Float) where
-  pub filled_none : (floats : List Float) → LanesFilled vs leaf block 0 floats
+module _ (l : Leaf) (block : List Float) where
+  abbrev leaf : List ℕ
+  leaf = l.nodes.now
+
+  abbrev vs : List (List Float)
+  vs = vectors_of l.vectors
+
+  pub filled_none : (floats : List Float) → LanesFilled l block 0 floats
   unfolding lane_of
   filled_none floats g h = refl
 
   pub filled_more : (j at : ℕ) (floats next e : List Float) → j < length leaf → at ≡ 8 * j → at + 8 ≤ length floats
       → e ≡ block_distances_of (vector_of vs (get_or leaf j 0)) block → next ≡ take at floats ++ (e ++ drop (at + 8) floats)
-      → LanesFilled vs leaf block j floats → LanesFilled vs leaf block (j + 1) next
-  filled_more j at floats next e h a room q w filled g l =
+      → LanesFilled l block j floats → LanesFilled l block (j + 1) next
+  filled_more j at floats next e h a room q w filled g small =
       let to : ℕ → Float = λ u. distance_of binary32 (vector_of vs u) (row_in block g) in
       let rest : List Float = e ++ drop (at + 8) floats in
       let long : length (take at floats) ≡ at = length-take-le at floats (omega arith) in
@@ -122,7 +129,7 @@ module _ (vs : List (List Float)) (leaf : List ℕ) (block : List Float) where
       ∙ get_or-append-add (take at floats) rest g nan
       ∙ get_or-append e (drop (at + 8) floats) nan g (omega (arith, ap length q))
       ∙ ap (λ (x : List Float). get_or x g nan) q
-      ∙ eight_at (vector_of vs (get_or leaf j 0)) block g l in
+      ∙ eight_at (vector_of vs (get_or leaf j 0)) block g small in
       let before : lane_of next g j ≡ lane_of floats g j =
       lane_kept floats next g j
       (λ i k. ap (λ (f : List Float). get_or f (8 * i + g) nan) w
@@ -130,12 +137,12 @@ module _ (vs : List (List Float)) (leaf : List ℕ) (block : List Float) where
       ∙ get_or-take at floats (8 * i + g) nan (omega arith)) in
       ap (lane_of next g) (add-one j)
       ∙ lane_next next g j (to (get_or leaf j 0)) here
-      ∙ ap (λ (m : List Float). m ++ (to (get_or leaf j 0) ∷ [])) (before ∙ filled g l)
+      ∙ ap (λ (m : List Float). m ++ (to (get_or leaf j 0) ∷ [])) (before ∙ filled g small)
       ∙ sym (map-append to (take j leaf) (get_or leaf j 0 ∷ []))
       ∙ ap (map to) (sym (ap (λ (i : ℕ). take i leaf) (add-one j) ∙ take-suc leaf j 0 h))
 
-  pub filled_all : (j : ℕ) (floats : List Float) → length leaf ≤ j → j ≤ length leaf → LanesFilled vs leaf block j floats → LanesFilled vs leaf block (length leaf) floats
-  filled_all j floats h k filled = let e : j ≡ length leaf = omega arith in subst (λ (i : ℕ). LanesFilled vs leaf block i floats) e filled
+  pub filled_all : (j : ℕ) (floats : List Float) → length leaf ≤ j → j ≤ length leaf → LanesFilled l block j floats → LanesFilled l block (length leaf) floats
+  filled_all j floats h k filled = let e : j ≡ length leaf = omega arith in subst (λ (i : ℕ). LanesFilled l block i floats) e filled
 
 -- ---- both together
 
@@ -158,20 +165,21 @@ vector_short d xs u = go (dec_lt u (length xs / d))
     go (yes h) = omega (arith, vector_length d xs u h)
     go (no h) = omega (arith, ap length (get_or-eq_default (vectors_in d xs) [] {n = u} (omega (arith, length_pieces d (length xs / d) xs))))
 
-module _ (v : Vectors) (leaf : List ℕ) (first : ℕ) (block : List Float) where
+module _ (l : Leaf) (first : ℕ) (block : List Float) where
   abbrev d : ℕ
-  d = v.dimension
+  d = l.vectors.dimension
 
   pub distances_are : (room : ℕ) (floats : List Float) → length block ≡ 8 * d
-      → BlockTurned (vectors_of v) leaf first 8 block → LanesFilled (vectors_of v) leaf block (length leaf) floats → Distances v leaf first room floats
+      → BlockTurned l first 8 block → LanesFilled l block (length l.nodes.now) floats → Distances l first room floats
   unfolding between
-  distances_are room floats size turned filled few inside fits below g l =
-      let vs : List (List Float) = vectors_of v in
+  distances_are room floats size turned filled few inside fits below g small =
+      let leaf : List ℕ = l.nodes.now in
+      let vs : List (List Float) = vectors_of l.vectors in
       let p : ℕ = node_at leaf (first + g) in
-      let long : length (vector_of vs p) ≡ d = vector_length d v.components.now p (below p (in_get_d leaf (min (first + g) (length leaf - 1)) 0 (omega arith))) in
+      let long : length (vector_of vs p) ≡ d = vector_length d l.vectors.components.now p (below p (in_get_d leaf (min (first + g) (length leaf - 1)) 0 (omega arith))) in
       let many : length block / 8 ≡ d = ap (λ (k : ℕ). k / 8) size ∙ mul-div_cancel_left d (omega arith) in
-      let row : row_in block g ≡ vector_of vs p = ap (lane_of block g) (many ∙ sym long) ∙ turned g l in
-      filled g l
+      let row : row_in block g ≡ vector_of vs p = ap (lane_of block g) (many ∙ sym long) ∙ turned g small in
+      filled g small
       ∙ ap (map (λ (u : ℕ). distance_of binary32 (vector_of vs u) (row_in block g))) (take_all (length leaf) leaf (omega arith))
       ∙ map_same (λ (u : ℕ). distance_of binary32 (vector_of vs u) (row_in block g)) (between vs p) leaf
       (λ u. ap (distance_of binary32 (vector_of vs u)) row ∙ between-sym vs u p)

@@ -6,7 +6,7 @@ use Rattle.basics.specs.Nodes.{Below}
 use Rattle.simd.specs.Inside.Eight.{lane_of, row_in}
 use Rattle.distance.specs.Distance.{distance_of}
 use Rattle.distance.specs.Vectors.{vectors_of, vector_of, between}
-use Rattle.distance.specs.declared.vectors.Vectors.{Vectors}
+use Rattle.build_leaf.specs.declared.leaf_distances.Leaf.{Leaf}
 
 -- the node of the leaf's place i, or of its last place where there is no such place
 abbrev pub node_at : List ℕ → ℕ → ℕ
@@ -17,18 +17,21 @@ pub record LanePut (g : ℕ) (v before after : List Float) : Type 0 where
   pub put : lane_of after g (length v) ≡ v
   pub kept : (k n : ℕ) → k < 8 → (k ≡ g → ⊥) → lane_of after k n ≡ lane_of before k n
 
+-- the vector of a leaf's place i, or of its last place
+abbrev pub vector_at : Leaf → ℕ → List Float
+vector_at l i = vector_of (vectors_of l.vectors) (node_at l.nodes.now i)
+
 -- the first lanes of a block hold the vectors of the leaf's places from `first` on
-abbrev pub BlockTurned : List (List Float) → List ℕ → ℕ → ℕ → List Float → Type 0
-BlockTurned vs leaf first lanes block =
-    (g : ℕ) → g < lanes → lane_of block g (length (vector_of vs (node_at leaf (first + g)))) ≡ vector_of vs (node_at leaf (first + g))
+abbrev pub BlockTurned : Leaf → ℕ → ℕ → List Float → Type 0
+BlockTurned l first lanes block = (g : ℕ) → g < lanes → lane_of block g (length (vector_at l (first + g))) ≡ vector_at l (first + g)
 
 -- each lane holds the distances of the leaf's first places to that lane's vector of a block
-abbrev pub LanesFilled : List (List Float) → List ℕ → List Float → ℕ → List Float → Type 0
-LanesFilled vs leaf block places floats =
-    (g : ℕ) → g < 8 → lane_of floats g places ≡ map (λ (u : ℕ). distance_of binary32 (vector_of vs u) (row_in block g)) (take places leaf)
+abbrev pub LanesFilled : Leaf → List Float → ℕ → List Float → Type 0
+LanesFilled l block places floats =
+    (g : ℕ) → g < 8 → lane_of floats g places ≡ map (λ (u : ℕ). distance_of binary32 (vector_of (vectors_of l.vectors) u) (row_in block g)) (take places l.nodes.now)
 
 -- lane g holds the distances of place first + g to every place
-abbrev pub Distances : Vectors → List ℕ → ℕ → ℕ → List Float → Type 0
-Distances v leaf first room floats =
-    v.dimension ≤ 64 → first < length leaf → 8 * length leaf ≤ room → Below (length v.components.now / v.dimension) leaf
-    → (g : ℕ) → g < 8 → lane_of floats g (length leaf) ≡ map (between (vectors_of v) (node_at leaf (first + g))) leaf
+abbrev pub Distances : Leaf → ℕ → ℕ → List Float → Type 0
+Distances l first room floats =
+    l.vectors.dimension ≤ 64 → first < length l.nodes.now → 8 * length l.nodes.now ≤ room → Below (length l.vectors.components.now / l.vectors.dimension) l.nodes.now
+    → (g : ℕ) → g < 8 → lane_of floats g (length l.nodes.now) ≡ map (between (vectors_of l.vectors) (node_at l.nodes.now (first + g))) l.nodes.now

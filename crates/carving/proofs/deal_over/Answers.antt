@@ -1,25 +1,25 @@
--- The copy at the front of `ids` is the segment, which fits over its own place since each node goes to one leader. Assumes nothing.
-use mathlib.Core.Path.{◌≡◌, ap, ◌∙◌, subst}
+-- The copy at the front of `ids` is the segment, which fits over the slice (`fitting`). Assumes nothing.
+use mathlib.Core.Path.{◌≡◌, refl, ap, ◌∙◌, subst}
 use mathlib.Core.List.{List, ◌++◌}
-use Prim.Native.Nat.{ℕ}
+use Prim.Native.Nat.{ℕ, ◌/◌}
 use lib.ListN.{length, take, drop}
 use lib.Seq.{length-take-le, take_at}
-use Rattle.distance.specs.Vectors.{vectors_of}
-use Rattle.def_graph.specs.Partition.{buckets_of}
 use Rattle.dealing.specs.Inside.Deal.{Holding}
-use Rattle.carving.proofs.Carving.{fitting-down}
+use Rattle.carving.specs.Inside.Steps.{dealt_in, segment_size}
+use Rattle.carving.proofs.Carving.{fitting, segment_within}
 use native.Mathlib.Omega.{arith}
 use Rattle.carving.proofs.deal_over.Goals as goal
 
 pub returns : goal.returns
 returns c =
     let x = c.args in
-    let size : ℕ = length x.nodes.now in
-    let copy : c.copy_from_slice.new.self ≡ x.nodes.now = c.copy_from_slice.ensures.after in
-    let part : take size (c.copy_from_slice.new.self ++ drop size x.scratch.now.ids) ≡ x.nodes.now
-    = take_at c.copy_from_slice.new.self (drop size x.scratch.now.ids) size (ap length copy) ∙ copy in
-    subst (λ (l : List ℕ). Holding (buckets_of x.p.min_leaf x.p.leader_fraction (vectors_of x.vectors) x.level l) c.deal.new.nodes c.deal.new.marks)
-    part
-    (c.deal.ensures.dealt
-    (fitting-down x.level _ x.nodes.now x.marks.now c.requires part (length x.scratch.now.room) (length (take size x.scratch.now.cards)) (omega arith)
-    (length-take-le size x.scratch.now.cards (omega arith))))
+    let nodes = x.nodes.now in
+    let size : ℕ = segment_size x.carve nodes in
+    let within = segment_within x.carve nodes x.marks.now c.requires in
+    let copy = c.copy_from_slice.new.self in
+    let fan : length nodes / c.fan_of.result ≡ size = ap (λ (k : ℕ). length nodes / k) c.fan_of.ensures in
+    let front : take (length nodes / c.fan_of.result) (copy ++ drop (length nodes / c.fan_of.result) x.scratch.now.ids) ≡ take size nodes
+    = take_at copy _ _ (omega (arith, fan, within, ap length c.copy_from_slice.ensures.after, length-take-le size nodes within, ap (λ (k : ℕ). length (take k nodes)) fan)) ∙ c.copy_from_slice.ensures.after ∙ ap (λ (k : ℕ). take k nodes) fan in
+    subst (λ (l : List ℕ). Holding (dealt_in x.carve l) c.deal.new.nodes c.deal.new.marks) front
+    (c.deal.ensures.dealt (fitting x.carve _ nodes x.marks.now c.requires refl front (length x.scratch.now.room) _ (omega arith)
+    (ap (λ (k : ℕ). length (take k x.scratch.now.cards)) fan ∙ length-take-le size x.scratch.now.cards (omega (arith, within, c.requires.few)))))

@@ -27,5 +27,5 @@ buckets_by leaders ids cards = map (λ (l : ℕ). bucket_at l ids cards) (up_to 
 abbrev pub bucket_in : ℕ → Carded → List ℕ
 bucket_in l c = bucket_at l c.ids.now c.cards.now
 
-abbrev pub buckets_in : ℕ → Carded → List (List ℕ)
-buckets_in leaders c = buckets_by leaders c.ids.now c.cards.now
+abbrev pub buckets_in : Carded → List (List ℕ)
+buckets_in c = buckets_by c.leaders c.ids.now c.cards.now

@@ -32,8 +32,8 @@ abbrev pub none_yet : Gathered
 none_yet = record { placed = []; small = [] }
 
 -- slices for all buckets of a segment
-pub record Dealt (leaders : ℕ) (c : Carded) (nodes marks : List ℕ) : Type 0 where
+pub record Dealt (c : Carded) (nodes marks : List ℕ) : Type 0 where
   pub cards_size : length c.cards.now ≡ length c.ids.now
   pub marks_size : length marks ≡ length nodes
-  pub all_entries : entries (buckets_in leaders c) ≡ length nodes
+  pub all_entries : entries (buckets_in c) ≡ length nodes
   pub few : length nodes ≤ 2048

@@ -1,17 +1,15 @@
--- One row added to the sums, as a loop over components makes it; and rows added one after the other, as a loop over rows makes them.
--- Assumes nothing.
+-- One row added to the sums, as a loop over components makes it. Assumes nothing.
 use mathlib.Core.Path.{◌≡◌, refl, sym, ap, ap₂, ◌∙◌}
 use mathlib.Core.List.{List, [], ◌∷◌, ◌++◌, append-nil}
-use Prim.Native.Nat.{ℕ, suc, ◌+◌, ◌-◌, ◌≤◌, ◌<◌}
+use Prim.Native.Nat.{ℕ, suc, ◌+◌, ◌≤◌, ◌<◌}
 use native.Mathlib.Nat.{le_of_lt}
 use native.Mathlib.Numerals.{add-one}
 use native.Mathlib.Omega.{arith}
 use lib.ListN.{length, get_or, set, take, drop, length-take, drop_of_length-le}
-use lib.Seq.{take-suc, take_all, drop-cons, get_or_at, length-take-le, drop-drop}
+use lib.Seq.{take-suc, take_all, drop-cons, get_or_at, length-take-le}
 use lib.Ieee.{Float, Format, binary32, nan, add}
-use Rattle.basics.specs.Lists.{pieces}
 use Rattle.basics.proofs.Loops.{front_set}
-use Rattle.def_graph.specs.Centroid.{add_to, row_sums_from}
+use Rattle.def_graph.specs.Centroid.{add_to}
 
 pub length-add_to : (f : Format) (s v : List Float) → length (add_to f s v) ≡ length s
 unfolding add_to
@@ -54,28 +52,3 @@ module _ (sums row : List Float) (e : length row ≡ length sums) where
       ap₂ (λ (a : List Float) (b : List Float). add_to binary32 a b ++ drop j sums) (take_all j sums h) (take_all j row (omega arith))
       ∙ ap (λ (l : List Float). add_to binary32 sums row ++ l) (drop_of_length-le sums h)
       ∙ append-nil (add_to binary32 sums row)
-
--- ---- over rows
-
--- what is left to add from row i on, which starts at `at`, completes the whole
-abbrev pub Summing : List Float → ℕ → ℕ → List Float → ℕ → ℕ → List Float → Type 0
-Summing vectors d n sums₀ at i sums = row_sums_from binary32 sums (pieces d (n - i) (drop at vectors)) ≡ row_sums_from binary32 sums₀ (pieces d n vectors)
-
-pub summing_none : (vectors : List Float) (d n : ℕ) (sums : List Float) → Summing vectors d n sums 0 0 sums
-summing_none vectors d n sums = let e : n - 0 ≡ n = omega arith in ap (λ (k : ℕ). row_sums_from binary32 sums (pieces d k vectors)) e
-
-pub summing_more : (vectors : List Float) (d n : ℕ) (sums₀ : List Float) (at i : ℕ) (sums : List Float) → i < n
-    → Summing vectors d n sums₀ at i sums → Summing vectors d n sums₀ (at + d) (i + 1) (add_to binary32 sums (take d (drop at vectors)))
-unfolding row_sums_from pieces
-summing_more vectors d n sums₀ at i sums h s =
-    let one : n - i ≡ suc (n - (i + 1)) = omega arith in
-    ap (λ (l : List Float). row_sums_from binary32 (add_to binary32 sums (take d (drop at vectors))) (pieces d (n - (i + 1)) l)) (sym (drop-drop d at vectors))
-    ∙ sym (ap (λ (k : ℕ). row_sums_from binary32 sums (pieces d k (drop at vectors))) one)
-    ∙ s
-
-pub summing_done : (vectors : List Float) (d n : ℕ) (sums₀ : List Float) (at i : ℕ) (sums : List Float) → n ≤ i
-    → Summing vectors d n sums₀ at i sums → sums ≡ row_sums_from binary32 sums₀ (pieces d n vectors)
-unfolding row_sums_from pieces
-summing_done vectors d n sums₀ at i sums h s =
-    let none : n - i ≡ 0 = omega arith in
-    sym (ap (λ (k : ℕ). row_sums_from binary32 sums (pieces d k (drop at vectors))) none) ∙ s

@@ -19,7 +19,7 @@ use Rattle.basics.specs.Nodes.{has, Below}
 use Rattle.distance.specs.Vectors.{vector_of, between}
 use Rattle.def_walk.specs.Repair.{lists_of, with_lists, candidates_for, nearest_reached}
 use Rattle.graph_utils.proofs.marking.Refining.{Marked}
-use Rattle.graph_utils.specs.declared.candidates.Nearest.{Nearest}
+use Rattle.distance.specs.declared.vectors.Nearest.{Nearest}
 use Rattle.graph_utils.specs.Inside.Candidates.{Seeking, nearest, distance_from, considered, considered_all, start_of}
 
 -- ---- the nearest

@@ -6,7 +6,7 @@ use Prim.Native.Nat.{ℕ}
 use lib.Dec.{eqb, leb}
 use lib.ListN.{get_or}
 use lib.Ieee.{Float, lt}
-use Rattle.basics.specs.Choice.{pick_true, pick_false}
+use Rattle.basics.specs.Choice.{pick, pick_true, pick_false}
 use denote.Param.Members.{Mut}
 use Rattle.std.specs.Fn.{Called}
 use Rattle.std.specs.Iterator.{YieldsFirstBy, FoldsItems}
@@ -17,7 +17,7 @@ use Rattle.lists.specs.declared.chains.Entries.{Entries}
 use Rattle.lists.specs.Inside.Lists.{entries_left}
 use Rattle.distance.specs.Vectors.{vector_of}
 use Rattle.def_walk.specs.Repair.{lists_of, with_lists, candidates_for}
-use Rattle.graph_utils.specs.declared.candidates.Nearest.{Nearest}
+use Rattle.distance.specs.declared.vectors.Nearest.{Nearest}
 use Rattle.graph_utils.specs.Inside.Candidates.{Seeking, nearest, distance_from, considered, considered_all, start_of}
 
 module _ (k : Seeking) where
@@ -27,19 +27,11 @@ module _ (k : Seeking) where
   unfolding considered
   not_reached c mark best m t = sym (pick_true best _ (ap (λ (x : ℕ). leb k.n c || eqb x 0) (sym m) ∙ t))
 
-  pub is_nearer : (c mark : ℕ) (best : Nearest) (d : Float) → mark ≡ get_or k.marks c 0 → (leb k.n c || eqb mark 0) ≡ false → d ≡ distance_from k c
-      → lt d best.distance ≡ true → nearest c d ≡ considered k c best
+  pub is_reached : (c mark : ℕ) (best : Nearest) (d : Float) → mark ≡ get_or k.marks c 0 → (leb k.n c || eqb mark 0) ≡ false → d ≡ distance_from k c
+      → pick (lt d best.distance) (nearest c d) best ≡ considered k c best
   unfolding considered
-  is_nearer c mark best d m t e l =
-      ap (nearest c) e
-      ∙ sym (pick_true (nearest c (distance_from k c)) best (ap (λ (x : Float). lt x best.distance) (sym e) ∙ l))
-      ∙ sym (pick_false best _ (ap (λ (x : ℕ). leb k.n c || eqb x 0) (sym m) ∙ t))
-
-  pub not_nearer : (c mark : ℕ) (best : Nearest) (d : Float) → mark ≡ get_or k.marks c 0 → (leb k.n c || eqb mark 0) ≡ false → d ≡ distance_from k c
-      → lt d best.distance ≡ false → best ≡ considered k c best
-  unfolding considered
-  not_nearer c mark best d m t e l =
-      sym (pick_false (nearest c (distance_from k c)) best (ap (λ (x : Float). lt x best.distance) (sym e) ∙ l))
+  is_reached c mark best d m t e =
+      ap (λ (x : Float). pick (lt x best.distance) (nearest c x) best) e
       ∙ sym (pick_false best _ (ap (λ (x : ℕ). leb k.n c || eqb x 0) (sym m) ∙ t))
 
   -- ---- a list of candidates

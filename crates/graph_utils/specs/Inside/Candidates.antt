@@ -7,7 +7,7 @@ use Rattle.basics.specs.Choice.{pick}
 use Rattle.distance.specs.Distance.{distance_of}
 use Rattle.distance.specs.Vectors.{vectors_of, vector_of}
 use Rattle.def_walk.specs.Repair.{candidates_for}
-use Rattle.graph_utils.specs.declared.candidates.Nearest.{Nearest}
+use Rattle.distance.specs.declared.vectors.Nearest.{Nearest}
 use Rattle.graph_utils.specs.declared.candidates.Seeker.{Seeker}
 
 -- what candidates for a bridge to a node are compared by: the marks of n nodes, the nodes' vectors, and the node's own vector, the query

@@ -36,9 +36,8 @@ place_in cell = cell.place
 abbrev pub cell_in : Taken → Cell
 cell_in cell = record { hash = cell.hash; node = cell.place }
 
--- the first n cells of a slice
-abbrev pub cells_in : ℕ → List Taken → List Cell
-cells_in n cells = map cell_in (take n cells)
+abbrev pub cells_in : List Taken → List Cell
+cells_in cells = map cell_in cells
 
 -- the candidate at a place, and its distance
 abbrev pub node_at : List Candidate → ℕ → ℕ
@@ -52,10 +51,10 @@ abbrev pub winner : List Candidate → ℕ → Taken → Taken
 winner candidates place cell = record { hash = cell.hash; place = pick (lt (far_at candidates place) (far_at candidates cell.place)) place cell.place }
 
 -- room for one cell more, whose candidate is there, as all that hold cells are
-pub record ContestRoom (held : ℕ) (new : Taken) (cells : List Taken) (candidates : List Candidate) : Type 0 where
-  pub room : held < length cells
+pub record ContestRoom (new : Taken) (cells : List Taken) (candidates : List Candidate) : Type 0 where
+  pub room : length cells < 64
   pub place_inside : new.place < length candidates
-  pub inside : Below (length candidates) (map place_in (take held cells))
+  pub inside : Below (length candidates) (map place_in cells)
 
 -- the hash by blocks of planes, of a residual cut to 64 components
 abbrev pub hash_by : List Float → ℕ → List Float → List Float → ℕ
@@ -99,11 +98,6 @@ abbrev pub merged_pairs : ℕ → List Keyed → List ℕ
 merged_pairs D ps = take D (dedup (map id_in (sort_by key_in ps)))
 
 -- ---- what the steps ask
-
--- room for a cell for each of n candidates
-pub record CellRoom (n : ℕ) (cells : List Taken) : Type 0 where
-  pub few : n ≤ 64
-  pub room : n ≤ length cells
 
 -- the cells are held by candidates, and there is room for a pair for each
 pub record PlaceRoom (candidates : List Candidate) (cells : List Taken) (pairs : List Keyed) : Type 0 where

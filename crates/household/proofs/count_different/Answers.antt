@@ -1,18 +1,17 @@
--- The invariant: the count, and what the numbers that are left add to it, are the whole. The measure is how many are left. Assumes nothing.
+-- A number that stands again further on adds nothing to the count, another adds one. Assumes nothing.
 use Rattle.std.proofs.Common.{arith}
 use mathlib.Core.Bool.{not}
 use Rattle.household.proofs.Steps.{at_most_one, count_one, none_different}
 use Rattle.household.proofs.count_different.Goals as goal
 
-pub loop-doc-preserved : goal.loop-doc-preserved
-loop-doc-preserved c =
-    let l = c.loop-doc in
-    let s = c.in-Some.ensures.cases in
+pub loop-i-preserved : goal.loop-i-preserved
+loop-i-preserved c =
+    let l = c.loop-i in
     let b = at_most_one (not c.occurs.result) in
-    let e = count_one c.in-Some.doc.now l.rest.now c.in-Some.others.now c.occurs.result s.0 c.occurs.ensures in
-    (omega (arith, c.from-count.ensures), omega (arith, c.from-count.ensures))
+    let e = count_one c.args.docs.now l.i c.occurs.result (omega arith) c.occurs.ensures in
+    (omega (arith, c.from-count.ensures, l.invariant.0), omega (arith, c.from-count.ensures))
 
 pub returns : goal.returns
 returns c =
-    let l = c.loop-doc in
-    omega (arith, none_different l.rest.now c.in_default.ensures.cases)
+    let l = c.loop-i in
+    omega (arith, none_different c.args.docs.now l.i (omega arith), l.invariant.0)

@@ -1,7 +1,7 @@
 -- The other ends of a node's bridges, linked (scope, Records: a node's list is its row, then the other ends of its bridges, in order). Slot s is word
 -- s of the bridges: bridge j has slot 2·j for its near node and 2·j + 1 for its far node. A link is a slot and 1, and 0 is none. Of n nodes the links
 -- are words: n heads, n tails, and then for each slot the next link of its node's chain.
-use Rattle.std.specs.Prelude.{◌≡◌, ◌&&◌, ℕ, zero, suc, ◌+◌, ◌-◌, ◌*◌, ◌%◌, ◌^◌, ◌<◌, min, eqb, ltb, leb, length, get_or, set, drop, replicate}
+use Rattle.std.specs.Prelude.{◌≡◌, ◌&&◌, ℕ, zero, suc, ◌+◌, ◌-◌, ◌*◌, ◌%◌, ◌^◌, ◌<◌, min, eqb, ltb, leb, length, get_or, set, drop, replicate, Option, Some, None}
 use mathlib.Core.List.{List, [], ◌∷◌, ◌++◌, map, Memᴰ as In}
 use Rattle.basics.specs.Choice.{pick}
 use Rattle.basics.specs.Graph.{Bridge}
@@ -18,6 +18,15 @@ other_slot s = s + 1 - 2 * (s % 2)
 -- the other end that a link leads to
 unfoldable pub other_end_at : List ℕ → ℕ → ℕ
 other_end_at bridges link = get_or bridges (other_slot (link - 1)) 0
+
+-- the link that a word is, of `nexts`, the words behind heads and tails: larger than a link before it, and with a place
+abbrev pub link_above : List ℕ → ℕ → ℕ → ℕ
+link_above nexts before word = pick (ltb before word && leb word (length nexts)) word 0
+
+-- a link as a reader has it: 0 is none
+abbrev pub as_link : ℕ → Option ℕ
+as_link zero = None
+as_link (suc s) = Some (suc s)
 
 -- the first link of a node; a link without a place is none
 unfoldable pub first_link : ℕ → List ℕ → ℕ → ℕ
@@ -43,7 +52,16 @@ unfoldable pub linked_ends : ℕ → List ℕ → List ℕ → ℕ → List ℕ
 unfolding ends_from
 linked_ends n bridges links link = ends_from n bridges links (suc (length links)) link
 
+-- the same as a reader has it, of the words behind heads and tails
+abbrev pub ends_after : List ℕ → List ℕ → Option ℕ → List ℕ
+ends_after bridges nexts None = []
+ends_after bridges nexts (Some link) = other_end_at bridges link ∷ linked_ends 0 bridges nexts (next_link 0 nexts link)
+
 -- ---- building chains
+
+-- a place, as a number of 64 bits has it: one that is too large is past the end of every slice, and so is the largest
+abbrev pub capped : ℕ → ℕ
+capped place = min place (2 ^ 64 - 1)
 
 -- no node has a link
 abbrev pub cleared_links : ℕ → List ℕ → List ℕ

@@ -5,7 +5,7 @@ use Rattle.lists.specs.declared.Shape.{Shape}
 use Rattle.lists.specs.declared.chains.Ends.{Ends}
 use Rattle.lists.specs.declared.chains.Entries.{Entries}
 use Rattle.lists.specs.declared.chains.Lists.{Lists}
-use Rattle.lists.specs.Inside.Chains.{first_link, linked_ends}
+use Rattle.lists.specs.Inside.Chains.{first_link, linked_ends, ends_after}
 
 -- the other ends of node u's bridges
 abbrev pub ends_words : ℕ → List ℕ → List ℕ → ℕ → List ℕ
@@ -24,7 +24,7 @@ list_in l = list_words l.shape l.rows.now l.bridges.now l.links.now
 
 -- what is left of them
 abbrev pub ends_left : Ends → List ℕ
-ends_left e = linked_ends e.n e.bridges.now e.links.now e.link
+ends_left e = ends_after e.bridges.now e.nexts.now e.link
 
 abbrev pub entries_left : Entries → List ℕ
 entries_left e = e.row.now ++ ends_left e.ends

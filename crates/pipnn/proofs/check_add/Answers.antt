@@ -7,11 +7,10 @@ use borrow.Author.Tests.{eq-eqb, ne_eqb}
 use Rattle.std.proofs.Common.{None, ℕ}
 use lib.Ieee.{Float}
 use Rattle.std.proofs.lemmas.Result.{err_from_is_err_and}
-use Rattle.error.proofs.Laws.{never_zero}
 use Rattle.basics.specs.Refusals.{Check, first_refusal}
-use Rattle.basics.proofs.Refusals.{Pass, turned_at, none_turned, then_first, then_second}
+use Rattle.basics.proofs.Refusals.{Pass, turned_at, none_turned}
 use Rattle.store.specs.Opening.{opening}
-use Rattle.store.proofs.Opened.{opening_numbered}
+use Rattle.store.proofs.Opened.{own_decide, first_decide}
 use Rattle.pipnn.specs.Add.{own_checks, add_checks}
 use Rattle.pipnn.proofs.check_add.Goals as goal
 use Rattle.pipnn.proofs.check_add.Goals.{Else-not-all_finite, Else-vector-word_at, Else-word_at-eq-BUILT, Start}
@@ -22,7 +21,7 @@ Own s = own_checks s.args.words.now s.args.vector.now
 -- where the first checks pass, its own decide
 own : (w : List ℕ) (f v : List Float) → 0 ≡ first_refusal (opening None w f) → first_refusal (own_checks w v) ≡ first_refusal (add_checks w f v)
 unfolding add_checks
-own w f v e = sym (then_second (opening None w f) (own_checks w v) (opening_numbered None w f) (sym e))
+own w f v e = own_decide None w f (own_checks w v) e
 
 -- what has passed at each place
 passed_1 : (c : Else-word_at-eq-BUILT) → Pass (take 1 (own_checks c.args.words.now c.args.vector.now))
@@ -46,9 +45,7 @@ unfolding add_checks
 returns-in_err-check_opening c =
     let a = c.args in
     let p = err_from_is_err_and c.from_residual.result c.from_residual.ensures.1 in
-    rw (p.1, p.2)
-    (c.in_err-check_opening.ensures
-    ∙ sym (then_first (opening None a.words.now a.floats.now) (own_checks a.words.now a.vector.now) (λ e. never_zero _ (c.in_err-check_opening.ensures ∙ e))))
+    rw (p.1, p.2) (first_decide None a.words.now a.floats.now (own_checks a.words.now a.vector.now) _ c.in_err-check_opening.ensures)
 
 pub returns-then-word_at-eq-BUILT : goal.returns-then-word_at-eq-BUILT
 unfolding own_checks

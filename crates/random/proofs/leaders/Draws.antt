@@ -1,7 +1,7 @@
--- The draws as a loop makes them: positions drawn stand at the front of `out`, those not drawn at the front of `left`, and what is left to draw
--- completes the whole. One turn, and the end. Assumes nothing.
-use Rattle.std.proofs.Common.{◌≡◌, ℕ, zero, suc, ◌+◌, ◌-◌, ◌%◌, ◌<◌, ◌≤◌, List, [], ◌∷◌, ◌++◌, length, get_or, take, drop, set, sym, refl, ap, ◌∙◌, subst, ap₂, append-nil, mod-lt, add-one, arith, length-append, length-set, take-append-drop, length-take-le, get_or-take, take-take, drop-drop, take-suc-set, drop-set-lt}
-use lib.Seq.{take-length, append_snoc, take-set-lt}
+-- The draws as a loop makes them, one for each place of `out`: positions drawn stand at the front of `out`, those not drawn at the front of `left`,
+-- and what is left to draw completes the whole. One turn, and the end. Assumes nothing.
+use Rattle.std.proofs.Common.{◌≡◌, ℕ, zero, suc, ◌+◌, ◌-◌, ◌%◌, ◌<◌, ◌≤◌, List, [], ◌∷◌, ◌++◌, length, get_or, take, set, sym, refl, ap, ◌∙◌, subst, ap₂, append-nil, mod-lt, add-one, arith, length-append, length-set, length-take-le, get_or-take, take-take, take-suc-set}
+use lib.Seq.{take-length, take_all, append_snoc, take-set-lt}
 use Rattle.random.specs.Lcg.{next_of, high, draw_addend}
 use Rattle.random.specs.Leaders.{swap_remove, drawn, up_to}
 
@@ -10,23 +10,21 @@ unfolding up_to
 length-up_to zero = refl
 length-up_to (suc n) = let r = length-up_to n in omega (arith, length-append (up_to n) (n ∷ []))
 
-pub record Drawing (count start : ℕ) (left₀ out₀ : List ℕ) (i r : ℕ) (left out : List ℕ) : Type 0 where
-  pub within : i ≤ count
+pub record Drawing (start : ℕ) (left₀ out₀ : List ℕ) (i r : ℕ) (left out : List ℕ) : Type 0 where
+  pub within : i ≤ length out₀
   pub same_left : length left ≡ length left₀
   pub same_out : length out ≡ length out₀
-  pub whole : take i out ++ drawn (count - i) r (take (length left₀ - i) left) ≡ drawn count start left₀
-  pub rest : drop i out ≡ drop i out₀
+  pub whole : take i out ++ drawn (length out₀ - i) r (take (length left₀ - i) left) ≡ drawn (length out₀) start left₀
 
-pub drawing_none : (count start : ℕ) (left out : List ℕ) → Drawing count start left out 0 start left out
-drawing_none count start left out = record {
+pub drawing_none : (start : ℕ) (left out : List ℕ) → Drawing start left out 0 start left out
+drawing_none start left out = record {
   within = omega arith;
   same_left = refl;
   same_out = refl;
   whole =
-      let c : count - 0 ≡ count = omega arith in
+      let c : length out - 0 ≡ length out = omega arith in
       let n : length left - 0 ≡ length left = omega arith in
-      ap₂ (λ (k : ℕ) (m : ℕ). drawn k start (take m left)) c n ∙ ap (drawn count start) (take-length left);
-  rest = refl;
+      ap₂ (λ (k : ℕ) (m : ℕ). drawn k start (take m left)) c n ∙ ap (drawn (length out) start) (take-length left);
 }
 
 -- the first m of a list, with the last of them moved to p
@@ -51,11 +49,14 @@ one_draw k r m left h =
     ap (λ (n : ℕ). get_or (take (suc m) left) (h' % n) 0 ∷ drawn k r' (swap_remove (h' % n) (take (suc m) left))) (length-take-le (suc m) left h)
     ∙ ap₂ (λ (x : ℕ) (l : List ℕ). x ∷ drawn k r' l) (get_or-take (suc m) left (h' % suc m) 0 p-lt) (moved left m (h' % suc m) h (omega (arith, p-lt)))
 
-module _ (count start : ℕ) (left₀ out₀ : List ℕ) where
-  pub drawing_more : (i r : ℕ) (left out : List ℕ) → Drawing count start left₀ out₀ i r left out → i < count → count ≤ length left₀ → count ≤ length out₀
+module _ (start : ℕ) (left₀ out₀ : List ℕ) where
+  abbrev count : ℕ
+  count = length out₀
+
+  pub drawing_more : (i r : ℕ) (left out : List ℕ) → Drawing start left₀ out₀ i r left out → i < count → count ≤ length left₀
       → (p : ℕ) → p ≡ high (next_of draw_addend r) % (length left₀ - i)
-      → Drawing count start left₀ out₀ (i + 1) (next_of draw_addend r) (set left p (get_or left (length left₀ - i - 1) 0)) (set out i (get_or left p 0))
-  drawing_more i r left out d h hl ho p e =
+      → Drawing start left₀ out₀ (i + 1) (next_of draw_addend r) (set left p (get_or left (length left₀ - i - 1) 0)) (set out i (get_or left p 0))
+  drawing_more i r left out d h hl p e =
       let k : ℕ = count - i - 1 in
       let m : ℕ = length left₀ - i - 1 in
       let r' : ℕ = next_of draw_addend r in
@@ -81,27 +82,20 @@ module _ (count start : ℕ) (left₀ out₀ : List ℕ) where
             ∙ append_snoc (take i out) x rest'
             ∙ ap (λ (l : List ℕ). take i out ++ l) (sym one)
             ∙ d.whole;
-        rest =
-            ap (λ (j : ℕ). drop j (set out i x)) (add-one i)
-            ∙ drop-set-lt (suc i) out i x (omega arith)
-            ∙ sym (ap (λ (j : ℕ). drop j out) (add-one i)) ∙ sym (drop-drop 1 i out) ∙ ap (drop 1) d.rest ∙ drop-drop 1 i out₀;
       }
 
-  pub drawing_done : (i r : ℕ) (left out : List ℕ) → Drawing count start left₀ out₀ i r left out → count ≤ i → out ≡ drawn count start left₀ ++ drop count out₀
+  pub drawing_done : (i r : ℕ) (left out : List ℕ) → Drawing start left₀ out₀ i r left out → count ≤ i → out ≡ drawn count start left₀
   unfolding drawn
   drawing_done i r left out d h =
-      let z : i ≡ count = omega (arith, d.within) in
       let none : count - i ≡ 0 = omega arith in
-      sym (take-append-drop i out)
-      ∙ ap₂ (λ (a : List ℕ) (b : List ℕ). a ++ b)
-      (sym (append-nil (take i out)) ∙ sym (ap (λ (n : ℕ). take i out ++ drawn n r (take (length left₀ - i) left)) none) ∙ d.whole)
-      (d.rest ∙ ap (λ (j : ℕ). drop j out₀) z)
+      sym (take_all i out (omega (arith, d.same_out)))
+      ∙ sym (append-nil (take i out)) ∙ sym (ap (λ (n : ℕ). take i out ++ drawn n r (take (length left₀ - i) left)) none) ∙ d.whole
 
   -- the same, with the numbers as the code has them
-  pub drawing_turn : (i r : ℕ) (left out : List ℕ) → Drawing count start left₀ out₀ i r left out → i < count → count ≤ length left₀ → count ≤ length out₀
+  pub drawing_turn : (i r : ℕ) (left out : List ℕ) → Drawing start left₀ out₀ i r left out → i < count → count ≤ length left₀
       → (r' : ℕ) → r' ≡ next_of draw_addend r
-      → Drawing count start left₀ out₀ (i + 1) r' (set left (high r' % (length left - i)) (get_or left (length left - i - 1) 0)) (set out i (get_or left (high r' % (length left - i)) 0))
-  drawing_turn i r left out d h hl ho r' e =
-      subst (λ (s : ℕ). Drawing count start left₀ out₀ (i + 1) s (set left (high s % (length left - i)) (get_or left (length left - i - 1) 0)) (set out i (get_or left (high s % (length left - i)) 0))) (sym e)
-      (subst (λ (n : ℕ). Drawing count start left₀ out₀ (i + 1) (next_of draw_addend r) (set left (high (next_of draw_addend r) % (n - i)) (get_or left (n - i - 1) 0)) (set out i (get_or left (high (next_of draw_addend r) % (n - i)) 0))) (sym d.same_left)
-      (drawing_more i r left out d h hl ho (high (next_of draw_addend r) % (length left₀ - i)) refl))
+      → Drawing start left₀ out₀ (i + 1) r' (set left (high r' % (length left - i)) (get_or left (length left - i - 1) 0)) (set out i (get_or left (high r' % (length left - i)) 0))
+  drawing_turn i r left out d h hl r' e =
+      subst (λ (s : ℕ). Drawing start left₀ out₀ (i + 1) s (set left (high s % (length left - i)) (get_or left (length left - i - 1) 0)) (set out i (get_or left (high s % (length left - i)) 0))) (sym e)
+      (subst (λ (n : ℕ). Drawing start left₀ out₀ (i + 1) (next_of draw_addend r) (set left (high (next_of draw_addend r) % (n - i)) (get_or left (n - i - 1) 0)) (set out i (get_or left (high (next_of draw_addend r) % (n - i)) 0))) (sym d.same_left)
+      (drawing_more i r left out d h hl (high (next_of draw_addend r) % (length left₀ - i)) refl))

@@ -7,40 +7,39 @@ use lib.Dec.{ltb}
 use lib.ListN.{length, take}
 use borrow.Author.Tests.{eq-eqb, ne_eqb}
 use Rattle.std.proofs.lemmas.Result.{err_from_is_err_and}
-use Rattle.error.proofs.Laws.{never_zero}
 use Rattle.basics.specs.Refusals.{Check, first_refusal}
-use Rattle.basics.proofs.Refusals.{Pass, turned_at, none_turned, then_first, then_second}
+use Rattle.basics.proofs.Refusals.{Pass, turned_at, none_turned}
 use Rattle.store.specs.Opening.{scratch, opening}
-use Rattle.store.proofs.Opened.{opening_numbered}
+use Rattle.store.proofs.Opened.{own_decide, first_decide}
 use Rattle.def_calls.specs.Search.{own_search_checks, search_checks}
 use Rattle.search.proofs.check_search.Goals as goal
 use Rattle.search.proofs.check_search.Goals.{Else-k-ef, Else-not-all_finite, Else-query-word_at, Else-word_at-ne-BUILT, Start}
 
 abbrev First : Start → List Check
-First s = opening (scratch s.args.lent.words s.args.lent.floats) s.args.words.now s.args.floats.now
+First s = opening (scratch s.args.lent.words s.args.lent.floats) s.args.request.words.now s.args.request.floats.now
 
 abbrev Own : Start → List Check
-Own s = own_search_checks s.args.words.now s.args.query.now s.args.k s.args.ef s.args.docs.now s.args.distances.now
+Own s = own_search_checks s.args.request.words.now s.args.request.query.now s.args.request.k s.args.ef s.args.docs.now s.args.distances.now
 
 -- where the first checks pass, its own decide
-own : (s : Start) → 0 ≡ first_refusal (First s) → first_refusal (Own s) ≡ first_refusal (search_checks s.args.words.now s.args.query.now s.args.k s.args.ef s.args.docs.now s.args.distances.now s.args.lent.words s.args.lent.floats s.args.floats.now)
+own : (s : Start) → 0 ≡ first_refusal (First s) → first_refusal (Own s) ≡ first_refusal (search_checks s.args.request.words.now s.args.request.query.now s.args.request.k s.args.ef s.args.docs.now s.args.distances.now s.args.lent.words s.args.lent.floats s.args.request.floats.now)
 unfolding search_checks
-own s e = sym (then_second (First s) (Own s) (opening_numbered (scratch s.args.lent.words s.args.lent.floats) s.args.words.now s.args.floats.now) (sym e))
+own s e = own_decide (scratch s.args.lent.words s.args.lent.floats) s.args.request.words.now s.args.request.floats.now (Own s) e
 
 -- what has passed at each place
-passed_1 : (c : Else-word_at-ne-BUILT) → Pass (take 1 (own_search_checks c.args.words.now c.args.query.now c.args.k c.args.ef c.args.docs.now c.args.distances.now))
+passed_1 : (c : Else-word_at-ne-BUILT) → Pass (take 1 (own_search_checks c.args.request.words.now c.args.request.query.now c.args.request.k c.args.ef c.args.docs.now c.args.distances.now))
 unfolding own_search_checks
 passed_1 c = (ap not (eq-eqb _ _ (sym c.word_at.ensures ∙ c.if-word_at-ne-BUILT.false)), tt)
 
-passed_2 : (c : Else-query-word_at) → Pass (take 2 (own_search_checks c.args.words.now c.args.query.now c.args.k c.args.ef c.args.docs.now c.args.distances.now))
+passed_2 : (c : Else-query-word_at) → Pass (take 2 (own_search_checks c.args.request.words.now c.args.request.query.now c.args.request.k c.args.ef c.args.docs.now c.args.distances.now))
 unfolding own_search_checks
 passed_2 c = (ap not (eq-eqb _ _ (sym c.word_at.ensures ∙ c.if-word_at-ne-BUILT.false)), (ap not (eq-eqb _ _ (c.if-query-word_at.false ∙ c.word_at-2.ensures)), tt))
 
-passed_3 : (c : Else-not-all_finite) → Pass (take 3 (own_search_checks c.args.words.now c.args.query.now c.args.k c.args.ef c.args.docs.now c.args.distances.now))
+passed_3 : (c : Else-not-all_finite) → Pass (take 3 (own_search_checks c.args.request.words.now c.args.request.query.now c.args.request.k c.args.ef c.args.docs.now c.args.distances.now))
 unfolding own_search_checks
 passed_3 c = (ap not (eq-eqb _ _ (sym c.word_at.ensures ∙ c.if-word_at-ne-BUILT.false)), (ap not (eq-eqb _ _ (c.if-query-word_at.false ∙ c.word_at-2.ensures)), (ap not (sym c.all_finite.ensures ∙ c.if-not-all_finite.false), tt)))
 
-passed_4 : (c : Else-k-ef) → Pass (take 4 (own_search_checks c.args.words.now c.args.query.now c.args.k c.args.ef c.args.docs.now c.args.distances.now))
+passed_4 : (c : Else-k-ef) → Pass (take 4 (own_search_checks c.args.request.words.now c.args.request.query.now c.args.request.k c.args.ef c.args.docs.now c.args.distances.now))
 unfolding own_search_checks
 passed_4 c = (ap not (eq-eqb _ _ (sym c.word_at.ensures ∙ c.if-word_at-ne-BUILT.false)), (ap not (eq-eqb _ _ (c.if-query-word_at.false ∙ c.word_at-2.ensures)), (ap not (sym c.all_finite.ensures ∙ c.if-not-all_finite.false), (c.if-k-ef.false, tt))))
 
@@ -53,9 +52,7 @@ unfolding search_checks
 returns-in_err-check_opening c =
     let p = err_from_is_err_and c.from_residual.result c.from_residual.ensures.1 in
     let s = (goal.at.returns-in_err-check_opening c).Start in
-    rw (p.1, p.2)
-    (c.in_err-check_opening.ensures
-    ∙ sym (then_first (First s) (Own s) (λ e. never_zero _ (c.in_err-check_opening.ensures ∙ e))))
+    rw (p.1, p.2) (first_decide (scratch s.args.lent.words s.args.lent.floats) s.args.request.words.now s.args.request.floats.now (Own s) _ c.in_err-check_opening.ensures)
 
 pub returns-then-word_at-ne-BUILT : goal.returns-then-word_at-ne-BUILT
 unfolding own_search_checks

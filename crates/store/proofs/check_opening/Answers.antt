@@ -49,15 +49,11 @@ returns c =
       ),
     )
 
-pub too_short-requires : goal.too_short-requires
-too_short-requires c = sym c.header_ok.ensures ∙ c.if-not-header_ok.false
-
 pub rest_ok-requires : goal.rest_ok-requires
 rest_ok-requires c =
     let long : too_short c.args.lent c.args.words.now c.args.floats.now ≡ false = sym c.too_short.ensures ∙ c.if-too_short.false in
     let sizes = both_false _ _ (both_false _ _ long).0 in
     record {
-      words_value = sym c.header_ok.ensures ∙ c.if-not-header_ok.false;
       degree_at_in_bounds = ltb-false _ _ sizes.0;
       dimension_at_in_bounds = ltb-false _ _ sizes.1;
     }

@@ -1,14 +1,14 @@
 -- Without components there is nothing to sum; otherwise the rows taken stand whole in the slice. Assumes nothing.
 use mathlib.Core.Path.{◌≡◌, refl, sym, ap, ◌∙◌}
 use mathlib.Core.List.{List, [], ◌∷◌, map}
-use Prim.Native.Nat.{ℕ}
+use Prim.Native.Nat.{◌<◌}
 use lib.IntN.{pos}
 use lib.ListN.{length}
 use lib.Ieee.{Float, binary32, div, of_int}
-use Rattle.basics.specs.Lists.{pieces}
-use Rattle.finish.proofs.medoid.Rows.{fit}
+use Rattle.finish.proofs.medoid.Rows.{first_few}
 use Rattle.def_graph.specs.Centroid.{add_to, row_sums_from, centroid_of}
 use native.Mathlib.Omega.{arith}
+use Rattle.std.proofs.Common.{rules}
 use Rattle.finish.proofs.medoid.centroid.Goals as goal
 
 -- where there are no components there is no sum
@@ -25,14 +25,12 @@ nothing (x ∷ out) vs e = absurd (omega arith)
 pub mean-requires : goal.mean-requires
 mean-requires c =
     let x = c.args in
-    let rows = c.min-rows in
-    (fit rows.result (length x.out.now) (length x.vectors.now) (omega (arith, rows.ensures)), omega (arith, rows.ensures))
+    let rows = c.first_rows in
+    let some : 0 < length x.out.now = search rules in
+    (some, omega (arith, first_few (length x.out.now) some x.n rows.result.now x.vectors.now rows.ensures))
 
 pub returns : goal.returns
-returns c =
-    let x = c.args in
-    c.mean.ensures
-    ∙ ap (λ (n : ℕ). centroid_of binary32 (length x.out.now) (pieces (length x.out.now) n x.vectors.now)) c.min-rows.ensures
+returns c = c.mean.ensures ∙ ap (centroid_of binary32 (length c.args.out.now)) c.first_rows.ensures
 
-pub returns-then-dimension-eq0 : goal.returns-then-dimension-eq0
-returns-then-dimension-eq0 c = nothing c.args.out.now _ c.if-dimension-eq0.true
+pub returns-then-is_empty : goal.returns-then-is_empty
+returns-then-is_empty c = nothing c.args.out.now _ (search rules)

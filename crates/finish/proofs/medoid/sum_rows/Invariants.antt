@@ -1,9 +1,13 @@
--- What is left to add from row i on completes the whole. Assumes nothing.
+-- What is left to add completes the whole. Assumes nothing.
 use mathlib.Core.Path.{◌≡◌}
-use Prim.Native.Nat.{◌*◌}
 use lib.ListN.{length}
-use Rattle.finish.proofs.medoid.Sums.{Summing}
+use lib.Ieee.{binary32}
+use Rattle.distance.specs.Vectors.{vectors_in}
+use Rattle.def_graph.specs.Centroid.{row_sums_from}
 use Rattle.finish.proofs.medoid.sum_rows.Given as goal
 
-abbrev pub invariant-loop-i : goal.invariant-loop-i
-invariant-loop-i l = (length l.sums ≡ length l.initial.sums) × Summing l.vectors (length l.initial.sums) l.n l.initial.sums (l.i * length l.initial.sums) l.i l.sums
+abbrev pub invariant-loop-row : goal.invariant-loop-row
+invariant-loop-row l =
+    (l.row-iterator.size ≡ length l.initial.sums)
+    × (length l.sums ≡ length l.initial.sums)
+    × (row_sums_from binary32 l.sums (vectors_in (length l.initial.sums) l.row-iterator.rest.now) ≡ row_sums_from binary32 l.initial.sums (vectors_in (length l.initial.sums) l.rows))

@@ -1,5 +1,6 @@
 -- One turn more, and the two ends: no node is left, or no turn. Assumes nothing.
-use Rattle.std.proofs.Common.{◌≡◌, ◌+◌, ◌-◌, ap, ◌∙◌, arith}
+use Rattle.std.proofs.Common.{◌≡◌, ℕ, ◌+◌, ◌-◌, get_or, ap, ◌∙◌, arith}
+use Rattle.lists.proofs.Places.{get_capped}
 use Rattle.lists.specs.Inside.Lists.{list_in}
 use Rattle.graph_utils.specs.Inside.Marking.{Marks, marked_from, marked}
 use Rattle.graph_utils.proofs.marking.Steps.{walk_step, walk_end, walk_end_fuel}
@@ -17,8 +18,9 @@ turns-preserved c =
     let l = c.turns in
     let n = c.args.lists.shape.n in
     let fewer : n - (l.counter + 1) ≡ n - l.counter - 1 = omega arith in
+    let top = c.word_at.ensures ∙ ap (λ (p : ℕ). get_or l.state p 0) c.saturating_add.ensures ∙ get_capped l.state (omega arith) (n + (l.top - 1)) in
     rw fewer
-    (walk_step n (list_in c.args.lists) (n - l.counter) l.top _ l.state _ _ (omega arith) (omega arith) c.word_at.ensures c.visit_list-top.ensures ∙ l.invariant)
+    (walk_step n (list_in c.args.lists) (n - l.counter) l.top _ l.state _ _ (omega arith) (omega arith) top c.visit_list-top.ensures ∙ l.invariant)
 
 pub returns-then-top-eq0 : goal.returns-then-top-eq0
 returns-then-top-eq0 c = let l = c.turns in walk_end c.args.lists.shape.n (list_in c.args.lists) _ l.top l.state c.if-top-eq0.true ∙ l.invariant

@@ -4,6 +4,7 @@ use mathlib.Core.Path.{ap, ◌∙◌}
 use mathlib.Core.List.{List}
 use Prim.Native.Nat.{ℕ, ◌+◌, ◌<◌}
 use lib.ListN.{set}
+use Rattle.lists.proofs.Places.{set_capped}
 use Rattle.graph_utils.proofs.marking.Steps.{visit_new, visit_old, visit_room}
 use Rattle.graph_utils.proofs.marking.visit.Goals as goal
 
@@ -19,7 +20,10 @@ returns-then-v-n c =
     let a = c.args in
     let w = c.word_at-mark in
     visit_new a.n a.v a.top w.result a.state.now _ w.ensures c.if-v-n.true
-    (c.put-then-v-n.ensures ∙ ap (λ (l : List ℕ). set l (a.n + a.top) a.v) c.put.ensures)
+    (c.put-then-v-n.ensures
+    ∙ ap (λ (p : ℕ). set c.put.new.items p a.v) c.saturating_add.ensures
+    ∙ set_capped c.put.new.items (omega arith) (a.n + a.top) a.v
+    ∙ ap (λ (l : List ℕ). set l (a.n + a.top) a.v) c.put.ensures)
 
 pub returns : goal.returns
 returns c =

@@ -19,4 +19,4 @@ pub returns : goal.returns
 returns c =
     let a = c.args in
     let end = c.min-end in
-    cleared a.n end.result a.links.now c.fill.new.self end.ensures (c.fill.ensures.after (λ _ e. e))
+    cleared a.n end.result a.links.now c.fill.new.self (omega (arith, end.ensures, c.next_place.ensures)) (c.fill.ensures.after (λ _ e. e))

@@ -1,24 +1,19 @@
--- The two outcomes of the choice, by the test that led to each. Assumes nothing.
-use native.Mathlib.Omega.{arith}
-use mathlib.Core.Path.{sym, ap, ◌∙◌}
-use borrow.Author.Tests.{le-leb, lt-leb}
-use Prim.Native.Nat.{ℕ, ◌+◌, ◌*◌}
-use lib.Dec.{leb}
-use lib.ListN.{length}
-use Rattle.basics.specs.Choice.{pick, pick_true, pick_false}
-use Rattle.lists.specs.Inside.Chains.{first_link}
+-- A head that is missing is none, as 0 is. Assumes nothing.
+use Rattle.std.proofs.Common.{ℕ, sym, ap, ◌∙◌, ltb-true, ltb-false}
+use Rattle.std.proofs.lemmas.List.{get_or_default, get_or_past}
+use Rattle.lists.specs.Inside.Chains.{as_link, link_above}
+use Rattle.lists.proofs.chains.Reading.{none_above}
 use Rattle.lists.proofs.chains.first_link.Goals as goal
 
-pub returns-then-n-link : goal.returns-then-n-link
-unfolding first_link
-returns-then-n-link c =
-    let w = c.word_at-link in
+pub returns-in_err-head : goal.returns-in_err-head
+returns-in_err-head c =
     let a = c.args in
-    sym (pick_true w.result 0 (le-leb _ _ c.if-n-link.true)) ∙ ap (λ (x : ℕ). pick (leb (2 * a.n + x) (length a.links.now)) x 0) w.ensures
+    let past = get_or_past a.links.now a.node.0 0 (ltb-false _ _ (sym c.in_err-head.ensures.lookup.0)) in
+    c.from_residual.ensures ∙ none_above a.nexts.now ∙ sym (ap (λ (w : ℕ). as_link (link_above a.nexts.now 0 w)) past)
 
 pub returns : goal.returns
-unfolding first_link
 returns c =
-    let w = c.word_at-link in
     let a = c.args in
-    sym (pick_false w.result 0 (lt-leb (2 * a.n + w.result) (length a.links.now) (omega arith))) ∙ ap (λ (x : ℕ). pick (leb (2 * a.n + x) (length a.links.now)) x 0) w.ensures
+    let there = c.in_ok-head.ensures.lookup in
+    let head = there.1 ∙ get_or_default a.links.now a.node.0 _ 0 (ltb-true _ _ (sym there.0)) in
+    c.link_above.ensures ∙ ap (λ (w : ℕ). as_link (link_above a.nexts.now 0 w)) head

@@ -1,5 +1,6 @@
--- The invariant: the first k numbers stand at the front, what was there follows. The measure is what is left of n. Assumes nothing.
-use Rattle.std.proofs.Common.{◌≡◌, ℕ, zero, suc, ◌+◌, ◌<◌, min, List, [], ◌∷◌, ◌++◌, length, get_or, drop, set, sym, refl, ap, ◌∙◌, add-one, arith, length-append, length-set}
+-- Of the places that are written, as many as there is room for, the first k hold their numbers. Assumes nothing.
+use Rattle.std.proofs.Common.{◌≡◌, ℕ, zero, suc, ◌+◌, ◌<◌, ◌≤◌, min, List, [], ◌∷◌, ◌++◌, length, get_or, take, drop, set, sym, refl, ap, ap₂, ◌∙◌, append-nil, add-one, arith, length-append, length-take, length-set}
+use lib.ListN.{drop_of_length-le}
 use lib.Ieee.{Float, binary32, of_bits}
 use Rattle.basics.proofs.Loops.{front_set}
 use Rattle.random.specs.Hyperplanes.{plane_number, plane_numbers}
@@ -27,31 +28,44 @@ written out₀ out k v e h q =
 
 pub loop-k-init : goal.loop-k-init
 unfolding plane_numbers
-loop-k-init c = (omega arith, omega (arith, c.min-n.ensures), omega (arith, c.min-n.ensures), refl, refl)
+loop-k-init c = (refl, refl)
 
-pub float_from_bits-out : goal.float_from_bits-out
+-- a place that is written is one of the table
+within : (n k : ℕ) (out : List Float) → n ≡ min (length out) 1024 → k < length (take n out) → k < 1024
+within n k out e h = omega (arith, length-take n out)
+
+pub bounds-table-k : goal.bounds-table-k
 unfolding table
-float_from_bits-out c = (rule c.loop-k.k (omega arith)).1
+bounds-table-k c = within c.min-n.result c.loop-k.k c.args.out.now c.min-n.ensures (omega arith)
+
+pub float_from_bits-x : goal.float_from_bits-x
+unfolding table
+float_from_bits-x c = (rule c.loop-k.k (within c.min-n.result c.loop-k.k c.args.out.now c.min-n.ensures (omega arith))).1
 
 pub loop-k-preserved : goal.loop-k-preserved
 unfolding table
 loop-k-preserved c =
     let l = c.loop-k in
-    let out₀ = c.args.out.now in
-    let v : Float = of_bits binary32 (get_or table l.k 0) in (
-      omega arith,
-      omega arith,
-      omega arith,
-      length-set l.out l.k v ∙ l.invariant.3,
-      written out₀ l.out l.k v l.invariant.4 (omega arith) (read binary32 l.k (get_or table l.k 0) (rule l.k (omega arith))),
+    let front = take c.min-n.result c.args.out.now in
+    let bits : ℕ = get_or table l.k 0 in
+    let v : Float = of_bits binary32 bits in
+    let number = rule l.k (within c.min-n.result l.k c.args.out.now c.min-n.ensures (omega arith)) in (
+      length-set l.x-items l.k v ∙ l.invariant.0,
+      written front l.x-items l.k v l.invariant.1 (omega arith) (read binary32 l.k bits number),
     )
+
+-- the loop ends where all places are written
+all_written : (k n : ℕ) (out items : List Float) → n ≡ min (length out) 1024 → length items ≡ length (take n out) → k ≤ length (take n out) → length (take n out) ≤ k
+    → items ≡ plane_numbers binary32 k ++ drop k (take n out) → items ++ drop n out ≡ plane_numbers binary32 n ++ drop n out
+all_written k n out items e long most least is =
+    let front : List Float = take n out in
+    let end : k ≡ n = omega (arith, length-take n out) in
+    ap (λ (l : List Float). l ++ drop n out)
+    (is ∙ ap₂ (λ (j : ℕ) (l : List Float). plane_numbers binary32 j ++ l) end (drop_of_length-le front least) ∙ append-nil (plane_numbers binary32 n))
 
 pub returns : goal.returns
 returns c =
     let l = c.loop-k in
-    let out₀ = c.args.out.now in
-    let e : l.k ≡ min (length out₀) 1024 = omega (arith, c.min-n.ensures) in
-    l.invariant.4 ∙ ap (λ (k : ℕ). plane_numbers binary32 k ++ drop k out₀) e
-
-pub shape_of-out : goal.shape_of-out
-shape_of-out c = c.loop-k.invariant.3
+    let out = c.args.out.now in
+    all_written l.k c.min-n.result out l.x-items c.min-n.ensures l.invariant.0 (omega arith) (omega arith) l.invariant.1
+    ∙ ap (λ (n : ℕ). plane_numbers binary32 n ++ drop n out) c.min-n.ensures

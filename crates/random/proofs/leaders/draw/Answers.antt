@@ -16,20 +16,20 @@ place_within c =
 pub loop-i-init : goal.loop-i-init
 loop-i-init c =
     let x = c.args in
-    drawing_none x.count x.start x.left.now x.out.now
+    drawing_none x.start x.left.now x.out.now
 
 pub loop-i-preserved : goal.loop-i-preserved
 loop-i-preserved c =
     let l = c.loop-i in
     let x = c.args in
     let next = c.next_draw-r in
-    drawing_turn x.count x.start x.left.now x.out.now l.i l.r l.left l.out l.invariant (omega arith) (omega arith) (omega arith) next.result next.ensures
+    drawing_turn x.start x.left.now x.out.now l.i l.r l.left l.out l.invariant (omega arith) c.requires next.result next.ensures
 
 pub returns : goal.returns
 returns c =
     let l = c.loop-i in
     let x = c.args in
-    drawing_done x.count x.start x.left.now x.out.now l.i l.r l.left l.out l.invariant (omega arith)
+    drawing_done x.start x.left.now x.out.now l.i l.r l.left l.out l.invariant (omega arith)
 
 pub bounds-left-rest : goal.bounds-left-rest
 bounds-left-rest c = let l = c.loop-i in omega (arith, l.invariant.same_left)
@@ -39,9 +39,6 @@ offset_bounds-left-p c = let h = place_within (goal.at.offset_bounds-left-p c).A
 
 pub bounds-left-p : goal.bounds-left-p
 bounds-left-p c = place_within (goal.at.bounds-left-p c).After-next_draw-r
-
-pub bounds-out-i : goal.bounds-out-i
-bounds-out-i c = let l = c.loop-i in omega (arith, l.invariant.same_out)
 
 pub offset_bounds-left-p-in-loop-i : goal.offset_bounds-left-p-in-loop-i
 offset_bounds-left-p-in-loop-i c = let h = place_within (goal.at.offset_bounds-left-p-in-loop-i c).After-next_draw-r in search rules

@@ -1,5 +1,5 @@
 -- After `count_up` those left are all positions, and the start does not reach 2^64 from a level of 32 bits. Assumes nothing.
-use Rattle.std.proofs.Common.{◌≡◌, ℕ, ◌+◌, ◌*◌, ◌^◌, ◌<◌, min, List, ◌++◌, length, drop, sym, refl, ap, ◌∙◌, mod-eq_of_lt, arith}
+use Rattle.std.proofs.Common.{◌≡◌, ℕ, ◌+◌, ◌*◌, ◌^◌, ◌<◌, min, List, ◌++◌, length, take, drop, sym, refl, ap, ◌∙◌, mod-eq_of_lt, arith, length-take-le}
 use Rattle.random.specs.Leaders.{draw_start, drawn, drawn_into, up_to}
 use Rattle.random.proofs.leaders.Draws.{length-up_to}
 use Rattle.random.proofs.leaders.draw_segment.Goals as goal
@@ -18,8 +18,9 @@ joined level n count start left out h e k s =
 
 pub returns : goal.returns
 returns c =
-    let draw = c.draw in
     let lesser = c.min-count in
     let up = c.count_up in
     let x = c.args in
-    draw.ensures ∙ joined x.level (length x.left.now) lesser.result _ _ x.out.now c.ranges.level.fits up.ensures lesser.ensures refl
+    let long : length (take lesser.result x.out.now) ≡ lesser.result = length-take-le lesser.result x.out.now (omega (arith, lesser.ensures)) in
+    ap (λ (l : List ℕ). l ++ drop lesser.result x.out.now) (c.draw.ensures ∙ ap (λ (k : ℕ). drawn k (x.level * 2654435761 + 42) up.new.left) long)
+    ∙ joined x.level (length x.left.now) lesser.result _ up.new.left x.out.now c.ranges.level.fits up.ensures lesser.ensures refl
