@@ -190,7 +190,7 @@ impl Stores {
         let mut question = line.question();
         let at: usize = question.read();
         let n: usize = question.read();
-        let words = self.words.all().get(at..).and_then(|rest| rest.get(..n));
+        let words = self.words.all.get(at..).and_then(|rest| rest.get(..n));
         words.is_some_and(|words| line.answer().are(words))
     }
 }

@@ -7,9 +7,9 @@ use crate::patterns::Patterned;
 // The last `fill` made the first `made` elements, and the first `lent` are passed to calls.
 #[derive(Drop)]
 pub struct Memory<T, const N: usize> {
-    all: [T; N],
-    made: usize,
-    lent: usize,
+    pub all: [T; N],
+    pub made: usize,
+    pub lent: usize,
 }
 
 impl<T: Patterned, const N: usize> Memory<T, N> {
@@ -53,10 +53,6 @@ impl<T: Patterned, const N: usize> Memory<T, N> {
         if let Some(place) = self.all.get_mut(i) {
             *place = x;
         }
-    }
-
-    pub(crate) fn all(&self) -> &[T] {
-        &self.all
     }
 
     // kept (2): one call of `front`, here and in `lent`.

@@ -7,8 +7,8 @@ use std::{fmt, io};
 // Of one kind.
 #[derive(Clone, Copy, Default)]
 pub struct Tally {
-    cases: u64,
-    differ: u64,
+    pub cases: u64,
+    pub differ: u64,
 }
 
 impl Tally {

@@ -1,28 +1,30 @@
 -- Some nodes more, and the end. Assumes nothing.
-use Rattle.std.proofs.Common.{◌≡◌, ℕ, List, ◌++◌, sym, ap, ◌∙◌, arith}
+use Rattle.std.proofs.Common.{◌≡◌, ℕ, List, sym, ap, ◌∙◌, arith}
 use lib.Ieee.{Float}
 use Rattle.std.specs.declared.slice.Chunks.{Chunks}
 use Rattle.neighbours.specs.Inside.Scoring.{far_by, scored_at}
 use Rattle.neighbours.proofs.scoring.Laws.{scored_append, scored_none}
 use Rattle.neighbours.proofs.scoring.Scorer.score.Goals as goal
+use Rattle.neighbours.proofs.scoring.Scorer.score.Goals.{In-Some}
 
--- some nodes of those that are left scored, then the others
-turn : (far : ℕ → Float) (left some rest : List ℕ) (floats floats' : List Float) → left ≡ some ++ rest → floats' ≡ scored_at far some floats
-    → scored_at far rest floats' ≡ scored_at far left floats
-turn far left some rest floats floats' e s =
-    ap (scored_at far rest) s ∙ sym (scored_append far some rest floats) ∙ sym (ap (λ (l : List ℕ). scored_at far l floats) e)
+-- some nodes of those that are left scored: then the others
+turn : (c : In-Some) (floats' : List Float) → floats' ≡ scored_at (far_by c.args.self) c.in-Some.some.now c.loop-some.floats
+    → (c.next.new.self.size ≡ c.into_iter-some-iterator.result.size)
+    × (scored_at (far_by c.args.self) c.next.new.self.rest.now floats' ≡ scored_at (far_by c.args.self) c.args.nodes.now c.args.floats.now)
+turn c floats' s =
+    let far : ℕ → Float = far_by c.args.self in
+    let rest = c.next.new.self.rest.now in
+    let steps = c.in-Some.ensures.steps in
+    let l = c.loop-some in (
+      steps.0 ∙ l.invariant.0,
+      ap (scored_at far rest) s ∙ sym (scored_append far c.in-Some.some.now rest l.floats) ∙ sym (ap (λ (nodes : List ℕ). scored_at far nodes l.floats) steps.1.0) ∙ l.invariant.1,
+    )
 
 pub loop-some-preserved-then-some-gt-FEW : goal.loop-some-preserved-then-some-gt-FEW
-loop-some-preserved-then-some-gt-FEW c =
-    let l = c.loop-some in
-    let steps = c.in-Some.ensures.steps in
-    (steps.0 ∙ l.invariant.0, turn (far_by c.args.self) _ _ _ l.floats _ steps.1.0 c.score_eight.ensures ∙ l.invariant.1)
+loop-some-preserved-then-some-gt-FEW c = turn (goal.at.loop-some-preserved-then-some-gt-FEW c).In-Some _ c.score_eight.ensures
 
 pub loop-some-preserved : goal.loop-some-preserved
-loop-some-preserved c =
-    let l = c.loop-some in
-    let steps = c.in-Some.ensures.steps in
-    (steps.0 ∙ l.invariant.0, turn (far_by c.args.self) _ _ _ l.floats _ steps.1.0 c.score_each.ensures ∙ l.invariant.1)
+loop-some-preserved c = turn (goal.at.loop-some-preserved c).In-Some _ c.score_each.ensures
 
 pub score_eight-requires : goal.score_eight-requires
 score_eight-requires c =
