@@ -36,6 +36,7 @@ use finish::{medoid, reverse_edges};
 use params::PipnnParams;
 use store::{Layout, Scratch};
 use words::ids::Node;
+use words::slices;
 
 // The first of build's checks that fails.
 fn check_build(words: &[u32], floats: &[f32], lent: Scratch) -> Result<(), Refusal>
@@ -54,7 +55,7 @@ fn put_bridges(words: &mut [u32], at: usize, bridges: &[u32])
     ensures { words.new ≡ laid at bridges.now words.old }
 {
     let end = at + bridges.len();
-    words[at..end].copy_from_slice(bridges);
+    slices::copy(&mut words[at..end], bridges);
 }
 
 // Writes words 0, 9 and 10: the store is built.

@@ -20,6 +20,7 @@ ghost use Rattle.carving.specs.Inside.Steps.{Carvable, Dealing, CarvesSegment, C
 use dealing::{DealParams, Segment};
 use distance::vectors::Vectors;
 use random::leaders;
+use words::slices;
 
 // The words of a partition, for n nodes: from 0 on the nodes of all leaves, leaf after leaf, and from
 // SIZES_AT · n on the leaves' sizes; WORDS · n in all.
@@ -166,7 +167,7 @@ fn deal_over(carve: Carve, nodes: &mut [u32], marks: &mut [u32], scratch: &mut S
     let size = nodes.len() / dealing::fan_of(carve.level) as usize;
     let ids = &mut scratch.ids[..];
     let cards = &mut scratch.cards[..];
-    ids[..size].copy_from_slice(&nodes[..size]);
+    slices::copy(&mut ids[..size], &nodes[..size]);
     let segment = Segment {
         vectors: carve.vectors,
         p: carve.p.dealing,

@@ -241,7 +241,7 @@ fn place(bucket: &[u32], first: u32, nodes: &mut [u32], marks: &mut [u32])
         × (marks.new ≡ run first (length bucket.now) ++ drop (length bucket.now) marks.old) }
 {
     let size = bucket.len();
-    nodes[..size].copy_from_slice(bucket);
+    slices::copy(&mut nodes[..size], bucket);
     mark(&mut marks[..size], first);
 }
 

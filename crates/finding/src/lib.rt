@@ -77,7 +77,7 @@ fn scale_into(out: &mut [f32], query: &[f32])
     requires { length out.old ≡ length query.now }
     ensures { out.new ≡ scaled_of binary32 query.now }
 {
-    out.copy_from_slice(query);
+    slices::copy(out, query);
     norm::normalize(out);
 }
 

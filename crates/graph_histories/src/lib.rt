@@ -17,8 +17,8 @@ use replay::lines::Line;
 use replay::tokens::Tokens;
 
 // build SW SF = number
-pub fn build_is_same(stores: &mut Stores, line: Line<'_>) -> bool {
-    let mut scratch = Scratch::asked(&mut line.question());
+pub fn build_is_same(stores: &mut Stores, scratch: &mut Scratch, line: Line<'_>) -> bool {
+    scratch.asked(&mut line.question());
     let built = build::build(
         stores.words.lent_mut(),
         stores.floats.lent(),
@@ -53,9 +53,14 @@ fn found_is_same(
 }
 
 // find SW SF K EF OD OF N q.. = number count scored doc.. dist..
-pub fn find_is_same(stores: &Stores, line: Line<'_>, room: &mut [f32]) -> bool {
+pub fn find_is_same(
+    stores: &Stores,
+    scratch: &mut Scratch,
+    line: Line<'_>,
+    room: &mut [f32],
+) -> bool {
     let mut question = line.question();
-    let mut scratch = Scratch::asked(&mut question);
+    scratch.asked(&mut question);
     let k = question.read();
     let ef = question.read();
     let docs_size = question.read::<usize>().min(OUTPUTS);

@@ -22,15 +22,12 @@ impl<T: Patterned, const N: usize> Memory<T, N> {
         }
     }
 
-    // What a call must not depend on: patterns, of which n elements are passed to it.
-    pub(crate) fn scratch(n: usize) -> Self
-        ensures { result.lent ≡ n }
+    // Becomes what a call must not depend on: patterns, of which n elements are passed to it.
+    pub fn scatter(&mut self, n: usize)
+        ensures { self.new.lent ≡ n }
     {
-        Memory {
-            all: patterns::scattered(),
-            made: 0,
-            lent: n,
-        }
+        patterns::scatter_old(&mut self.all);
+        self.lend(n);
     }
 
     // Fills n elements from a seed on, and passes them to calls.

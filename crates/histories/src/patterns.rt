@@ -39,9 +39,13 @@ pub fn scatter<T: Patterned>(xs: &mut [T], seed: u64) {
 // Where the patterns of scratch and outputs start.
 const OLD: u64 = 0x9e37_79b9;
 
+pub(crate) fn scatter_old<T: Patterned>(xs: &mut [T]) {
+    scatter(xs, OLD);
+}
+
 pub fn scattered<T: Patterned, const N: usize>() -> [T; N] {
     let mut xs = zeros();
-    scatter(&mut xs, OLD);
+    scatter_old(&mut xs);
     xs
 }
 
@@ -64,22 +68,30 @@ const MOST_WORDS: usize = 65536;
 
 const MOST_FLOATS: usize = 16640;
 
-// Scratch of a call.
+// Scratch of the calls, made once: an array of this size as a value of its own is copied where it is returned.
 #[derive(Drop)]
 pub struct Scratch {
     pub words: Memory<u32, MOST_WORDS>,
     pub floats: Memory<f32, MOST_FLOATS>,
 }
 
+// Before the first call.
+impl Default for Scratch {
+    fn default() -> Self {
+        Scratch {
+            words: Memory::new(),
+            floats: Memory::new(),
+        }
+    }
+}
+
 impl Scratch {
-    // As much as a question's next tokens, SW SF, say.
-    pub fn asked(question: &mut Tokens<'_>) -> Self
-        ensures lent { (result.words.lent ≡ next_of question.old) × (result.floats.lent ≡ next_of (moved 1 question.old)) }
+    // Patterns again, of which as much as a question's next tokens, SW SF, say.
+    pub fn asked(&mut self, question: &mut Tokens<'_>)
+        ensures lent { (self.new.words.lent ≡ next_of question.old) × (self.new.floats.lent ≡ next_of (moved 1 question.old)) }
         ensures moved { question.new ≡ moved 2 question.old }
     {
-        Scratch {
-            words: Memory::scratch(question.read()),
-            floats: Memory::scratch(question.read()),
-        }
+        self.words.scatter(question.read());
+        self.floats.scatter(question.read());
     }
 }

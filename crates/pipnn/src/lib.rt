@@ -26,6 +26,7 @@ use error::Refusal;
 use params::{PipnnParams, finite};
 use store::Layout;
 use words::ids::{DocId, Node};
+use words::slices;
 
 // The first of `new`'s checks that fails.
 fn check_new(
@@ -123,7 +124,7 @@ fn put_vector(floats: &mut [f32], at: usize, vector: &[f32])
         ≡ take at floats.old ++ (scaled_of binary32 vector.now ++ drop (at + length vector.now) floats.old) }
 {
     let end = at + vector.len();
-    floats[at..end].copy_from_slice(vector);
+    slices::copy(&mut floats[at..end], vector);
     norm::normalize(&mut floats[at..end]);
 }
 

@@ -49,9 +49,14 @@ fn recognised_is_same(mut answer: Tokens<'_>, recognised: Result<Recognised, Ref
 }
 
 // recognise SW SF EF limit N q.. = number known doc score
-pub fn recognise_is_same(stores: &Stores, line: Line<'_>, room: &mut [f32]) -> bool {
+pub fn recognise_is_same(
+    stores: &Stores,
+    scratch: &mut Scratch,
+    line: Line<'_>,
+    room: &mut [f32],
+) -> bool {
     let mut question = line.question();
-    let mut scratch = Scratch::asked(&mut question);
+    scratch.asked(&mut question);
     let ef = question.read();
     let limit = question.read();
     let query = question.read_counted(room);

@@ -30,57 +30,69 @@ fn places_are(mut answer: Tokens<'_>, pairs: &[Keyed]) -> bool {
     pairs.iter().all(|pair| answer.is(pair.id))
 }
 
-// sort N d.. = place..
-fn sort_is_same(line: Line<'_>) -> bool {
-    let mut question = line.question();
-    let n: usize = question.read();
-    let mut room = [NONE; MOST];
-    let Some(pairs) = room.get_mut(..n) else {
-        return false;
-    };
-    for (pair, id) in pairs.iter_mut().zip(0..) {
-        let key = order::key(question.read());
-        *pair = Keyed { key, id };
-    }
-    sorting::sort_pairs(pairs, &mut [NONE; MOST]);
-    places_are(line.answer(), pairs)
-}
-
-// first M N d.. = place..
-fn first_is_same(line: Line<'_>) -> bool {
-    let mut question = line.question();
-    let most: usize = question.read();
-    let n: u64 = question.read();
-    let mut room = [NONE; MOST];
-    let Some(pairs) = room.get_mut(..most) else {
-        return false;
-    };
-    let mut held = 0;
-    for id in 0..n.min(65536) as u32 {
-        let key = order::key(question.read());
-        held = sorting::keep_first(pairs, held, Keyed { key, id });
-    }
-    places_are(line.answer(), replay::front(pairs, held))
-}
-
-// How many cases there were.
+// How many cases there were, and room for a line's distances, made once.
 #[derive(Drop)]
-struct Sorting(Tallies<2>);
+struct Sorting {
+    tallies: Tallies<2>,
+    room: [Keyed; MOST],
+    spare: [Keyed; MOST],
+}
+
+impl Sorting {
+    fn new() -> Self {
+        Sorting {
+            tallies: Tallies::default(),
+            room: [NONE; MOST],
+            spare: [NONE; MOST],
+        }
+    }
+
+    // sort N d.. = place..
+    fn sort_is_same(&mut self, line: Line<'_>) -> bool {
+        let mut question = line.question();
+        let n: usize = question.read();
+        let Some(pairs) = self.room.get_mut(..n) else {
+            return false;
+        };
+        for (pair, id) in pairs.iter_mut().zip(0..) {
+            let key = order::key(question.read());
+            *pair = Keyed { key, id };
+        }
+        sorting::sort_pairs(pairs, &mut self.spare);
+        places_are(line.answer(), pairs)
+    }
+
+    // first M N d.. = place..
+    fn first_is_same(&mut self, line: Line<'_>) -> bool {
+        let mut question = line.question();
+        let most: usize = question.read();
+        let n: u64 = question.read();
+        let Some(pairs) = self.room.get_mut(..most) else {
+            return false;
+        };
+        let mut held = 0;
+        for id in 0..n.min(65536) as u32 {
+            let key = order::key(question.read());
+            held = sorting::keep_first(pairs, held, Keyed { key, id });
+        }
+        places_are(line.answer(), replay::front(pairs, held))
+    }
+}
 
 impl Replayed for Sorting {
     fn replay(&mut self, line: Line<'_>) {
         let kind = line.kind(&NAMES);
         let same = match kind {
-            Some((_, Kind::Sort)) => sort_is_same(line),
-            Some((_, Kind::First)) => first_is_same(line),
+            Some((_, Kind::Sort)) => self.sort_is_same(line),
+            Some((_, Kind::First)) => self.first_is_same(line),
             None => false,
         };
-        self.0.count(kind.map(|(at, _)| at), same);
+        self.tallies.count(kind.map(|(at, _)| at), same);
     }
 }
 
 fn main(rt: HostRuntime) -> io::Result<()> {
-    let mut sorting = Sorting(Tallies::default());
+    let mut sorting = Sorting::new();
     replay::lines::replay_all(&mut rt.stdin(), &mut sorting, &mut [0; 8192])?;
-    sorting.0.write(&rt, &NAMES)
+    sorting.tallies.write(&rt, &NAMES)
 }

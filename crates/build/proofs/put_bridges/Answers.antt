@@ -8,4 +8,4 @@ use Rattle.build.proofs.put_bridges.Goals as goal
 pub returns : goal.returns
 returns c =
     let a = c.args in
-    ap (put_mid a.at _ a.words.now) c.copy_from_slice.ensures.after ∙ put_laid a.at _ a.words.now a.bridges.now (omega arith)
+    ap (put_mid a.at _ a.words.now) (c.copy.ensures.after (omega arith)) ∙ put_laid a.at _ a.words.now a.bridges.now (omega arith)

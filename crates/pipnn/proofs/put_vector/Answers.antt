@@ -9,6 +9,6 @@ use Rattle.pipnn.proofs.put_vector.Goals as goal
 pub returns : goal.returns
 returns c =
     let many : c.args.at + length c.args.vector.now - c.args.at ≡ length c.args.vector.now = omega arith in
-    let copy = c.copy_from_slice in
+    let copy = c.copy in
     let scale = c.normalize in
-    scaled_put c.args.floats.now c.args.vector.now c.args.at _ copy.new.self scale.new.v many c.requires copy.ensures.after scale.ensures
+    scaled_put c.args.floats.now c.args.vector.now c.args.at _ copy.new.to scale.new.v many c.requires (copy.ensures.after (omega arith)) scale.ensures
