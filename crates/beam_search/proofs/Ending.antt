@@ -44,19 +44,19 @@ use Rattle.beam_search.proofs.Taking.{gathered_in, same_mark}
 
 -- the words of scratch, the nodes or the words of bridges do not fit
 abbrev short : ℕ → ℕ → ℕ → Bool
-short words n bridges = (ltb (words / 10) n || ltb 1024 n) || ltb n (bridges / 2)
+short words n bridges = (ltb (words / 14) n || ltb 1024 n) || ltb n (bridges / 2)
 
 pub record Room (words n bridges : ℕ) : Type 0 where
-  pub scratch : n ≤ words / 10
+  pub scratch : n ≤ words / 14
   pub nodes : n ≤ 1024
   pub pairs : bridges / 2 ≤ n
 
 module _ (words n bridges : ℕ) where
   pub has_room : short words n bridges ≡ false → Room words n bridges
   has_room e =
-      let t2 = both_false (ltb (words / 10) n || ltb 1024 n) (ltb n (bridges / 2)) e in
-      let t1 = both_false (ltb (words / 10) n) (ltb 1024 n) t2.0 in record {
-        scratch = ltb-false (words / 10) n t1.0;
+      let t2 = both_false (ltb (words / 14) n || ltb 1024 n) (ltb n (bridges / 2)) e in
+      let t1 = both_false (ltb (words / 14) n) (ltb 1024 n) t2.0 in record {
+        scratch = ltb-false (words / 14) n t1.0;
         nodes = ltb-false 1024 n t1.1;
         pairs = ltb-false n (bridges / 2) t2.1;
       }
@@ -64,7 +64,7 @@ module _ (words n bridges : ℕ) where
   pub no_room : short words n bridges ≡ true → Room words n bridges → ⊥
   no_room e r =
       mathlib.Core.Bool.true≢false
-      (sym e ∙ ap₂ ◌||◌ (ap₂ ◌||◌ (le-ltb (words / 10) n r.scratch) (le-ltb 1024 n r.nodes)) (le-ltb n (bridges / 2) r.pairs))
+      (sym e ∙ ap₂ ◌||◌ (ap₂ ◌||◌ (le-ltb (words / 14) n r.scratch) (le-ltb 1024 n r.nodes)) (le-ltb n (bridges / 2) r.pairs))
 
 -- ---- the distances of the answer
 

@@ -1,10 +1,10 @@
 -- Bridges linked one after the other: zeros are the chains of none, and each bridge makes those of one more. Assumes nothing.
 use mathlib.Core.Path.{◌≡◌, refl, sym, ap, ◌∙◌, subst}
 use mathlib.Core.List.{List, [], ◌∷◌, ◌++◌, map, map-append}
-use Prim.Native.Nat.{ℕ, ◌+◌, ◌*◌, ◌/◌, ◌≤◌, ◌<◌}
+use Prim.Native.Nat.{ℕ, ◌+◌, ◌*◌, ◌/◌, ◌≤◌, ◌<◌, min}
 use native.Mathlib.Omega.{arith}
 use native.Mathlib.Numerals.{add-one}
-use lib.ListN.{length, get_or, take, drop, length-map, length-append, length-drop}
+use lib.ListN.{length, get_or, take, drop, replicate, length-map, length-append, length-drop, length-replicate, get_or-replicate, get_or-append}
 use lib.Seq.{take-append_seam, drop-append_seam, drop-drop}
 use Rattle.basics.specs.Graph.{Bridge}
 use Rattle.basics.specs.Lists.{pieces}
@@ -13,10 +13,16 @@ use Rattle.store.specs.Layout.{word, bridge_size}
 use Rattle.store.specs.View.{bridge_in}
 use Rattle.lists.specs.Inside.Words.{block_at}
 use Rattle.lists.proofs.Reading.{block_word}
-use Rattle.lists.specs.Inside.Chains.{chain_bridge, Chained, bridges_in}
+use Rattle.lists.specs.Inside.Chains.{cleared_links, chain_bridge, Chained, bridges_in}
 use Rattle.lists.proofs.chains.Laws.{chain_more}
 use Rattle.neighbours.proofs.gathering.Alone.{no_chain}
 use Rattle.beam_search.specs.Inside.Steps.{Linking}
+
+-- heads and tails that are cleared are zero
+pub cleared_zero : (n : ℕ) (links : List ℕ) → 4 * n ≤ length links → (i : ℕ) → i < 2 * n → get_or (cleared_links n links) i 0 ≡ 0
+cleared_zero n links room i h =
+    let heads : ℕ = min (2 * n) (length links) in
+    get_or-append (replicate heads 0) (drop (2 * n) links) 0 i (omega (arith, length-replicate {A = ℕ} heads 0)) ∙ get_or-replicate heads i 0 0 (omega arith)
 
 -- bridge j of some words
 abbrev bridge_of : ℕ → List ℕ → Bridge

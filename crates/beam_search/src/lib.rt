@@ -8,10 +8,10 @@
 // node on, so that nothing is sorted at the end.
 //
 // It computes the walk and the answer that `def_walk` defines; specs/Inside/Search says of which graph: the entries
-// of the lists that are below the number of nodes. Scratch is 10 words (`beam_state` has their layout) and a float for each
-// node; what it held before has no effect. Before the walk goes on from the entry node, bridges, where there
-// are any, are linked (`lists::chains`) in a local array of 16 KB, so that an expansion looks at its node's own
-// bridges alone.
+// of the lists that are below the number of nodes. Scratch is 14 words and a float for each node: of n nodes the first
+// 10·n words are the walk's (`beam_state` has their layout), and the 4·n behind them hold links. What it held before has no
+// effect. Before the walk goes on from the entry node, bridges, where there are any, are linked there (`lists::chains`), so
+// that an expansion looks at its node's own bridges alone.
 //
 // kept (5): a struct of three `&mut` is no plainer: each contract then also has to say that each field still holds the same
 // reference, and one that keeps `HasWords` has to show it again after each write.
@@ -36,6 +36,10 @@ use sorting::Keyed;
 use std::ops::ControlFlow;
 use words::ids::Node;
 use words::slices;
+
+// How many words the links have, for each node: its head, its tail, and the next links of the two words of a bridge. There
+// are no more bridges than nodes.
+const LINKS: usize = 4;
 
 // The numbers of a walk: how many nodes there are and how many entries a row can have, where the walk starts, how many
 // nodes it keeps, and when it stops.
@@ -72,7 +76,7 @@ pub struct Walked {
     pub scored: u32,
 }
 
-// Links the ends of bridges whose links are all zero.
+// Links the ends of bridges, where all heads and tails are zero.
 fn link_bridges(links: &mut [u32], n: usize, bridges: &[u32])
     requires { (n ≤ 1024) × (length bridges.now / 2 ≤ n) }
     ensures { Linking n bridges.now links.old links.new }
@@ -161,17 +165,19 @@ impl<'a> Reads<'a> {
         beam.push_all(words, answer, walk, many)
     }
 
-    // The walk from where it stands, over rows and bridges, which are linked first. Where there are none there is
-    // nothing to link, and no links are cleared.
+    // The walk from where it stands, over rows and bridges, which are linked first, in the words behind the walk's: heads
+    // and tails are cleared there. Where there are no bridges there is nothing to link, and no links are cleared.
     fn walk_linked(
         &self,
         words: &mut [u32],
+        links: &mut [u32],
         floats: &mut [f32],
         answer: &mut [Keyed],
         walk: Walk,
     ) -> Walk
         requires n_in_bounds { HasWords self.now.sizes words.old }
         requires n_bound { (self.now.sizes.shape.n ≤ 1024) × (length self.now.bridges.now / 2 ≤ self.now.sizes.shape.n) }
+        requires links_room { 4 * self.now.sizes.shape.n ≤ length links.old }
         ensures { WalkingLinked self.now
             (record { words = words.old; floats = floats.old; answer = answer.old; walk = walk })
             (record { words = words.new; floats = floats.new; answer = answer.new; walk = result }) }
@@ -183,11 +189,12 @@ impl<'a> Reads<'a> {
             };
             return walker.walk_on(words, floats, answer, walk);
         }
-        let mut links = [0u32; 4096];
-        link_bridges(&mut links, self.sizes.shape.n, self.bridges);
+        let n = self.sizes.shape.n;
+        chains::clear_links(links, n);
+        link_bridges(links, n, self.bridges);
         let walker = Walker {
             reads: *self,
-            links: &links,
+            links,
         };
         walker.walk_on(words, floats, answer, walk)
     }
@@ -271,8 +278,9 @@ fn put_distances(distances: &mut [f32], answer: &[Keyed], floats: &[f32], count:
 
 // The nearest nodes to a scaled query among those that a walk from the entry node scores, nearest first, each with its
 // key, and their distances, as many as `answer` has room for. Returns how many there are, and how many nodes were
-// scored. `words` and `floats` are scratch, 64 and 16 for each node. The contract holds for scratch that is
-// long enough, at most 1,024 nodes and no more bridges than nodes.
+// scored. `words` and `floats` are scratch, 64 and 16 for each node: of n nodes the first 10·n words are the walk's, the next
+// 4·n hold links, and the others are not used. The contract holds for scratch that is long enough, at most 1,024 nodes and
+// no more bridges than nodes.
 // kept (1): counts of 0, not an Option: a caller has checked the sizes, and has no refusal for the other case.
 pub fn beam_search(
     reads: Reads,
@@ -286,11 +294,15 @@ pub fn beam_search(
         (length words.old) (length floats.old) result }
 {
     let n = reads.sizes.shape.n;
-    if (words.len() / beam_state::WORDS < n) | (n > 1024) | (reads.bridges.len() / 2 > n) {
+    if (words.len() / (beam_state::WORDS + LINKS) < n)
+        | (n > 1024)
+        | (reads.bridges.len() / 2 > n)
+    {
         return Walked::default();
     }
+    let (words, links) = words.split_at_mut(beam_state::WORDS * n);
     let first = reads.start(words, floats, answer);
-    let last = reads.walk_linked(words, floats, answer, first);
+    let last = reads.walk_linked(words, links, floats, answer, first);
     put_distances(distances, answer, floats, last.kept);
     Walked {
         count: last.kept.min(u32::MAX as usize) as u32,

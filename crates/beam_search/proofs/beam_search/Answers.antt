@@ -16,6 +16,7 @@ walk_linked-last-requires c =
     let room = has_room (length a.words.now) a.reads.sizes.shape.n (length a.reads.bridges.now) c.if-words-n.false in record {
       n_in_bounds = omega (arith, room.scratch, c.start-first.auto.words);
       n_bound = (room.nodes, room.pairs);
+      links_room = omega (arith, room.scratch);
     }
 
 pub returns : goal.returns

@@ -1,6 +1,6 @@
--- No bridges need no links, and others are linked in zeroes. Assumes nothing.
-use Rattle.std.proofs.Common.{ℕ, refl, arith}
-use lib.ListN.{length-replicate, get_or-replicate}
+-- No bridges need no links, and others are linked where heads and tails are cleared. Assumes nothing.
+use Rattle.std.proofs.Common.{ℕ, List, get_or, refl, ap, ◌∙◌, arith}
+use Rattle.beam_search.proofs.Linking.{cleared_zero}
 use Rattle.neighbours.proofs.gathering.Alone.{none_linked}
 use Rattle.beam_search.proofs.Reads.walk_linked.Goals as goal
 
@@ -11,5 +11,9 @@ returns-then-self-lt2 c ends =
 
 pub returns : goal.returns
 returns c ends =
-    let few = c.requires.n_bound.0 in
-    c.walk_on-2.ensures (c.link_bridges.ensures few (omega (arith, few, length-replicate {A = ℕ} 4096 0)) (λ i h. get_or-replicate 4096 i 0 0 (omega (arith, few))) ends)
+    let a = c.args in
+    let clear = c.clear_links in
+    let room = c.requires.links_room in
+    c.walk_on-2.ensures
+    (c.link_bridges.ensures c.requires.n_bound.0 (omega (arith, clear.auto.links, room))
+    (λ i h. ap (λ (l : List ℕ). get_or l i 0) clear.ensures ∙ cleared_zero a.self.now.sizes.shape.n a.links.now room i h) ends)
