@@ -117,13 +117,16 @@ fn check_add(words: &[u32], floats: &[f32], vector: &[f32]) -> Result<(), Refusa
 }
 
 // Puts the scaled vector in its place, `at`.
+// kept (3): std's `copy_from_slice` calls the C library's `memmove`, which the archive of `measured_c` needs nowhere else.
 fn put_vector(floats: &mut [f32], at: usize, vector: &[f32])
     requires { at + length vector.now ≤ length floats.old }
     ensures { floats.new
         ≡ take at floats.old ++ (scaled_of binary32 vector.now ++ drop (at + length vector.now) floats.old) }
 {
     let end = at + vector.len();
-    floats[at..end].copy_from_slice(vector);
+    for (i, x) in floats[at..end].iter_mut().enumerate() {
+        *x = vector[i];
+    }
     norm::normalize(&mut floats[at..end]);
 }
 
