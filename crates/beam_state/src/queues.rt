@@ -61,7 +61,7 @@ pub fn enter(tree: &mut [u32], key: u32, node: Node)
 pub fn pop(tree: &mut [u32], floats: &[f32]) -> Popped
     ensures { Popping floats.now tree.old tree.new result }
 {
-    let Some(top) = tournament::first(tree) else {
+    let Some(top) = tournament::first_if_any(tree) else {
         return Popped::Empty;
     };
     tournament::remove(tree, top.id);
@@ -92,7 +92,7 @@ fn hold(tree: &mut [u32], slot: u32, key: u32)
 fn worst_of(tree: &[u32]) -> f32
     ensures { Worst tree.now result }
 {
-    match tournament::first(tree) {
+    match tournament::first_if_any(tree) {
         None => f32::INFINITY,
         Some(worst) => order::value(turned(worst.key)),
     }
@@ -111,7 +111,7 @@ pub fn keep_closest(tree: &mut [u32], held: u32, places: u32, distance: f32, key
             cutoff: f32::INFINITY,
         };
     }
-    let Some(worst) = tournament::first(tree) else {
+    let Some(worst) = tournament::first_if_any(tree) else {
         return Closest {
             held,
             cutoff: f32::INFINITY,

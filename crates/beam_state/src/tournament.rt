@@ -13,7 +13,7 @@
 //
 // kept (6): a tree is words of the caller's scratch, since there is no heap.
 ghost use Rattle.std.specs.Prelude.{◌≡◌, ◌*◌, ◌+◌, ◌-◌, ◌/◌, ◌%◌, ◌<◌, length, replicate};
-ghost use Rattle.beam_state.specs.Inside.Tournament.{rank_of, rank_at, with_pair, empty_rank, Tournament, First, Putting, Climbing};
+ghost use Rattle.beam_state.specs.Inside.Tournament.{rank_of, rank_at, with_pair, empty_rank, Tournament, first_of, First, Putting, Climbing};
 
 use sorting::Keyed;
 
@@ -99,17 +99,27 @@ pub fn remove(tree: &mut [u32], place: u32)
     put(tree, place, EMPTY);
 }
 
-// The first pair of all, if there is one.
-// kept (1): an empty slot has all ones, as the words of the caller's scratch have no other mark.
-pub fn first(tree: &[u32]) -> Option<Keyed>
-    ensures { First tree.now result }
+// The first pair of all, `EMPTY` where all slots are empty or there is none.
+pub fn first(tree: &[u32]) -> Keyed
+    ensures { result ≡ first_of tree.now }
 {
     if tree.len() < 4 {
+        return EMPTY;
+    }
+    Keyed {
+        key: tree[3],
+        id: tree[2],
+    }
+}
+
+// The same, or none where its id is that of an empty slot.
+// kept (1): an empty slot has all ones, as the words of the caller's scratch have no other mark.
+pub fn first_if_any(tree: &[u32]) -> Option<Keyed>
+    ensures { First tree.now result }
+{
+    let top = first(tree);
+    if top.id == NOTHING {
         return None;
     }
-    let id = tree[2];
-    if id == NOTHING {
-        return None;
-    }
-    Some(Keyed { key: tree[3], id })
+    Some(top)
 }
