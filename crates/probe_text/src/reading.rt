@@ -1,4 +1,6 @@
 // What a line is: a key, `=`, and what its key asks for, to the line's end.
+ghost use Rattle.std.specs.Prelude.{◌≢◌, ◌<◌, ◌^◌, IfSome};
+
 use replay::tokens;
 use std::num::f32_from_bits_with_nan;
 use words::ids::DocId;
@@ -38,7 +40,10 @@ impl Header {
         }
     }
 
-    fn value(self, text: &[u8]) -> Option<u64> {
+    // The value that a text is for this key: bits in hexadecimal for fraction and alpha, else a decimal number below 2^32.
+    fn value(self, text: &[u8]) -> Option<u64>
+        ensures { self ≢ Header.Fraction → self ≢ Header.Alpha → IfSome result (λ value. value < 2 ^ 32) }
+    {
         match self {
             Header::Fraction => hexadecimal(text, 16),
             Header::Alpha => hexadecimal(text, 8),

@@ -11,7 +11,7 @@ use Rattle.neighbours.proofs.scoring.rows_of.Goals as goal
 pub loop-k-preserved : goal.loop-k-preserved
 loop-k-preserved c =
     let l = c.loop-k in (
-      length-set l.rows l.k c.get.result ∙ l.invariant.0,
+      length-set l.rows _ _ ∙ l.invariant.0,
       λ j h. elim (ℕ_discrete j l.k) [
         | yes e ↦
             rw e (ap (λ (r : Bor (List Float)). r.now) (get_or-set_same l.rows l.k c.get.result none (omega (arith, c.requires.1, l.invariant.0))) ∙ c.get.ensures)
