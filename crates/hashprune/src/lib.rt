@@ -12,7 +12,7 @@
 // each other.
 #![tactic(auto)]
 
-ghost use Rattle.std.specs.Prelude.{◌≡◌, map, ◌+◌, ◌-◌, ◌≤◌, ◌<◌, leb, length, get_or, set, take, drop};
+ghost use Rattle.std.specs.Prelude.{◌≡◌, map, ◌+◌, ◌-◌, ◌≤◌, ◌<◌, leb, [], ◌∷◌, ◌++◌, length, get_or, set, insert, take, drop};
 ghost use Rattle.std.specs.List.{position};
 ghost use Rattle.basics.specs.Sum.{+zero};
 ghost use Rattle.distance.specs.Vectors.{vectors_of, vector_of};
@@ -29,6 +29,7 @@ use arrayvec::ArrayVec;
 use distance::order;
 use distance::vectors::Vectors;
 use sorting::Keyed;
+use std::mem;
 use words::ids::Node;
 
 // The node whose turn it is, and how many hash bits its index has.
@@ -104,6 +105,28 @@ fn contest(cells: &mut [Cell], at: usize, place: u32, candidates: &[Candidate])
     }
 }
 
+// A cell comes to the front, and each goes one place further. Returns the last, which has no place any more.
+fn carry(cells: &mut [Cell], new: Cell) -> Cell
+    ensures { cells.new ++ result ∷ [] ≡ new ∷ cells.old }
+{
+    let mut moved = new;
+    for cell in cells.iter_mut() {
+        moved = mem::replace(cell, moved);
+    }
+    moved
+}
+
+// A cell comes to this place, and those from there on go one place further. `ArrayVec::insert` calls C's memmove, which the
+// archive for C does without.
+fn open_cell(cells: &mut ArrayVec<Cell, 64>, at: usize, new: Cell)
+    requires { (at ≤ array_vec_len cells.old) × (array_vec_len cells.old < 64) }
+    ensures items { cells.new.items ≡ insert cells.old.items at new }
+    ensures len { array_vec_len cells.new ≡ array_vec_len cells.old + 1 }
+{
+    let last = carry(&mut cells.as_mut_slice()[at..], new);
+    cells.push(last);
+}
+
 // A candidate comes to its cell.
 fn put_cell(cells: &mut ArrayVec<Cell, 64>, new: Cell, candidates: &[Candidate])
     requires { ContestRoom new cells.old.items candidates.now }
@@ -115,7 +138,7 @@ fn put_cell(cells: &mut ArrayVec<Cell, 64>, new: Cell, candidates: &[Candidate])
         contest(cells.as_mut_slice(), at, new.place, candidates);
         return;
     }
-    cells.insert(at, new);
+    open_cell(cells, at, new);
 }
 
 // The cells after all candidates have come, in their order.

@@ -57,5 +57,5 @@ returns c =
           w.if-as_slice-at.false (subst (λ (l : List Cell). (get_or l at no_cell).hash ≡ a.new.hash) (sym w.as_slice-then-at-len.ensures.value) e)
       | else-at-len-via-else-at-len w ↦ absurd (omega (arith, w.if-at-len.false, c.len-2.ensures.value))
     ] in
-    let put = new_cells a.candidates.now a.new cells at (found (goal.at.returns c).After-unwrap_or-at) c.insert.new.self.items other c.insert.ensures.items in
-    (omega (arith, c.insert.ensures.len), put)
+    let put = new_cells a.candidates.now a.new cells at (found (goal.at.returns c).After-unwrap_or-at) c.open_cell.new.cells.items other c.open_cell.ensures.items in
+    (omega (arith, c.open_cell.ensures.len), put)
