@@ -4,7 +4,7 @@ ghost use Rattle.std.specs.Prelude.{◌≤◌, length};
 use carving::CarveParams;
 use dealing::DealParams;
 use distance::vectors::Vectors;
-use histories::patterns::Scratch;
+use histories::patterns::Room;
 use histories::vectors::Vectors as Generated;
 use replay::lines::Line;
 use replay::tokens::{Token, Tokens};
@@ -84,12 +84,13 @@ fn leaves_are_same(mut answer: Tokens<'_>, found: Leaves<'_>) -> bool {
 }
 
 // leaves DIM LEAF MIN FRACTION N v.. = COUNT (size node..)..
-pub fn leaves_is_same(scratch: &mut Scratch, line: Line<'_>, room: &mut [f32]) -> bool {
+pub fn leaves_is_same(line: Line<'_>, room: &mut Room) -> bool {
     let mut question = line.question();
     let asked = Asked::read(&mut question);
-    let components = question.read_into(line.asked.saturating_sub(5), room);
-    scratch.words.scatter(0);
-    let found = carve(&asked, components, &mut scratch.words.all);
+    let components = question.read_into(line.asked.saturating_sub(5), &mut room.components);
+    let words = &mut room.scratch.words;
+    words.scatter(0);
+    let found = carve(&asked, components, &mut words.all);
     leaves_are_same(line.answer(), found)
 }
 
@@ -124,18 +125,19 @@ fn sum_leaves(leaves: Leaves<'_>) -> u64 {
 // leavesof DIM LEAF MIN FRACTION N SEED STYLE = COUNT checksum
 // The checksum takes leaves without a node too, wherever they stand. Where there are any, the answer counts
 // more leaves than are found, and cannot be compared: `None`.
-pub fn leavesof_is_same(scratch: &mut Scratch, line: Line<'_>, room: &mut [f32]) -> Option<bool> {
+pub fn leavesof_is_same(line: Line<'_>, room: &mut Room) -> Option<bool> {
     let mut question = line.question();
     let asked = Asked::read(&mut question);
     let vectors = Generated::asked(&mut question);
     let given = generate_all(
-        room,
+        &mut room.components,
         usize::from(asked.dimension),
         u64::from(asked.count),
         vectors,
     );
-    scratch.words.scatter(0);
-    let found = carve(&asked, &room[..given], &mut scratch.words.all);
+    let words = &mut room.scratch.words;
+    words.scatter(0);
+    let found = carve(&asked, &room.components[..given], &mut words.all);
     let mut answer = line.answer();
     let recorded: usize = answer.read();
     let count = found.sizes.len();

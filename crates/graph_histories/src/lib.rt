@@ -11,13 +11,14 @@ pub mod leaf_histories;
 
 use beam_search::Walked;
 use error::Refusal;
-use histories::patterns::Scratch;
+use histories::patterns::Room;
 use histories::{Stores, patterns};
 use replay::lines::Line;
 use replay::tokens::Tokens;
 
 // build SW SF = number
-pub fn build_is_same(stores: &mut Stores, scratch: &mut Scratch, line: Line<'_>) -> bool {
+pub fn build_is_same(stores: &mut Stores, line: Line<'_>, room: &mut Room) -> bool {
+    let scratch = &mut room.scratch;
     scratch.asked(&mut line.question());
     let built = build::build(
         stores.words.lent_mut(),
@@ -53,19 +54,15 @@ fn found_is_same(
 }
 
 // find SW SF K EF OD OF N q.. = number count scored doc.. dist..
-pub fn find_is_same(
-    stores: &Stores,
-    scratch: &mut Scratch,
-    line: Line<'_>,
-    room: &mut [f32],
-) -> bool {
+pub fn find_is_same(stores: &Stores, line: Line<'_>, room: &mut Room) -> bool {
+    let scratch = &mut room.scratch;
     let mut question = line.question();
     scratch.asked(&mut question);
     let k = question.read();
     let ef = question.read();
     let docs_size = question.read::<usize>().min(OUTPUTS);
     let distances_size = question.read::<usize>().min(OUTPUTS);
-    let query = question.read_counted(room);
+    let query = question.read_counted(&mut room.components);
     let mut docs = patterns::scattered::<u32, OUTPUTS>();
     let mut distances = patterns::scattered::<f32, OUTPUTS>();
     let found = search::search_with_ef(

@@ -68,30 +68,44 @@ const MOST_WORDS: usize = 65536;
 
 const MOST_FLOATS: usize = 16640;
 
-// Scratch of the calls, made once: an array of this size as a value of its own is copied where it is returned.
+// Scratch of a call.
 #[derive(Drop)]
 pub struct Scratch {
     pub words: Memory<u32, MOST_WORDS>,
     pub floats: Memory<f32, MOST_FLOATS>,
 }
 
-// Before the first call.
-impl Default for Scratch {
-    fn default() -> Self {
-        Scratch {
-            words: Memory::new(),
-            floats: Memory::new(),
-        }
-    }
-}
-
 impl Scratch {
     // Patterns again, of which as much as a question's next tokens, SW SF, say.
+    // kept (2): it shares with `Stores::lend` the reading of two tokens, and here both are filled anew.
     pub fn asked(&mut self, question: &mut Tokens<'_>)
         ensures lent { (self.new.words.lent ≡ next_of question.old) × (self.new.floats.lent ≡ next_of (moved 1 question.old)) }
         ensures moved { question.new ≡ moved 2 question.old }
     {
         self.words.scatter(question.read());
         self.floats.scatter(question.read());
+    }
+}
+
+// The most floats of a line's vectors: the leaves of 1,024 of 64 components are asked for.
+const MOST_COMPONENTS: usize = 65536;
+
+// What a line needs besides the stores: room for its vectors, and scratch of its call. It is made once, since arrays of this
+// size would be made and copied at each line.
+#[derive(Drop)]
+pub struct Room {
+    pub components: [f32; MOST_COMPONENTS],
+    pub scratch: Scratch,
+}
+
+impl Room {
+    pub fn new() -> Self {
+        Room {
+            components: zeros(),
+            scratch: Scratch {
+                words: Memory::new(),
+                floats: Memory::new(),
+            },
+        }
     }
 }

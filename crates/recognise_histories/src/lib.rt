@@ -9,7 +9,7 @@
 
 use error::Refusal;
 use histories::Stores;
-use histories::patterns::Scratch;
+use histories::patterns::Room;
 use recognise::score;
 use recognise::score::Recognised;
 use replay::lines::Line;
@@ -49,17 +49,13 @@ fn recognised_is_same(mut answer: Tokens<'_>, recognised: Result<Recognised, Ref
 }
 
 // recognise SW SF EF limit N q.. = number known doc score
-pub fn recognise_is_same(
-    stores: &Stores,
-    scratch: &mut Scratch,
-    line: Line<'_>,
-    room: &mut [f32],
-) -> bool {
+pub fn recognise_is_same(stores: &Stores, line: Line<'_>, room: &mut Room) -> bool {
+    let scratch = &mut room.scratch;
     let mut question = line.question();
     scratch.asked(&mut question);
     let ef = question.read();
     let limit = question.read();
-    let query = question.read_counted(room);
+    let query = question.read_counted(&mut room.components);
     let recognised = recognise::recognise(
         stores.words.lent(),
         stores.floats.lent(),

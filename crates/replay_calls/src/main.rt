@@ -8,7 +8,7 @@
 
 use graph_histories::leaf_histories;
 use histories::Stores;
-use histories::patterns::Scratch;
+use histories::patterns::Room;
 use replay::lines::{Line, Replayed};
 use replay::tallies::Tallies;
 use std::io;
@@ -64,16 +64,12 @@ const PREPARING: [(&'static str, Preparing); 4] = [
     ("float", Preparing::Float),
 ];
 
-// The most floats of a line's vectors: the leaves of 1,024 of 64 components are asked for.
-const MOST_COMPONENTS: usize = 65536;
-
-// What the history has come to, scratch of the calls, room for a line's vectors, and what has been counted. Leaves that cannot be
+// What the history has come to, what a line needs besides, and what has been counted. Leaves that cannot be
 // compared are counted behind all kinds.
 #[derive(Drop)]
 struct Calls {
     stores: Stores,
-    scratch: Scratch,
-    room: [f32; MOST_COMPONENTS],
+    room: Room,
     tallies: Tallies<13>,
     not_compared: u64,
 }
@@ -82,8 +78,7 @@ impl Calls {
     fn new() -> Self {
         Calls {
             stores: Stores::default(),
-            scratch: Scratch::default(),
-            room: [0.0; MOST_COMPONENTS],
+            room: Room::new(),
             tallies: Tallies::default(),
             not_compared: 0,
         }
@@ -103,18 +98,17 @@ impl Calls {
     // Whether a case is as recorded; `None` if it cannot be compared.
     fn is_same(&mut self, kind: Kind, line: Line<'_>) -> Option<bool> {
         let room = &mut self.room;
-        let scratch = &mut self.scratch;
         Some(match kind {
             Kind::New => self.stores.new_is_same(line),
-            Kind::Add => self.stores.add_is_same(line, room),
-            Kind::Adds => self.stores.adds_is_same(line, room),
-            Kind::Build => graph_histories::build_is_same(&mut self.stores, scratch, line),
-            Kind::Find => graph_histories::find_is_same(&self.stores, scratch, line, room),
+            Kind::Add => self.stores.add_is_same(line, &mut room.components),
+            Kind::Adds => self.stores.adds_is_same(line, &mut room.components),
+            Kind::Build => graph_histories::build_is_same(&mut self.stores, line, room),
+            Kind::Find => graph_histories::find_is_same(&self.stores, line, room),
             Kind::Sum => self.stores.sum_is_same(line),
             Kind::Words => self.stores.words_is_same(line),
-            Kind::Leaves => leaf_histories::leaves_is_same(scratch, line, room),
-            Kind::LeavesOf => return leaf_histories::leavesof_is_same(scratch, line, room),
-            Kind::Recognise => recognise_histories::recognise_is_same(&self.stores, scratch, line, room),
+            Kind::Leaves => leaf_histories::leaves_is_same(line, room),
+            Kind::LeavesOf => return leaf_histories::leavesof_is_same(line, room),
+            Kind::Recognise => recognise_histories::recognise_is_same(&self.stores, line, room),
             Kind::Score => recognise_histories::score_is_same(line),
             Kind::Decide => recognise_histories::decide_is_same(line),
             Kind::Household => recognise_histories::household_is_same(line),

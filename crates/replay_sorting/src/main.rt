@@ -91,6 +91,7 @@ impl Replayed for Sorting {
     }
 }
 
+// kept (2): it shares with the main of `replay_numbers` the loop and the report, over a struct of its own.
 fn main(rt: HostRuntime) -> io::Result<()> {
     let mut sorting = Sorting::new();
     replay::lines::replay_all(&mut rt.stdin(), &mut sorting, &mut [0; 8192])?;
