@@ -14,7 +14,9 @@ pub struct Memory<T, const N: usize> {
 
 impl<T: Patterned, const N: usize> Memory<T, N> {
     // All of it zero, and nothing passed to calls.
-    pub(crate) fn new() -> Self {
+    pub(crate) fn new() -> Self
+        ensures { result.lent ≡ 0 }
+    {
         Memory {
             all: patterns::zeros(),
             made: 0,

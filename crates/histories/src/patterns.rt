@@ -99,7 +99,9 @@ pub struct Room {
 }
 
 impl Room {
-    pub fn new() -> Self {
+    pub fn new() -> Self
+        ensures { (result.scratch.words.lent ≡ 0) × (result.scratch.floats.lent ≡ 0) }
+    {
         Room {
             components: zeros(),
             scratch: Scratch {
