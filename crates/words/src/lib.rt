@@ -1,7 +1,7 @@
 // What all code shares.
 //
 // ids     node numbers and doc ids, as two types
-// slices  a word read, an element written, where there may be none
+// slices  a word read, an element written, where there may be none; a slice copied
 #![tactic(auto)]
 
 pub mod ids;
