@@ -52,7 +52,7 @@
  * STACK
  *
  * Every call fits a stack of 48 KB, whatever its buffers and parameters hold: pipnn_build needs most, the searches and
- * pipnn_recognise 13 KB, every other call 7 KB. bindings/stack adds this up from the archive's machine code, along the
+ * pipnn_recognise 14 KB, every other call 7 KB. bindings/stack adds this up from the archive's machine code, along the
  * longest chain of calls, with 4 KB for memset or memcpy of the C library. What a thread needs for itself comes on
  * top: with a stack of 64 KB every call ran on the inputs that need most (bindings/c/stack.c), and the 128 KB of musl's
  * threads are enough.

@@ -115,13 +115,13 @@ module _ (ws fs : ℕ) (w : List ℕ) (f query : List Float) (k : ℕ) (out dist
   pub query_short : length query ≤ 64
   query_short = omega (arith, checked.components, stores.header.dimension.most)
 
-  -- an array of 1,024 nodes has room for any answer
-  pub checked_into : Checked ws fs w f query k 1024 distances
-  checked_into = record {
+  -- an output of another length, with room for the answer
+  pub checked_into : (room : ℕ) → min k n ≤ room → Checked ws fs w f query k room distances
+  checked_into room h = record {
     opens = checked.opens;
     built = checked.built;
     components = checked.components;
-    out_room = omega (arith, few);
+    out_room = h;
     distances_room = checked.distances_room;
   }
 

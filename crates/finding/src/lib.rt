@@ -50,6 +50,12 @@ pub struct Request<'a> {
     pub stops: Stops,
 }
 
+// What stands in an array of nodes before a walk.
+const NOBODY: Keyed = Keyed { key: 0, id: 0 };
+
+// Up to this many nodes stand in an array of their own, which takes less time to clear.
+const FEW: usize = 64;
+
 // Where the parts of a built store stand that a walk reads, how many nodes an answer can have, and the numbers of
 // the store's header that a walk needs.
 #[derive(Clone, Copy)]
@@ -230,8 +236,36 @@ impl<'a> Request<'a> {
         )
     }
 
-    // The same with max(ef, k) places, and with the doc ids of the nodes. The nodes stand in a local array of 8 KB, and
-    // the output never holds a node.
+    // The same with max(ef, k) places, and with the doc ids of the nodes, where `nodes` has room for them. The output never
+    // holds a node.
+    fn find_in(
+        self,
+        nodes: &mut [Keyed],
+        ef: u32,
+        docs: &mut [u32],
+        distances: &mut [f32],
+        scratch_words: &mut [u32],
+        scratch_floats: &mut [f32],
+    ) -> Walked
+        ensures { min self.entry.k (word self.entry.words.now nodes_at) ≤ length nodes.old
+            → Checked (length scratch_words.old) (length scratch_floats.old)
+            self.entry.words.now self.entry.floats.now self.entry.query.now self.entry.k (length docs.old) (length distances.old)
+            → docs_with result docs.new distances.new
+            ≡ reply_of self.entry.stops (view self.entry.words.now self.entry.floats.now) self.entry.query.now self.entry.k ef docs.old distances.old }
+    {
+        let places = ef.max(self.k);
+        let walked = self.find_nodes(
+            places,
+            &mut nodes[..],
+            distances,
+            scratch_words,
+            scratch_floats,
+        );
+        put_docs(self.words, &nodes[..], docs, walked.count as usize);
+        walked
+    }
+
+    // The same, with a local array for the nodes, of 8 KB, or of half a KB where few are wanted.
     pub fn find(
         self,
         ef: u32,
@@ -245,16 +279,25 @@ impl<'a> Request<'a> {
             → docs_with result docs.new distances.new
             ≡ reply_of self.entry.stops (view self.entry.words.now self.entry.floats.now) self.entry.query.now self.entry.k ef docs.old distances.old }
     {
-        let places = ef.max(self.k);
-        let mut nodes = [Keyed { key: 0, id: 0 }; 1024];
-        let walked = self.find_nodes(
-            places,
-            &mut nodes[..],
+        if wanted(self.words, self.k) <= FEW {
+            let mut nodes = [NOBODY; FEW];
+            return self.find_in(
+                &mut nodes,
+                ef,
+                docs,
+                distances,
+                scratch_words,
+                scratch_floats,
+            );
+        }
+        let mut nodes = [NOBODY; 1024];
+        self.find_in(
+            &mut nodes,
+            ef,
+            docs,
             distances,
             scratch_words,
             scratch_floats,
-        );
-        put_docs(self.words, &nodes[..], docs, walked.count as usize);
-        walked
+        )
     }
 }
