@@ -50,8 +50,8 @@ pub struct Request<'a> {
     pub stops: Stops,
 }
 
-// What stands in an array of nodes before a walk.
-const NOBODY: Keyed = Keyed { key: 0, id: 0 };
+// What stands at a place of an array of nodes before a walk.
+const NO_NODE: Keyed = Keyed { key: 0, id: 0 };
 
 // Up to this many nodes stand in an array of their own, which takes less time to clear.
 const FEW: usize = 64;
@@ -280,7 +280,7 @@ impl<'a> Request<'a> {
             ≡ reply_of self.entry.stops (view self.entry.words.now self.entry.floats.now) self.entry.query.now self.entry.k ef docs.old distances.old }
     {
         if wanted(self.words, self.k) <= FEW {
-            let mut nodes = [NOBODY; FEW];
+            let mut nodes = [NO_NODE; FEW];
             return self.find_in(
                 &mut nodes,
                 ef,
@@ -290,7 +290,7 @@ impl<'a> Request<'a> {
                 scratch_floats,
             );
         }
-        let mut nodes = [NOBODY; 1024];
+        let mut nodes = [NO_NODE; 1024];
         self.find_in(
             &mut nodes,
             ef,

@@ -24,7 +24,7 @@ impl<T: Patterned, const N: usize> Memory<T, N> {
         }
     }
 
-    // Becomes what a call must not depend on: patterns, of which n elements are passed to it.
+    // Becomes what a call must not depend on: patterns, of which n elements are passed to it; 0 where its caller passes `all`.
     pub fn scatter(&mut self, n: usize)
         ensures { self.new.lent ≡ n }
     {
