@@ -9,9 +9,9 @@
 //
 // It computes the walk and the answer that `def_walk` defines; specs/Inside/Search says of which graph: the entries
 // of the lists that are below the number of nodes. Scratch is 14 words and a float for each node: of n nodes the first
-// 10·n words are the walk's (`beam_state` has their layout), and the 4·n behind them hold links. What it held before has no
-// effect. Before the walk goes on from the entry node, bridges, where there are any, are linked there (`lists::chains`), so
-// that an expansion looks at its node's own bridges alone.
+// 10·n words are the walk's (`beam_state` has their layout), and the 4·n behind them hold links. Where the sizes fit
+// (`SearchFits`), what it held before has no effect. Before the walk goes on from the entry node, bridges, where there are
+// any, are linked there (`lists::chains`), so that an expansion looks at its node's own bridges alone.
 //
 // kept (5): a struct of three `&mut` is no plainer: each contract then also has to say that each field still holds the same
 // reference, and one that keeps `HasWords` has to show it again after each write.

@@ -6,10 +6,10 @@
 // leaves doc ids.
 //
 // Each promises one equation for everything that a walk leaves, where the caller has checked store, query and
-// outputs (`Checked` of specs/Inside/Finding): `nodes_found`, and `reply_of` of `def_calls`. Otherwise both end and stay
-// within their slices. Where the parts do not lie in the stores, or an answer not in `nodes` and `distances`, they
-// return counts 0 and write nothing; `find` writes only as many doc ids as `docs` has room for. The stores stay as
-// they are, and what scratch held before has no effect.
+// outputs (`Checked` of specs/Inside/Finding), whatever scratch held before: `nodes_found`, and `reply_of` of `def_calls`.
+// Otherwise both end and stay within their slices. Where the parts do not lie in the stores, or an answer not in
+// `nodes` and `distances`, they return counts 0 and write nothing; `find` writes only as many doc ids as `docs` has
+// room for. The stores stay as they are.
 //
 // It uses `store` for the layout, `norm` for scaling, and `beam_search` for the walk, which it calls in one place.
 //

@@ -4,6 +4,7 @@ ghost use Rattle.std.specs.Prelude.{◌≤◌, length};
 use carving::CarveParams;
 use dealing::DealParams;
 use distance::vectors::Vectors;
+use histories::patterns;
 use histories::patterns::Room;
 use histories::vectors::Vectors as Generated;
 use replay::lines::Line;
@@ -83,15 +84,25 @@ fn leaves_are_same(mut answer: Tokens<'_>, found: Leaves<'_>) -> bool {
     sizes.is_empty() && answer.is_at_end()
 }
 
-// leaves DIM LEAF MIN FRACTION N v.. = COUNT (size node..)..
-pub fn leaves_is_same(line: Line<'_>, room: &mut Room) -> bool {
+// Whether a line's leaves are those found: its vectors go to `room`, as far as it goes, and the leaves to `words`.
+fn compare_leaves(line: Line<'_>, room: &mut [f32], words: &mut [u32]) -> bool {
     let mut question = line.question();
     let asked = Asked::read(&mut question);
-    let components = question.read_into(line.asked.saturating_sub(5), &mut room.components);
+    let components = question.read_into(line.asked.saturating_sub(5), room);
+    let found = carve(&asked, components, words);
+    leaves_are_same(line.answer(), found)
+}
+
+// leaves DIM LEAF MIN FRACTION N v.. = COUNT (size node..)..
+pub fn leaves_is_same(line: Line<'_>, room: &mut [f32]) -> bool {
+    compare_leaves(line, room, &mut patterns::scattered::<u32, 65536>())
+}
+
+// The same in a room that was made once, which has scratch too.
+pub fn leaves_is_same_in(line: Line<'_>, room: &mut Room) -> bool {
     let words = &mut room.scratch.words;
     words.scatter(0);
-    let found = carve(&asked, components, &mut words.all);
-    leaves_are_same(line.answer(), found)
+    compare_leaves(line, &mut room.components, &mut words.all)
 }
 
 // Generates this many vectors, as far as there is room, and answers how many floats they have.
@@ -122,22 +133,18 @@ fn sum_leaves(leaves: Leaves<'_>) -> u64 {
     sum
 }
 
-// leavesof DIM LEAF MIN FRACTION N SEED STYLE = COUNT checksum
-// The checksum takes leaves without a node too, wherever they stand. Where there are any, the answer counts
-// more leaves than are found, and cannot be compared: `None`.
-pub fn leavesof_is_same(line: Line<'_>, room: &mut Room) -> Option<bool> {
+// The same for leaves of generated vectors, as far as `room` goes; `None` where they cannot be compared.
+fn compare_leavesof(line: Line<'_>, room: &mut [f32], words: &mut [u32]) -> Option<bool> {
     let mut question = line.question();
     let asked = Asked::read(&mut question);
     let vectors = Generated::asked(&mut question);
     let given = generate_all(
-        &mut room.components,
+        room,
         usize::from(asked.dimension),
         u64::from(asked.count),
         vectors,
     );
-    let words = &mut room.scratch.words;
-    words.scatter(0);
-    let found = carve(&asked, &room.components[..given], &mut words.all);
+    let found = carve(&asked, &room[..given], words);
     let mut answer = line.answer();
     let recorded: usize = answer.read();
     let count = found.sizes.len();
@@ -145,4 +152,18 @@ pub fn leavesof_is_same(line: Line<'_>, room: &mut Room) -> Option<bool> {
         return None;
     }
     Some(count == recorded && answer.is(sum_leaves(found)))
+}
+
+// leavesof DIM LEAF MIN FRACTION N SEED STYLE = COUNT checksum
+// The checksum takes leaves without a node too, wherever they stand. Where there are any, the answer counts
+// more leaves than are found, and cannot be compared: `None`.
+pub fn leavesof_is_same(line: Line<'_>, room: &mut [f32]) -> Option<bool> {
+    compare_leavesof(line, room, &mut patterns::scattered::<u32, 65536>())
+}
+
+// The same in a room that was made once, which has scratch too.
+pub fn leavesof_is_same_in(line: Line<'_>, room: &mut Room) -> Option<bool> {
+    let words = &mut room.scratch.words;
+    words.scatter(0);
+    compare_leavesof(line, &mut room.components, &mut words.all)
 }

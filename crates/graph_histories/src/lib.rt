@@ -3,15 +3,16 @@
 //
 // Each function whose name ends in `_is_same` is for one kind of line, which is shown above it: it computes
 // the answer by this project's calls and says whether it is the recorded one. A line's tokens are its own and no
-// more, so that an answer can be compared to its end. All are proved safe on lines and stores of any content,
-// and nothing more.
+// more, so that an answer can be compared to its end. Vectors are read into a room of any length; a function whose
+// name ends in `_is_same_in` takes a `Room`, which is made once. All are proved safe on lines and stores of any
+// content, and nothing more.
 #![tactic(auto)]
 
 pub mod leaf_histories;
 
 use beam_search::Walked;
 use error::Refusal;
-use histories::patterns::Room;
+use histories::patterns::{Room, Scratch};
 use histories::{Stores, patterns};
 use replay::lines::Line;
 use replay::tokens::Tokens;
@@ -53,16 +54,20 @@ fn found_is_same(
         && patterns::are_kept(distances, count)
 }
 
-// find SW SF K EF OD OF N q.. = number count scored doc.. dist..
-pub fn find_is_same(stores: &Stores, line: Line<'_>, room: &mut Room) -> bool {
-    let scratch = &mut room.scratch;
+// Whether a search's answer is that of a line: the query's components go to `components`, as far as there are places.
+fn compare_find(
+    stores: &Stores,
+    line: Line<'_>,
+    components: &mut [f32],
+    scratch: &mut Scratch,
+) -> bool {
     let mut question = line.question();
     scratch.asked(&mut question);
     let k = question.read();
     let ef = question.read();
     let docs_size = question.read::<usize>().min(OUTPUTS);
     let distances_size = question.read::<usize>().min(OUTPUTS);
-    let query = question.read_counted(&mut room.components);
+    let query = question.read_counted(components);
     let mut docs = patterns::scattered::<u32, OUTPUTS>();
     let mut distances = patterns::scattered::<f32, OUTPUTS>();
     let found = search::search_with_ef(
@@ -77,4 +82,14 @@ pub fn find_is_same(stores: &Stores, line: Line<'_>, room: &mut Room) -> bool {
         scratch.floats.lent_mut(),
     );
     found_is_same(line.answer(), found, &docs, &distances)
+}
+
+// find SW SF K EF OD OF N q.. = number count scored doc.. dist..
+pub fn find_is_same(stores: &Stores, line: Line<'_>, room: &mut [f32]) -> bool {
+    compare_find(stores, line, room, &mut Room::new().scratch)
+}
+
+// The same in a room that was made once, which has scratch too.
+pub fn find_is_same_in(stores: &Stores, line: Line<'_>, room: &mut Room) -> bool {
+    compare_find(stores, line, &mut room.components, &mut room.scratch)
 }

@@ -3,13 +3,14 @@
 //
 // Each function whose name ends in `_is_same` and that takes a line, alone or with the stores, is for one kind
 // of line, which is shown above it: it computes the answer by this project's calls and says whether it is the
-// recorded one, to its end. A line's tokens are its own and no more. All are proved safe on lines and stores of
-// any content, and nothing more.
+// recorded one, to its end. A line's tokens are its own and no more. A query is read into a room of any length;
+// `recognise_is_same_in` takes a `Room`, which is made once. All are proved safe on lines and stores of any content,
+// and nothing more.
 #![tactic(auto)]
 
 use error::Refusal;
 use histories::Stores;
-use histories::patterns::Room;
+use histories::patterns::{Room, Scratch};
 use recognise::score;
 use recognise::score::Recognised;
 use replay::lines::Line;
@@ -48,14 +49,18 @@ fn recognised_is_same(mut answer: Tokens<'_>, recognised: Result<Recognised, Ref
     }
 }
 
-// recognise SW SF EF limit N q.. = number known doc score
-pub fn recognise_is_same(stores: &Stores, line: Line<'_>, room: &mut Room) -> bool {
-    let scratch = &mut room.scratch;
+// Whether recognising answers what a line has: the query's components go to `components`, as far as there are places.
+fn compare_recognise(
+    stores: &Stores,
+    line: Line<'_>,
+    components: &mut [f32],
+    scratch: &mut Scratch,
+) -> bool {
     let mut question = line.question();
     scratch.asked(&mut question);
     let ef = question.read();
     let limit = question.read();
-    let query = question.read_counted(&mut room.components);
+    let query = question.read_counted(components);
     let recognised = recognise::recognise(
         stores.words.lent(),
         stores.floats.lent(),
@@ -66,6 +71,16 @@ pub fn recognise_is_same(stores: &Stores, line: Line<'_>, room: &mut Room) -> bo
         scratch.floats.lent_mut(),
     );
     recognised_is_same(line.answer(), recognised)
+}
+
+// recognise SW SF EF limit N q.. = number known doc score
+pub fn recognise_is_same(stores: &Stores, line: Line<'_>, room: &mut [f32]) -> bool {
+    compare_recognise(stores, line, room, &mut Room::new().scratch)
+}
+
+// The same in a room that was made once, which has scratch too.
+pub fn recognise_is_same_in(stores: &Stores, line: Line<'_>, room: &mut Room) -> bool {
+    compare_recognise(stores, line, &mut room.components, &mut room.scratch)
 }
 
 fn counted_is_same(mut answer: Tokens<'_>, counted: Result<u32, Refusal>) -> bool {

@@ -103,12 +103,12 @@ impl Calls {
             Kind::Add => self.stores.add_is_same(line, &mut room.components),
             Kind::Adds => self.stores.adds_is_same(line, &mut room.components),
             Kind::Build => graph_histories::build_is_same(&mut self.stores, line, room),
-            Kind::Find => graph_histories::find_is_same(&self.stores, line, room),
+            Kind::Find => graph_histories::find_is_same_in(&self.stores, line, room),
             Kind::Sum => self.stores.sum_is_same(line),
             Kind::Words => self.stores.words_is_same(line),
-            Kind::Leaves => leaf_histories::leaves_is_same(line, room),
-            Kind::LeavesOf => return leaf_histories::leavesof_is_same(line, room),
-            Kind::Recognise => recognise_histories::recognise_is_same(&self.stores, line, room),
+            Kind::Leaves => leaf_histories::leaves_is_same_in(line, room),
+            Kind::LeavesOf => return leaf_histories::leavesof_is_same_in(line, room),
+            Kind::Recognise => recognise_histories::recognise_is_same_in(&self.stores, line, room),
             Kind::Score => recognise_histories::score_is_same(line),
             Kind::Decide => recognise_histories::decide_is_same(line),
             Kind::Household => recognise_histories::household_is_same(line),
@@ -141,4 +141,75 @@ fn main(rt: HostRuntime) -> io::Result<()> {
     calls.tallies.write(&rt, &NAMES)?;
     let many = calls.not_compared;
     println!(rt; "leavesof with leaves of no node: {many} not compared")
+}
+
+// The answers are the published Rust's, or the oracle's where it has no such call.
+#[cfg(test)]
+mod tests {
+    use super::*;
+    use replay::lines;
+
+    // Three vectors of 32,769 components.
+    const COMPONENTS: usize = 98307;
+
+    fn read<'a>(text: &'a [u8], tokens: &'a mut [u64]) -> Line<'a> {
+        lines::read_line(text, tokens).alone()
+    }
+
+    #[test]
+    fn vectors_are_read_as_far_as_there_is_room(rt: HostRuntime) {
+        let mut tokens = [0u64; 98325];
+        for (at, token) in [
+            (0, 0x8001),
+            (1, 1),
+            (2, 1),
+            (3, 0x3ff0_0000_0000_0000),
+            (4, 3),
+            (5, 0x3f80_0000),
+            (32774, 0x3f19_999a),
+            (32775, 0x3f4c_cccd),
+            (65544, 0x3f80_0000),
+        ] {
+            tokens[at] = token;
+        }
+        for (i, token) in [6, 1, 2, 1, 1, 1, 0, 1, 2, 1, 0, 1, 1].iter().enumerate() {
+            tokens[98312 + i] = *token;
+        }
+        let line = Line {
+            name: None,
+            tokens: &tokens,
+            asked: 98312,
+            count: 98325,
+        };
+        assert!(rt; leaf_histories::leaves_is_same(line, &mut [0.0; COMPONENTS]));
+    }
+
+    #[test]
+    fn vectors_are_generated_as_far_as_there_is_room(rt: HostRuntime) {
+        let text = b"leavesof 8001 1 1 3ff0000000000000 3 1 0 = 6 74761dceb6c45680\n";
+        let mut tokens = [0u64; 16];
+        let line = read(text, &mut tokens);
+        let same = leaf_histories::leavesof_is_same(line, &mut [0.0; COMPONENTS]);
+        assert_eq!(rt; same, Some(true));
+    }
+
+    // An index of one phone of one component. Queries have two components, and there is room for the first.
+    #[test]
+    fn queries_are_read_as_far_as_there_is_room(rt: HostRuntime) {
+        let mut stores = Stores::default();
+        let mut tokens = [0u64; 16];
+        let mut room = [0.0; 1];
+        let new = b"new 1 2 1 3fe0000000000000 3 4 1 3f99999a a 5 = 0\n";
+        let find = b"find 1000 1000 1 a 1 1 2 bf800000 3f800000 = 0 1 1 7 40000000\n";
+        let recognise = b"recognise 1000 1000 a 3e800000 2 3f800000 bf800000 = 0 1 7 64\n";
+        stores.fill(read(b"fill 1000 1000 0\n", &mut tokens));
+        assert!(rt; stores.new_is_same(read(new, &mut tokens)));
+        let add = read(b"add 7 1 3f800000 = 0\n", &mut tokens);
+        assert!(rt; stores.add_is_same(add, &mut room));
+        stores.set_word(read(b"word 0 1\n", &mut tokens));
+        let line = read(find, &mut tokens);
+        assert!(rt; graph_histories::find_is_same(&stores, line, &mut room));
+        let line = read(recognise, &mut tokens);
+        assert!(rt; recognise_histories::recognise_is_same(&stores, line, &mut room));
+    }
 }
