@@ -3,9 +3,9 @@
 //
 // Each function whose name ends in `_is_same` is for one kind of line, which is shown above it: it computes
 // the answer by this project's calls and says whether it is the recorded one. A line's tokens are its own and no
-// more, so that an answer can be compared to its end. Vectors are read into a room of any length; a function whose
-// name ends in `_is_same_in` takes a `Room`, which is made once. All are proved safe on lines and stores of any
-// content, and nothing more.
+// more, so that an answer can be compared to its end. Vectors are read or generated into a room of any length;
+// `build_is_same` and the functions whose names end in `_is_same_in` take a `Room`, which is made once. All are
+// proved safe on lines and stores of any content, and nothing more.
 #![tactic(auto)]
 
 pub mod leaf_histories;
