@@ -133,7 +133,8 @@ fn sum_leaves(leaves: Leaves<'_>) -> u64 {
     sum
 }
 
-// The same for leaves of generated vectors, as far as `room` goes; `None` where they cannot be compared.
+// Whether a line's leaves are those of the vectors generated into `room`, as far as it goes; the leaves go to `words`.
+// `None` where they cannot be compared.
 fn compare_leavesof(line: Line<'_>, room: &mut [f32], words: &mut [u32]) -> Option<bool> {
     let mut question = line.question();
     let asked = Asked::read(&mut question);
